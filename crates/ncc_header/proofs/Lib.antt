@@ -1,0 +1,5 @@
+mod GrammarLaws
+mod Exact
+mod Rules
+pub mod HeaderLaws
+mod ReadNumber

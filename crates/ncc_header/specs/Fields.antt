@@ -1,0 +1,149 @@
+-- The header as a sequence of fields, each with what it is judged for.
+use Rattle.std.specs.Prelude.{ℕ, List, [], length, Option, Some, None, Bool, true, false, ltb, is_some, not, ◌==◌, ◌&&◌, ◌||◌, if◌then◌else◌, unwrap_or}
+use Rattle.ncc_values.specs.Numbers.{number_of}
+use Rattle.ncc_values.specs.Padding.{padding_of}
+use Rattle.ncc_values.specs.Version.{version_of, count_width_of}
+use Rattle.ncc_values.specs.declared.version.Version.{Version}
+use Rattle.ncc_values.specs.declared.version.Version.TheVariants.{V1}
+use Rattle.ncc_header.specs.declared.fault.FaultKind.{FaultKind}
+use Rattle.ncc_header.specs.declared.fault.FaultKind.TheVariants.{Unsupported, BadMagic, BadVersion, NegativeCount, BadTag, TwoRecordDims}
+use Rattle.ncc_header.specs.declared.wrong.Wrong.{Wrong}
+use Rattle.ncc_header.specs.declared.schema.Count.{Count}
+use Rattle.ncc_header.specs.declared.schema.Count.TheVariants.{Known, Streaming}
+use Rattle.ncc_header.specs.declared.schema.Dim.{Dim}
+use Rattle.ncc_header.specs.declared.schema.Schema.{Schema}
+use Rattle.ncc_header.specs.Grammar.{Label, Plain, Padding, CountOfTagged, Grammar, done, field, ◌>>=◌, ◌into◌, repeat}
+use Rattle.ncc_header.specs.Schema.{count_limit, length_limit, mark, record_dims}
+
+-- ---- judgements
+
+-- wrong for this reason, told at the field, where the test fails
+abbrev pub unless : Bool → FaultKind → Option Wrong
+unless true kind = None
+unless false kind = Some (record { back = 0; kind = kind })
+
+-- a tag that is found wrong once the number of items behind it is read, 4 bytes further on
+abbrev pub at_tag_if : Bool → FaultKind → Option Wrong
+at_tag_if true kind = Some (record { back = 4; kind = kind })
+at_tag_if false kind = None
+
+-- the first that is wrong
+abbrev pub first : Option Wrong → Option Wrong → Option Wrong
+first None w = w
+first (Some u) w = Some u
+
+abbrev pub magic_wrong : ℕ → Option Wrong
+magic_wrong n = unless (n == 0x434446) BadMagic
+
+abbrev pub version_wrong : ℕ → Option Wrong
+version_wrong n = first (unless (is_some (version_of n)) BadVersion) (unless (n == 1) Unsupported)
+
+-- nelems
+abbrev pub count_wrong : Version → ℕ → Option Wrong
+count_wrong v n = unless (ltb n (count_limit v)) NegativeCount
+
+abbrev pub tag_wrong : (own : ℕ) → ℕ → Option Wrong
+tag_wrong own t = unless ((t == 0) || (t == own)) BadTag
+
+-- nelems of a list whose tag was t
+abbrev pub list_count_wrong : Version → (t : ℕ) → ℕ → Option Wrong
+list_count_wrong v t n = first (count_wrong v n) (at_tag_if ((t == 0) && not (n == 0)) BadTag)
+
+-- the same of a list whose items are not read as yet
+abbrev pub no_count_wrong : Version → (t : ℕ) → ℕ → Option Wrong
+no_count_wrong v t n = first (list_count_wrong v t n) (at_tag_if (not (n == 0)) Unsupported)
+
+abbrev pub length_wrong : Version → (before : List Dim) → ℕ → Option Wrong
+length_wrong v before n = first (unless (ltb n (length_limit v)) NegativeCount) (unless (not ((n == 0) && ltb 0 (record_dims before))) TwoRecordDims)
+
+-- ---- single fields
+
+abbrev pub number_field : Label → (width : ℕ) → (ℕ → Option Wrong) → Grammar ℕ
+number_field label width wrong = field label width (λ b. wrong (number_of b)) (λ b. done (number_of b))
+
+abbrev pub number : (width : ℕ) → (ℕ → Option Wrong) → Grammar ℕ
+number width wrong = number_field Plain width wrong
+
+abbrev pub bytes : ℕ → Grammar (List ℕ)
+bytes n = field Plain n (λ b. None) (λ b. done b)
+
+abbrev pub padding : (length : ℕ) → Grammar (Unit {0})
+padding n = field Padding (padding_of n) (λ b. None) (λ b. done tt)
+
+-- ---- the grammar
+
+-- nelems
+abbrev pub count : Version → Grammar ℕ
+count v = number (count_width_of v) (count_wrong v)
+
+-- name = nelems namestring padding
+abbrev pub name : Version → Grammar (List ℕ)
+name v = do
+  n ← count v
+  text ← bytes n
+  zeros ← padding n
+  done text
+
+abbrev pub label_of_count : (t : ℕ) → Label
+label_of_count t = if t == 0 then Plain else CountOfTagged
+
+abbrev pub list_count : Version → (t : ℕ) → Grammar ℕ
+list_count v t = number_field (label_of_count t) (count_width_of v) (list_count_wrong v t)
+
+abbrev pub list_tag : (own : ℕ) → Grammar ℕ
+list_tag own = number 4 (tag_wrong own)
+
+abbrev pub list_head : Version → (own : ℕ) → Grammar ℕ
+list_head v own = do
+  t ← list_tag own
+  list_count v t
+
+-- list = ABSENT | tag nelems [item ...]
+abbrev pub list : {A : Type 0} → Version → (own : ℕ) → (List A → Grammar A) → Grammar (List A)
+list v own item = do
+  n ← list_head v own
+  repeat item [] n
+
+abbrev pub no_count : Version → (t : ℕ) → Grammar ℕ
+no_count v t = number_field (label_of_count t) (count_width_of v) (no_count_wrong v t)
+
+-- a list that has no items
+abbrev pub no_list : Version → (own : ℕ) → Grammar ℕ
+no_list v own = do
+  t ← list_tag own
+  no_count v t
+
+abbrev pub dim_length : Version → (before : List Dim) → Grammar ℕ
+dim_length v before = number (count_width_of v) (length_wrong v before)
+
+-- dim = name dim_length
+abbrev pub dim : Version → (before : List Dim) → Grammar Dim
+dim v before = do
+  text ← name v
+  n ← dim_length v before
+  done (record { name = text; length = n })
+
+-- magic = 'C' 'D' 'F' VERSION
+abbrev pub magic : Grammar ℕ
+magic = number 3 magic_wrong
+
+abbrev pub version : Grammar Version
+version = number 1 version_wrong into λ n. unwrap_or (version_of n) V1
+
+abbrev pub count_of : Version → ℕ → Count
+count_of v n = if n == mark v then Streaming else Known n
+
+-- numrecs
+abbrev pub numrecs : Version → Grammar Count
+numrecs v = number (count_width_of v) (λ n. None) into count_of v
+
+-- header = magic numrecs dim_list gatt_list var_list, the last two empty as yet
+abbrev pub header : Grammar Schema
+header = do
+  letters ← magic
+  v ← version
+  c ← numrecs v
+  dims ← list v 10 (dim v)
+  globals ← no_list v 12
+  variables ← no_list v 11
+  done (record { version = v; count = c; dims = dims })

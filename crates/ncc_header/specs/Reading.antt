@@ -1,0 +1,41 @@
+-- What a reading has taken, and what it has still to read.
+use Rattle.std.specs.Prelude.{◌≡◌, ◌≢◌, ℕ, ◌+◌, ◌≤◌, ◌<◌, List, [], ◌++◌, length, Some, None, Result, Ok, Err}
+use Rattle.ncc_values.specs.Numbers.{IsBytes}
+use Rattle.ncc_header.specs.declared.fault.Fault.{Fault}
+use Rattle.ncc_header.specs.declared.fault.FaultKind.TheVariants.{EndsEarly}
+use Rattle.ncc_header.specs.declared.fault.HeaderError.{HeaderError}
+use Rattle.ncc_header.specs.declared.fault.HeaderError.TheVariants as errors
+use Rattle.ncc_header.specs.declared.reading.Reading.{Reading}
+use Rattle.ncc_header.specs.declared.schema.Schema.{Schema}
+use Rattle.ncc_header.specs.Grammar.{Outcome, read, stops}
+use Rattle.ncc_header.specs.Fields.{header}
+use Rattle.ncc_header.specs.States.{left_of, size_of, front_of}
+
+-- the bytes of the next field that have come
+abbrev pub held_of : Reading → List ℕ
+held_of r = front_of r.state r.held.items
+
+-- what becomes of the input where these bytes come next
+abbrev pub onward : Reading → (more : List ℕ) → Outcome Schema
+onward r more = read (left_of r.state) r.limit r.at (held_of r ++ more)
+
+-- The bytes of front were taken.
+pub record Takes (old new : Reading) (front : List ℕ) : Type 0 where
+  pub limit : new.limit ≡ old.limit
+  pub goes_on : (more : List ℕ) → onward old (front ++ more) ≡ onward new more
+  pub long : new.at + length (held_of new) ≡ old.at + length (held_of old) + length front
+
+-- Behind the bytes of front the input stops so, whatever follows.
+pub record StopsBehind (old : Reading) (front : List ℕ) (f : Fault) : Type 0 where
+  pub stays : (more : List ℕ) → onward old (front ++ more) ≡ stops f.offset f.kind
+  pub other : f.kind ≢ EndsEarly
+
+-- an error met while the bytes of front were taken
+abbrev pub FailsBehind : Reading → (front : List ℕ) → HeaderError → Type 0
+FailsBehind old front (errors.Fault f) = StopsBehind old front f
+FailsBehind old front errors.Device = ⊥
+FailsBehind old front errors.Memory = Unit {0}
+
+-- no field is left, or the next one is within the limit and not whole
+abbrev pub Waits : Reading → Type 0
+Waits r = (n : ℕ) → size_of (left_of r.state) ≡ Some n → (r.at + n ≤ r.limit) × (length (held_of r) < n)

@@ -1,0 +1,80 @@
+//! Why a header could not be read.
+
+ghost use Rattle.std.specs.Prelude.{◌≡◌};
+ghost use Rattle.ncc_header.specs.declared.fault.HeaderError.TheVariants.{Device, Memory};
+
+use crate::failed::Failed;
+use std::alloc::{AllocError, AllocFailed};
+use thiserror::Error;
+
+/// What is wrong with a header.
+#[derive(Clone, Copy, Debug, PartialEq, Eq, Error)]
+pub enum FaultKind {
+    /// A version, or a list with items, that is not read yet.
+    #[error("Unsupported")]
+    Unsupported,
+    /// The file doesn't begin with the letters CDF.
+    #[error("BadMagic")]
+    BadMagic,
+    /// The byte behind the letters is neither 1, 2 nor 5.
+    #[error("BadVersion")]
+    BadVersion,
+    /// The top bit of a number of items is set, or in CDF-5 that of a length.
+    #[error("NegativeCount")]
+    NegativeCount,
+    /// A list's tag is neither zero nor its own, or it is zero and the list has items.
+    #[error("BadTag")]
+    BadTag,
+    /// A second dimension of length 0.
+    #[error("TwoRecordDims")]
+    TwoRecordDims,
+    /// A field ends past the limit of the header's length.
+    #[error("HeaderTooLong")]
+    HeaderTooLong,
+    /// The input ends inside a field.
+    #[error("EndsEarly")]
+    EndsEarly,
+}
+
+/// The first fault, and the offset in bytes of the field that has it.
+#[derive(Clone, Copy, Debug, PartialEq, Eq, Error)]
+#[error("{kind} at {offset}")]
+pub struct Fault {
+    pub kind: FaultKind,
+    pub offset: u64,
+}
+
+/// Why there is no header to give.
+#[derive(Clone, Copy, Debug, PartialEq, Eq, Error)]
+pub enum HeaderError {
+    #[error("{0}")]
+    Fault(Fault),
+    #[error("Device")]
+    Device,
+    #[error("Memory")]
+    Memory,
+}
+
+impl From<AllocError> for HeaderError {
+    ghost from_gives = { λ _ e. e ≡ Memory };
+
+    fn from(_e: AllocError) -> HeaderError {
+        HeaderError::Memory
+    }
+}
+
+impl<T: Drop> From<AllocFailed<T>> for HeaderError {
+    ghost from_gives = { λ _ e. e ≡ Memory };
+
+    fn from(_e: AllocFailed<T>) -> HeaderError {
+        HeaderError::Memory
+    }
+}
+
+impl From<Failed> for HeaderError {
+    ghost from_gives = { λ _ e. e ≡ Device };
+
+    fn from(_e: Failed) -> HeaderError {
+        HeaderError::Device
+    }
+}

@@ -1,0 +1,162 @@
+//! What the value of each field is judged for.
+
+ghost use Rattle.std.specs.Prelude.{◌≡◌, ◌≤◌, ◌<◌, length, nat_lt, unwrap_or, IfOk, OnOk};
+ghost use Rattle.ncc_values.specs.Numbers.{number_of};
+ghost use Rattle.ncc_values.specs.Version.{version_of};
+ghost use Rattle.ncc_values.specs.declared.version.Version.TheVariants.{V1};
+ghost use Rattle.ncc_header.specs.Schema.{count_limit, record_dims};
+ghost use Rattle.ncc_header.specs.Fields.{magic_wrong, version_wrong, count_wrong, tag_wrong, list_count_wrong, no_count_wrong, length_wrong, count_of};
+ghost use Rattle.ncc_header.specs.States.{Judges};
+
+use crate::fault::FaultKind;
+use crate::schema::{Count, Dim};
+use crate::wrong::Wrong;
+use byteorder::{BigEndian, ByteOrder};
+use ncc_values::Version;
+
+/// The letters C, D and F.
+const MAGIC: u64 = 0x434446;
+
+/// The number of a field's bytes, which are 1 to 8.
+pub fn number(bytes: &[u8]) -> u64
+    requires some { 0 < length bytes.now }
+    requires few { length bytes.now ≤ 8 }
+    ensures { result ≡ number_of bytes.now }
+{
+    BigEndian::read_uint(bytes, bytes.len())
+}
+
+/// Refuses a field's value, at the field.
+fn refused<T>(kind: FaultKind) -> Result<T, Wrong>
+    ensures { result ≡ Err (record { back = 0; kind = kind }) }
+{
+    Err(Wrong { back: 0, kind })
+}
+
+/// Refuses a list's tag, 4 bytes before the number of its items.
+fn refused_tag<T>(kind: FaultKind) -> Result<T, Wrong>
+    ensures { result ≡ Err (record { back = 4; kind = kind }) }
+{
+    Err(Wrong { back: 4, kind })
+}
+
+pub fn magic(n: u64) -> Result<(), Wrong>
+    ensures { Judges (magic_wrong n) result }
+{
+    if n != MAGIC {
+        return refused(FaultKind::BadMagic);
+    }
+    Ok(())
+}
+
+pub fn version(n: u64) -> Result<Version, Wrong>
+    ensures judged { Judges (version_wrong n) result }
+    ensures value { IfOk result (λ v. unwrap_or (version_of n) V1 ≡ v) }
+{
+    if n == 1 {
+        return Ok(Version::V1);
+    }
+    if n == 2 || n == 5 {
+        return refused(FaultKind::Unsupported);
+    }
+    refused(FaultKind::BadVersion)
+}
+
+pub fn record_count(version: Version, n: u64) -> Count
+    ensures { result ≡ count_of version n }
+{
+    let mark = match version {
+        Version::V1 | Version::V2 => 0xffff_ffff,
+        Version::V5 => 0xffff_ffff_ffff_ffff,
+    };
+    if n == mark {
+        return Count::Streaming;
+    }
+    Count::Known(n)
+}
+
+/// What a number of items stays below.
+fn limit_of_counts(version: Version) -> u64
+    ensures { result ≡ count_limit version }
+{
+    match version {
+        Version::V1 | Version::V2 => 1 << 31,
+        Version::V5 => 1 << 63,
+    }
+}
+
+pub fn count(version: Version, n: u64) -> Result<(), Wrong>
+    ensures { Judges (count_wrong version n) result }
+{
+    if n >= limit_of_counts(version) {
+        return refused(FaultKind::NegativeCount);
+    }
+    Ok(())
+}
+
+pub fn tag(own: u64, tag: u64) -> Result<(), Wrong>
+    ensures { Judges (tag_wrong own tag) result }
+{
+    if tag != 0 && tag != own {
+        return refused(FaultKind::BadTag);
+    }
+    Ok(())
+}
+
+/// The number of a list's items, behind a tag that was zero or its own.
+pub fn list_count(version: Version, tag: u64, n: u64) -> Result<(), Wrong>
+    ensures { Judges (list_count_wrong version tag n) result }
+{
+    if n >= limit_of_counts(version) {
+        return refused(FaultKind::NegativeCount);
+    }
+    if tag == 0 && n != 0 {
+        return refused_tag(FaultKind::BadTag);
+    }
+    Ok(())
+}
+
+/// The same for a list whose items are not read as yet.
+pub fn no_count(version: Version, tag: u64, n: u64) -> Result<(), Wrong>
+    ensures { Judges (no_count_wrong version tag n) result }
+{
+    if n >= limit_of_counts(version) {
+        return refused(FaultKind::NegativeCount);
+    }
+    if tag == 0 && n != 0 {
+        return refused_tag(FaultKind::BadTag);
+    }
+    if n != 0 {
+        return refused_tag(FaultKind::Unsupported);
+    }
+    Ok(())
+}
+
+/// Is one of the dimensions the record dimension?
+fn has_record_dim(dims: &[Dim]) -> bool
+    ensures { result ≡ nat_lt 0 (record_dims dims.now) }
+{
+    for dim in dims {
+        if dim.length == 0 {
+            return true;
+        }
+    }
+    false
+}
+
+/// A dimension's length; only in CDF-5 may it be negative.
+pub fn dim_length(version: Version, before: &[Dim], n: u64) -> Result<(), Wrong>
+    ensures { Judges (length_wrong version before.now n) result }
+{
+    let limit = match version {
+        Version::V1 | Version::V2 => 1 << 32,
+        Version::V5 => 1 << 63,
+    };
+    if n >= limit {
+        return refused(FaultKind::NegativeCount);
+    }
+    if n == 0 && has_record_dim(before) {
+        return refused(FaultKind::TwoRecordDims);
+    }
+    Ok(())
+}

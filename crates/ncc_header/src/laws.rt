@@ -1,0 +1,37 @@
+//! Laws of the grammar alone, each the contract of a function that does nothing.
+
+ghost use Rattle.std.specs.Prelude.{◌≡◌, ◌≢◌, ℕ, List, ◌++◌, ◌⊎◌};
+ghost use Rattle.ncc_values.specs.Numbers.{IsBytes};
+ghost use Rattle.ncc_header.specs.declared.fault.Fault.{Fault};
+ghost use Rattle.ncc_header.specs.declared.fault.FaultKind.TheVariants.{EndsEarly};
+ghost use Rattle.ncc_header.specs.declared.schema.Schema.{Schema};
+ghost use Rattle.ncc_header.specs.declared.schema.Header.{Header};
+ghost use Rattle.ncc_header.specs.Schema.{Legal};
+ghost use Rattle.ncc_header.specs.Header.{IsHeader, canon};
+ghost use Rattle.ncc_header.specs.Answers.{Begins, Stops};
+
+/// Of the fronts of one input one is a header at most, and of one schema.
+pub fn one_header()
+    ensures { (s t : Schema) (b c x y : List ℕ) → IsHeader s b → IsHeader t c → b ++ x ≡ c ++ y → (b ≡ c) × (s ≡ t) }
+{
+}
+
+/// Each input begins with a header within the limit, or stops with exactly one fault, and never both.
+pub fn header_or_stop()
+    ensures either { (input : List ℕ) (limit : ℕ) → IsBytes input → ((h : Header) × Begins input limit h) ⊎ ((f : Fault) × Stops input limit f) }
+    ensures apart { (input : List ℕ) (limit : ℕ) (h : Header) (f : Fault) → Begins input limit h → Stops input limit f → ⊥ }
+    ensures one { (input : List ℕ) (limit : ℕ) (f g : Fault) → Stops input limit f → Stops input limit g → f ≡ g }
+{
+}
+
+/// A fault other than an early end stays, whatever bytes follow.
+pub fn stop_stays()
+    ensures { (input more : List ℕ) (limit : ℕ) (f : Fault) → Stops input limit f → f.kind ≢ EndsEarly → Stops (input ++ more) limit f }
+{
+}
+
+/// The canonical spelling of a legal schema is a header of it.
+pub fn canonical_header()
+    ensures { (s : Schema) → Legal s → IsHeader s (canon s) }
+{
+}
