@@ -1,5 +1,9 @@
 mod GrammarLaws
 mod Exact
 mod Rules
-pub mod HeaderLaws
 mod ReadNumber
+mod RefusedKinds
+mod OneField
+mod TakeField
+mod TakePiece
+pub mod HeaderLaws

@@ -1,5 +1,5 @@
 -- What a reading has taken, and what it has still to read.
-use Rattle.std.specs.Prelude.{◌≡◌, ◌≢◌, ℕ, ◌+◌, ◌≤◌, ◌<◌, List, [], ◌++◌, length, Some, None, Result, Ok, Err}
+use Rattle.std.specs.Prelude.{◌≡◌, ◌≢◌, ℕ, ◌+◌, ◌-◌, ◌≤◌, ◌<◌, List, [], ◌++◌, length, Some, None, Result, Ok, Err}
 use Rattle.ncc_values.specs.Numbers.{IsBytes}
 use Rattle.ncc_header.specs.declared.fault.Fault.{Fault}
 use Rattle.ncc_header.specs.declared.fault.FaultKind.TheVariants.{EndsEarly}
@@ -7,6 +7,8 @@ use Rattle.ncc_header.specs.declared.fault.HeaderError.{HeaderError}
 use Rattle.ncc_header.specs.declared.fault.HeaderError.TheVariants as errors
 use Rattle.ncc_header.specs.declared.reading.Reading.{Reading}
 use Rattle.ncc_header.specs.declared.schema.Schema.{Schema}
+use Rattle.ncc_header.specs.declared.state.StepError.{StepError}
+use Rattle.ncc_header.specs.declared.state.StepError.TheVariants as steps
 use Rattle.ncc_header.specs.Grammar.{Outcome, read, stops}
 use Rattle.ncc_header.specs.Fields.{header}
 use Rattle.ncc_header.specs.States.{left_of, size_of, front_of}
@@ -39,3 +41,8 @@ FailsBehind old front errors.Memory = Unit {0}
 -- no field is left, or the next one is within the limit and not whole
 abbrev pub Waits : Reading → Type 0
 Waits r = (n : ℕ) → size_of (left_of r.state) ≡ Some n → (r.at + n ≤ r.limit) × (length (held_of r) < n)
+
+-- the error of a field at this offset that is not taken
+abbrev pub told_of : (at : ℕ) → StepError → HeaderError
+told_of at steps.Memory = errors.Memory
+told_of at (steps.Wrong w) = errors.Fault (record { kind = w.kind; offset = at - w.back })

@@ -88,9 +88,13 @@ idle_of (states.NameText d n text) = 2
 idle_of (states.NamePadding d name) = 1
 idle_of _ = 0
 
+-- no byte has come of the next field
+abbrev pub IsFresh : State → Type 0
+IsFresh state = front_of state [] ≡ []
+
 -- A step takes the next field, or refuses it, unless memory is refused.
 abbrev pub Steps : State → (front : List ℕ) → Result State StepError → Type 0
-Steps old front (Ok new) = Advances (left_of old) front (left_of new)
+Steps old front (Ok new) = Advances (left_of old) front (left_of new) × IsFresh new
 Steps old front (Err (errors.Wrong w)) = IsRefused (left_of old) front w
 Steps old front (Err errors.Memory) = Unit {0}
 

@@ -1,9 +1,9 @@
 //! Taking the bytes of a piece, field by field.
 
-ghost use Rattle.std.specs.Prelude.{◌≡◌, ◌≢◌, ◌+◌, ◌*◌, ◌≤◌, ◌<◌, ◌++◌, List, ℕ, [], length, max, Some, IfOk, IfErr, OnOk};
+ghost use Rattle.std.specs.Prelude.{◌≡◌, ◌≢◌, ◌+◌, ◌*◌, ◌≤◌, ◌<◌, ◌++◌, List, ℕ, length, take, Some, IfOk, IfErr};
 ghost use Rattle.ncc_header.specs.States.{left_of, size_of, front_of, idle_of};
 ghost use Rattle.ncc_header.specs.Held.{next_size, held_length};
-ghost use Rattle.ncc_header.specs.Reading.{held_of, Takes, FailsBehind, Waits};
+ghost use Rattle.ncc_header.specs.Reading.{held_of, told_of, Takes, FailsBehind, Waits};
 
 use crate::fault::{Fault, FaultKind, HeaderError};
 use crate::reading::Reading;
@@ -40,4 +40,95 @@ fn gather(state: State, held: &mut ArrayVec<u8, 8>, front: &[u8]) -> Result<Stat
             Ok(other)
         }
     }
+}
+
+/// The error of a field at this offset that is not taken.
+fn told(at: u64, error: StepError) -> HeaderError
+    ensures { result ≡ told_of at error }
+{
+    match error {
+        StepError::Memory => HeaderError::Memory,
+        StepError::Wrong(wrong) => HeaderError::Fault(Fault {
+            kind: wrong.kind,
+            offset: at.saturating_sub(wrong.back),
+        }),
+    }
+}
+
+/// Takes the last bytes of the next field, and so the field.
+fn take_field(
+    alloc: Global,
+    reading: Reading,
+    size: u64,
+    front: &[u8],
+) -> Result<Reading, HeaderError>
+    requires size { size_of (left_of reading.state) ≡ Some size }
+    requires last { length (held_of reading) + length front.now ≡ size }
+    requires within { reading.at + size ≤ reading.limit }
+    ensures takes { IfOk result (λ new. Takes reading new front.now) }
+    ensures idle { size ≡ 0 → IfOk result (λ new. idle_of new.state < idle_of reading.state) }
+    ensures fails { IfErr result (FailsBehind reading front.now) }
+{
+    let mut held = reading.held;
+    let state = gather(reading.state, &mut held, front)?;
+    match step(alloc, state, held.as_slice()) {
+        Ok(state) => Ok(Reading {
+            limit: reading.limit,
+            at: reading.at + size,
+            state,
+            held: ArrayVec::new(),
+        }),
+        Err(error) => Err(told(reading.at, error)),
+    }
+}
+
+/// Takes bytes that don't make the next field whole.
+fn hold(reading: Reading, front: &[u8]) -> Result<Reading, HeaderError>
+    requires { length (held_of reading) + length front.now < next_size reading.state }
+    ensures takes { IfOk result (λ new. Takes reading new front.now) }
+    ensures left { IfOk result (λ new. left_of new.state ≡ left_of reading.state) }
+    ensures at { IfOk result (λ new. new.at ≡ reading.at) }
+    ensures held { IfOk result (λ new. held_of new ≡ held_of reading ++ front.now) }
+    ensures memory { IfErr result (λ e. e ≡ HeaderError.Memory) }
+{
+    let mut held = reading.held;
+    let state = gather(reading.state, &mut held, front)?;
+    Ok(Reading {
+        limit: reading.limit,
+        at: reading.at,
+        state,
+        held,
+    })
+}
+
+/// Takes the bytes of a piece as far as the header goes, and tells how many.
+pub fn take(
+    alloc: Global,
+    reading: Reading,
+    piece: &[u8],
+) -> Result<(Reading, usize), HeaderError>
+    ensures within { IfOk result (λ x. x.1 ≤ length piece.now) }
+    ensures takes { IfOk result (λ x. Takes reading x.0 (take x.1 piece.now)) }
+    ensures waits { IfOk result (λ x. Waits x.0) }
+    ensures all { IfOk result (λ x. (n : ℕ) → size_of (left_of x.0.state) ≡ Some n → x.1 ≡ length piece.now) }
+    ensures fails { IfErr result (FailsBehind reading piece.now) }
+{
+    let mut reading = reading;
+    let mut rest = piece;
+    while let Some(size) = size(&reading.state) {
+        if size > reading.limit - reading.at {
+            return Err(HeaderError::Fault(Fault {
+                kind: FaultKind::HeaderTooLong,
+                offset: reading.at,
+            }));
+        }
+        let lacking = size - held_len(&reading);
+        if (rest.len() as u64) < lacking {
+            return Ok((hold(reading, rest)?, piece.len()));
+        }
+        let (front, after) = rest.split_at(lacking as usize);
+        reading = take_field(alloc, reading, size, front)?;
+        rest = after;
+    }
+    Ok((reading, piece.len() - rest.len()))
 }
