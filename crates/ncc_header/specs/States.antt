@@ -1,5 +1,5 @@
 -- What each state of a decoder has still to read, as a grammar of fields.
-use Rattle.std.specs.Prelude.{◌≡◌, ℕ, ◌+◌, ◌-◌, List, [], ◌∷◌, ◌++◌, length, Option, Some, None, Result, Ok, Err}
+use Rattle.std.specs.Prelude.{◌≡◌, ℕ, ◌+◌, ◌-◌, ◌≤◌, List, [], ◌∷◌, ◌++◌, length, Option, Some, None, Result, Ok, Err}
 use Rattle.ncc_values.specs.declared.version.Version.{Version}
 use Rattle.ncc_header.specs.declared.wrong.Wrong.{Wrong}
 use Rattle.ncc_header.specs.declared.schema.Count.{Count}
@@ -92,11 +92,25 @@ idle_of _ = 0
 abbrev pub IsFresh : State → Type 0
 IsFresh state = front_of state [] ≡ []
 
+-- the least offset of the next field, as far as memory may be needed: only from 12 on
+abbrev pub first_at : State → ℕ
+first_at states.Magic = 0
+first_at states.VersionByte = 3
+first_at (states.RecordCount v) = 4
+first_at (states.DimsTag v c) = 8
+first_at _ = 12
+
+-- the next field was these bytes, and now another one is next
+pub record StepsTo (old : State) (front : List ℕ) (new : State) : Type 0 where
+  pub advances : Advances (left_of old) front (left_of new)
+  pub fresh : IsFresh new
+  pub at : first_at new ≤ first_at old + length front
+
 -- A step takes the next field, or refuses it, unless memory is refused.
 abbrev pub Steps : State → (front : List ℕ) → Result State StepError → Type 0
-Steps old front (Ok new) = Advances (left_of old) front (left_of new) × IsFresh new
+Steps old front (Ok new) = StepsTo old front new
 Steps old front (Err (errors.Wrong w)) = IsRefused (left_of old) front w
-Steps old front (Err errors.Memory) = Unit {0}
+Steps old front (Err errors.Memory) = 12 ≤ first_at old
 
 -- what a value is judged for: nothing wrong, or what is wrong
 abbrev pub Judges : {T : Type 0} → Option Wrong → Result T Wrong → Type 0

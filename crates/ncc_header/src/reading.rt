@@ -1,7 +1,7 @@
 //! Reading a header from pieces.
 
-ghost use Rattle.std.specs.Prelude.{◌≡◌, ◌≢◌, ◌+◌, ◌*◌, ◌≤◌, ◌<◌, ◌++◌, List, ℕ, [], length, max, Some, IfOk, IfErr, OnOk};
-ghost use Rattle.ncc_header.specs.States.{left_of, size_of, front_of, idle_of};
+ghost use Rattle.std.specs.Prelude.{◌≤◌, ◌<◌, max};
+ghost use Rattle.ncc_header.specs.States.{first_at};
 ghost use Rattle.ncc_header.specs.Held.{next_size, held_length};
 
 use crate::state::State;
@@ -16,5 +16,6 @@ pub struct Reading {
     /// The bytes of the next field that have come. Those of a name stand in the state.
     pub held: ArrayVec<u8, 8>,
     ghost within: { at ≤ limit },
+    ghost after: { first_at state ≤ at },
     ghost partial: { held_length state held.items < max 1 (next_size state) },
 }

@@ -6,7 +6,7 @@ ghost use Rattle.ncc_values.specs.Padding.{padding_of};
 ghost use Rattle.ncc_values.specs.Version.{count_width_of};
 ghost use Rattle.ncc_header.specs.declared.state.State.TheVariants as states;
 ghost use Rattle.ncc_header.specs.declared.state.StepError.TheVariants.{Memory, Wrong as IsWrong};
-ghost use Rattle.ncc_header.specs.States.{left_of, from_dims, size_of, front_of, idle_of, IsFresh, Steps};
+ghost use Rattle.ncc_header.specs.States.{left_of, from_dims, size_of, front_of, idle_of, first_at, IsFresh, Steps};
 
 use crate::judge::{self, number};
 use crate::schema::{Count, Dim, Schema};
@@ -81,6 +81,7 @@ fn after_dims_tag(version: Version, count: Count, front: &[u8]) -> Result<State,
 fn next_dim(version: Version, count: Count, dims: Vec<Dim>, left: u64) -> State
     ensures left { left_of result ≡ from_dims version count dims.items left }
     ensures fresh { IsFresh result }
+    ensures at { first_at result ≤ 12 }
 {
     if left == 0 {
         return State::GlobalsTag(Schema {

@@ -1,7 +1,7 @@
 //! Taking the bytes of a piece, field by field.
 
 ghost use Rattle.std.specs.Prelude.{◌≡◌, ◌≢◌, ◌+◌, ◌*◌, ◌≤◌, ◌<◌, ◌++◌, List, ℕ, length, take, Some, IfOk, IfErr};
-ghost use Rattle.ncc_header.specs.States.{left_of, size_of, front_of, idle_of};
+ghost use Rattle.ncc_header.specs.States.{left_of, size_of, front_of, idle_of, first_at};
 ghost use Rattle.ncc_header.specs.Held.{next_size, held_length};
 ghost use Rattle.ncc_header.specs.Reading.{held_of, told_of, Takes, FailsBehind, Waits};
 
@@ -28,6 +28,8 @@ fn gather(state: State, held: &mut ArrayVec<u8, 8>, front: &[u8]) -> Result<Stat
     ensures state { IfOk result (λ new. left_of new ≡ left_of state) }
     ensures held { IfOk result (λ new. front_of new held.new.items ≡ front_of state held.old.items ++ front.now) }
     ensures idle { IfOk result (λ new. idle_of new ≡ idle_of state) }
+    ensures at { IfOk result (λ new. first_at new ≡ first_at state) }
+    ensures memory { IfErr result (λ _. 12 ≤ first_at state) }
 {
     match state {
         State::NameText(dims, n, name) => {
@@ -68,6 +70,7 @@ fn take_field(
     ensures takes { IfOk result (λ new. Takes reading new front.now) }
     ensures idle { size ≡ 0 → IfOk result (λ new. idle_of new.state < idle_of reading.state) }
     ensures fails { IfErr result (FailsBehind reading front.now) }
+    ensures memory { result ≡ Err HeaderError.Memory → 12 ≤ reading.at }
 {
     let mut held = reading.held;
     let state = gather(reading.state, &mut held, front)?;
@@ -89,7 +92,7 @@ fn hold(reading: Reading, front: &[u8]) -> Result<Reading, HeaderError>
     ensures left { IfOk result (λ new. left_of new.state ≡ left_of reading.state) }
     ensures at { IfOk result (λ new. new.at ≡ reading.at) }
     ensures held { IfOk result (λ new. held_of new ≡ held_of reading ++ front.now) }
-    ensures memory { IfErr result (λ e. e ≡ HeaderError.Memory) }
+    ensures memory { IfErr result (λ e. (e ≡ HeaderError.Memory) × (12 ≤ reading.at)) }
 {
     let mut held = reading.held;
     let state = gather(reading.state, &mut held, front)?;
@@ -112,6 +115,7 @@ pub fn take(
     ensures waits { IfOk result (λ x. Waits x.0) }
     ensures all { IfOk result (λ x. (n : ℕ) → size_of (left_of x.0.state) ≡ Some n → x.1 ≡ length piece.now) }
     ensures fails { IfErr result (FailsBehind reading piece.now) }
+    ensures memory { result ≡ Err HeaderError.Memory → 12 ≤ reading.at + length (held_of reading) + length piece.now }
 {
     let mut reading = reading;
     let mut rest = piece;

@@ -1,4 +1,4 @@
-use Rattle.std.proofs.Common.{◌≡◌, ℕ, Option, None, refl, ap, subst}
+use Rattle.std.proofs.Common.{◌≡◌, ℕ, Option, None, refl, ap, subst, arith}
 use Rattle.std.specs.Prelude.{unwrap_or}
 use Rattle.ncc_values.specs.Version.{version_of}
 use Rattle.ncc_values.specs.declared.version.Version.TheVariants.{V1}
@@ -9,10 +9,12 @@ use Rattle.ncc_header.proofs.step.after_version.Goals as goal
 
 pub returns : goal.returns
 returns c =
-    let v = c.in_ok-version.version in (
-      (
+    let v = c.in_ok-version.version in
+    record {
+      advances = (
         subst (λ (n : ℕ). version_wrong n ≡ None) c.number.ensures c.in_ok-version.ensures.judged,
         subst (λ (n : ℕ). from_version (unwrap_or (version_of n) V1) ≡ from_version v) c.number.ensures (ap from_version c.in_ok-version.ensures.value),
-      ),
-      refl,
-    )
+      );
+      fresh = refl;
+      at = omega (arith, c.requires);
+    }

@@ -10,8 +10,8 @@ pub returns-in-Ok-clause-takes : goal.returns-in-Ok-clause-takes
 returns-in-Ok-clause-takes c =
     let come : front_of c.in_ok-state.state c.as_slice.result.now ≡ held_of c.args.reading ++ c.args.front.now = ap (front_of c.in_ok-state.state) c.as_slice.ensures.value ∙ c.in_ok-state.ensures.held in
     takes_field c.args.reading _ c.args.size c.args.front.now c.requires.size c.requires.within c.requires.last
-    (subst₂ (λ (g : Grammar Schema) (b : List ℕ). Advances g b (left_of c.in-Ok.state)) c.in_ok-state.ensures.state come c.in-Ok.ensures.steps.0)
-    (ap (front_of c.in-Ok.state) c.new.ensures ∙ c.in-Ok.ensures.steps.1) refl refl
+    (subst₂ (λ (g : Grammar Schema) (b : List ℕ). Advances g b (left_of c.in-Ok.state)) c.in_ok-state.ensures.state come c.in-Ok.ensures.steps.advances)
+    (ap (front_of c.in-Ok.state) c.new.ensures ∙ c.in-Ok.ensures.steps.fresh) refl refl
 
 pub returns-in-Err-clause-fails : goal.returns-in-Err-clause-fails
 returns-in-Err-clause-fails c =
