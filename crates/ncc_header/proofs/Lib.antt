@@ -7,3 +7,5 @@ mod OneField
 mod TakeField
 mod TakePiece
 pub mod HeaderLaws
+mod Feeding
+pub mod Deciding

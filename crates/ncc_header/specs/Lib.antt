@@ -6,3 +6,5 @@ pub mod Answers
 pub mod States
 pub mod Held
 pub mod Reading
+pub mod Standing
+pub mod Decoder

@@ -1,12 +1,15 @@
 //! The header of a netCDF classic file: its grammar, its faults and a decoder that takes it in pieces.
 #![tactic(auto)]
 
+mod decoding;
+mod decoder;
 mod failed;
 mod fault;
 mod judge;
 pub mod laws;
 mod reading;
 mod schema;
+mod standing;
 mod state;
 mod step;
 mod taking;

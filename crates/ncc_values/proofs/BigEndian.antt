@@ -1,5 +1,5 @@
 -- Numbers and their bytes, both ways.
-use Rattle.std.proofs.Common.{◌≡◌, ℕ, zero, suc, ◌+◌, ◌*◌, ◌/◌, ◌%◌, ◌^◌, ◌<◌, ◌≤◌, List, [], ◌∷◌, ◌++◌, length, take, drop, refl, ap, subst, ◌∙◌, append-nil, arith, mul-le-mul_right}
+use Rattle.std.proofs.Common.{◌≡◌, ℕ, zero, suc, ◌+◌, ◌*◌, ◌/◌, ◌%◌, ◌^◌, ◌<◌, ◌≤◌, List, [], ◌∷◌, ◌++◌, length, take, drop, get_or, refl, ap, subst, ◌∙◌, append-nil, arith, mul-le-mul_right}
 use Rattle.std.proofs.Math.Nat.{pow-suc}
 use Rattle.ncc_values.specs.Numbers.{IsBytes, big_endian_onto, big_endian, number_onto, number_of}
 
@@ -18,6 +18,10 @@ bytes-drop (suc n) (x ∷ b) h = bytes-drop n b h.1
 pub bytes-append : (a b : List ℕ) → IsBytes a → IsBytes b → IsBytes (a ++ b)
 bytes-append [] b h k = k
 bytes-append (x ∷ a) b h k = (h.0, bytes-append a b h.1 k)
+
+pub bytes-by_index : (bytes : List ℕ) → ((i : ℕ) → get_or bytes i 0 < 256) → IsBytes bytes
+bytes-by_index [] h = tt
+bytes-by_index (b ∷ bytes) h = (h 0, bytes-by_index bytes (λ i. h (suc i)))
 
 -- ---- one number
 

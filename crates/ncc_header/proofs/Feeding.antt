@@ -1,0 +1,113 @@
+-- What a decoder has taken once it was fed a piece.
+use Rattle.std.proofs.Common.{◌≡◌, ℕ, zero, suc, ◌+◌, ◌<◌, ◌≤◌, max, List, [], ◌∷◌, ◌++◌, length, take, get_or, Option, Some, None, Ok, refl, sym, ap, ap₂, subst, ◌∙◌, inl, inr, append_assoc, append-nil, arith}
+use Rattle.std.proofs.lemmas.List.{length-append, take_all, nil_from_length}
+use Rattle.std.specs.Prelude.{unwrap_or}
+use Rattle.std.proofs.lemmas.Bool.{cases_lt, le-ltb, lt-ltb}
+use Rattle.ncc_values.specs.Numbers.{IsBytes}
+use Rattle.ncc_values.proofs.BigEndian.{bytes-append, bytes-take}
+use Rattle.ncc_header.specs.declared.fault.FaultKind.TheVariants.{EndsEarly}
+use Rattle.ncc_header.specs.declared.fault.Fault.{Fault}
+use Rattle.ncc_header.specs.declared.fault.HeaderError.{HeaderError}
+use Rattle.ncc_header.specs.declared.fault.HeaderError.TheVariants as errors
+use Rattle.ncc_header.specs.declared.reading.Reading.{Reading}
+use Rattle.ncc_header.specs.declared.schema.Schema.{Schema}
+use Rattle.ncc_header.specs.Grammar.{Grammar, done, field, reads, stops, read}
+use Rattle.ncc_header.specs.Header.{IsHeader}
+use Rattle.ncc_header.specs.Fields.{header}
+use Rattle.ncc_header.specs.Answers.{Begins, Stops}
+use Rattle.ncc_header.specs.States.{left_of, size_of}
+use Rattle.ncc_header.specs.Reading.{held_of, onward, Takes, FailsBehind, Waits}
+use Rattle.ncc_header.specs.Standing.{HasTaken, FailedOn, IsWhole, Feeds, fed_of, front_taken, cut_at}
+use Rattle.ncc_header.proofs.OneField.{field_ends_early, field_too_long}
+use Rattle.ncc_header.proofs.HeaderLaws.{header_stop_stays, begins_with_read}
+
+pub has_taken_more : (old new : Reading) (taken front : List ℕ) → IsBytes front → HasTaken old taken → Takes old new front → Waits new → HasTaken new (taken ++ front)
+has_taken_more old new taken front bytes t k waits = record {
+  bytes = bytes-append taken front t.bytes bytes;
+  goes_on = λ more.
+      ap (λ (limit : ℕ). read header limit 0 ((taken ++ front) ++ more)) k.limit
+      ∙ ap (read header old.limit 0) (append_assoc taken front more)
+      ∙ t.goes_on (front ++ more) ∙ k.goes_on more;
+  long = omega (arith, k.long, t.long, length-append taken front);
+  partial = λ n is. (waits n is).1;
+}
+
+-- nothing comes behind what was taken
+at_end : (r : Reading) (taken : List ℕ) → HasTaken r taken → read header r.limit 0 taken ≡ read (left_of r.state) r.limit r.at (held_of r)
+at_end r taken t = ap (read header r.limit 0) (sym (append-nil taken)) ∙ t.goes_on [] ∙ ap (read (left_of r.state) r.limit r.at) (append-nil (held_of r))
+
+-- a field is next that the input doesn't reach the end of
+ends_early : (r : Reading) (taken : List ℕ) (n : ℕ) → HasTaken r taken → size_of (left_of r.state) ≡ Some n → r.at + n ≤ r.limit → read header r.limit 0 taken ≡ stops r.at EndsEarly
+ends_early r taken n t is within = at_end r taken t ∙ field_ends_early (left_of r.state) r.limit r.at n (held_of r) is within (t.partial n is)
+
+pub cut_stops : (r : Reading) (taken : List ℕ) (n : ℕ) → HasTaken r taken → size_of (left_of r.state) ≡ Some n → Stops taken r.limit (cut_at r.limit r.at n)
+cut_stops r taken n t is =
+    elim (cases_lt r.limit (r.at + n)) [
+      | inl past ↦ rw (lt-ltb r.limit (r.at + n) past) (at_end r taken t ∙ field_too_long (left_of r.state) r.limit r.at n (held_of r) is past)
+      | inr within ↦ rw (le-ltb r.limit (r.at + n) within) (ends_early r taken n t is within)
+    ]
+
+-- a grammar that has no field
+no_field : {A : Type 0} (g : Grammar A) → size_of g ≡ None → (a : A) × (g ≡ done a)
+no_field (done a) is = (a, refl)
+no_field (field label size wrong next) is = absurd cc
+
+-- nothing has come of a field that isn't there
+nothing_held : (r : Reading) → size_of (left_of r.state) ≡ None → held_of r ≡ []
+nothing_held r is =
+    let few : length (held_of r) < max 1 (unwrap_or (size_of (left_of r.state)) 0) = r.partial in
+    let none : max 1 (unwrap_or (size_of (left_of r.state)) 0) ≡ 1 = ap (λ (o : Option ℕ). max 1 (unwrap_or o 0)) is in
+    nil_from_length (held_of r) (omega (arith, few, none))
+
+read_none : (s : Schema) (limit at : ℕ) (input : List ℕ) → read (done s) limit at input ≡ reads s at input
+unfolding read
+read_none s limit at input = refl
+
+-- no field is next: what was taken is a header
+whole_header : (r : Reading) (taken : List ℕ) (s : Schema) → HasTaken r taken → left_of r.state ≡ done s → IsHeader s taken × (r.at ≤ r.limit) × (r.at ≡ length taken)
+whole_header r taken s t is =
+    let none : held_of r ≡ [] = nothing_held r (ap size_of is) in
+    let empty : length (held_of r) ≡ 0 = ap length none in
+    let long : r.at ≡ length taken = omega (arith, empty, t.long) in
+    let all : read header r.limit 0 (taken ++ []) ≡ reads s r.at [] =
+        t.goes_on [] ∙ ap₂ (λ (g : Grammar Schema) (h : List ℕ). read g r.limit r.at (h ++ [])) is none ∙ read_none s r.limit r.at [] in
+    let whole = begins_with_read taken [] r.limit r.at s (bytes-append taken [] t.bytes tt) long all in
+    (whole.0, whole.1, long)
+
+pub finishes : (r : Reading) (taken : List ℕ) (s : Schema) → HasTaken r taken → left_of r.state ≡ done s → Begins taken r.limit (record { schema = s; length = r.at })
+finishes r taken s t is =
+    let w = whole_header r taken s t is in
+    record { front = taken; rest = []; joined = sym (append-nil taken); is_header = w.0; long = w.2; within = w.1 }
+
+pub feeds : (old new : Reading) (taken piece : List ℕ) (used : ℕ) (o : Option ℕ) → IsBytes piece → HasTaken old taken → Takes old new (take used piece) → Waits new → used ≤ length piece → ((n : ℕ) → size_of (left_of new.state) ≡ Some n → used ≡ length piece) → size_of (left_of new.state) ≡ o → Feeds taken piece old.limit (Ok (fed_of o used))
+feeds old new taken piece used (Some n) bytes t k waits within all is =
+    let t2 = has_taken_more old new taken (take used piece) (bytes-take used piece bytes) t k waits in
+    let front : take used piece ≡ piece = ap (λ (m : ℕ). take m piece) (all n is) ∙ take_all (length piece) piece (omega arith) in (
+      record { kind = EndsEarly; offset = new.at },
+      ap (λ (input : List ℕ). read header old.limit 0 (taken ++ input)) (sym front)
+      ∙ ap (λ (limit : ℕ). read header limit 0 (taken ++ take used piece)) (sym k.limit)
+      ∙ ends_early new (taken ++ take used piece) n t2 is (waits n is).0,
+      refl,
+    )
+feeds old new taken piece used None bytes t k waits within all is =
+    let t2 = has_taken_more old new taken (take used piece) (bytes-take used piece bytes) t k waits in
+    let end = no_field (left_of new.state) is in
+    let w = whole_header new (taken ++ take used piece) end.0 t2 end.1 in
+    (within, (end.0, w.0, omega (arith, w.1, w.2, k.limit)))
+
+-- the bytes that such an answer says were taken
+pub takes_fed : (new : Reading) (taken piece : List ℕ) (used : ℕ) (o : Option ℕ) → ((n : ℕ) → size_of (left_of new.state) ≡ Some n → used ≡ length piece) → size_of (left_of new.state) ≡ o → HasTaken new (taken ++ take used piece) → HasTaken new (taken ++ front_taken (Ok (fed_of o used)) piece)
+takes_fed new taken piece used (Some n) all is t = subst (λ (front : List ℕ). HasTaken new (taken ++ front)) (ap (λ (m : ℕ). take m piece) (all n is) ∙ take_all (length piece) piece (omega arith)) t
+takes_fed new taken piece used None all is t = t
+
+-- ---- faults
+
+pub fails_after : (r : Reading) (taken piece : List ℕ) (e : HeaderError) → HasTaken r taken → FailsBehind r piece e → FailedOn (taken ++ piece) r.limit e
+fails_after r taken piece (errors.Fault f) t b = (t.goes_on piece ∙ ap (onward r) (sym (append-nil piece)) ∙ b.stays [], b.other)
+fails_after r taken piece errors.Device t b = b
+fails_after r taken piece errors.Memory t b = tt
+
+pub fails_again : (taken piece : List ℕ) (limit : ℕ) (e : HeaderError) → FailedOn taken limit e → FailedOn (taken ++ piece) limit e
+fails_again taken piece limit (errors.Fault f) h = (header_stop_stays taken piece limit f h.0 h.1, h.1)
+fails_again taken piece limit errors.Device h = h
+fails_again taken piece limit errors.Memory h = tt

@@ -1,0 +1,23 @@
+-- What a decoder has taken, and what it answers.
+use Rattle.std.specs.Prelude.{◌≡◌, ◌≢◌, ℕ, ◌+◌, ◌≤◌, ◌<◌, List, ◌++◌, length, take, Some, Result, Ok, Err}
+use Rattle.ncc_values.specs.Numbers.{IsBytes}
+use Rattle.ncc_header.specs.declared.decoder.Decoder.{Decoder}
+use Rattle.ncc_header.specs.declared.fault.Fault.{Fault}
+use Rattle.ncc_header.specs.declared.fault.FaultKind.TheVariants.{EndsEarly}
+use Rattle.ncc_header.specs.declared.fault.HeaderError.{HeaderError}
+use Rattle.ncc_header.specs.declared.schema.Schema.{Schema}
+use Rattle.ncc_header.specs.declared.standing.Fed.{Fed}
+use Rattle.ncc_header.specs.declared.standing.Standing.{Standing}
+use Rattle.ncc_header.specs.Standing.{limit_at, TookAt, IsSpentAt}
+
+-- how long a header may be, in bytes
+abbrev pub limit_of : Decoder → ℕ
+limit_of d = limit_at d.standing
+
+-- the decoder has taken these bytes
+abbrev pub Took : Decoder → (taken : List ℕ) → Type 0
+Took d taken = TookAt d.standing taken
+
+-- the decoder was refused memory, and says so for good
+abbrev pub IsSpent : Decoder → Type 0
+IsSpent d = IsSpentAt d.standing

@@ -1,0 +1,79 @@
+-- What a decoder's standing says of the bytes that it has taken, and what its answers say.
+use Rattle.std.specs.Prelude.{◌≡◌, ◌≢◌, ℕ, ◌+◌, ◌≤◌, ◌<◌, List, ◌++◌, length, take, ltb, if◌then◌else◌, Option, Some, None, Result, Ok, Err}
+use Rattle.ncc_values.specs.Numbers.{IsBytes}
+use Rattle.ncc_header.specs.declared.fault.Fault.{Fault}
+use Rattle.ncc_header.specs.declared.fault.FaultKind.TheVariants.{HeaderTooLong, EndsEarly}
+use Rattle.ncc_header.specs.declared.fault.HeaderError.{HeaderError}
+use Rattle.ncc_header.specs.declared.fault.HeaderError.TheVariants as errors
+use Rattle.ncc_header.specs.declared.reading.Reading.{Reading}
+use Rattle.ncc_header.specs.declared.schema.Schema.{Schema}
+use Rattle.ncc_header.specs.declared.standing.Fed.{Fed}
+use Rattle.ncc_header.specs.declared.standing.Fed.TheVariants.{More, Done}
+use Rattle.ncc_header.specs.declared.standing.Standing.{Standing}
+use Rattle.ncc_header.specs.declared.standing.Standing.TheVariants as standings
+use Rattle.ncc_header.specs.Grammar.{read}
+use Rattle.ncc_header.specs.Header.{IsHeader}
+use Rattle.ncc_header.specs.Fields.{header}
+use Rattle.ncc_header.specs.Answers.{Stops}
+use Rattle.ncc_header.specs.States.{left_of, size_of}
+use Rattle.ncc_header.specs.Reading.{held_of, onward}
+
+-- ---- what was taken
+
+-- The reading has taken these bytes: what becomes of them and any others becomes of what it has still to read.
+pub record HasTaken (r : Reading) (taken : List ℕ) : Type 0 where
+  pub bytes : IsBytes taken
+  pub goes_on : (more : List ℕ) → read header r.limit 0 (taken ++ more) ≡ onward r more
+  pub long : r.at + length (held_of r) ≡ length taken
+  pub partial : (n : ℕ) → size_of (left_of r.state) ≡ Some n → length (held_of r) < n
+
+-- a fault that stays, whatever follows
+abbrev pub StopsForGood : (input : List ℕ) (limit : ℕ) → Fault → Type 0
+StopsForGood input limit f = Stops input limit f × (f.kind ≢ EndsEarly)
+
+abbrev pub FailedOn : (taken : List ℕ) (limit : ℕ) → HeaderError → Type 0
+FailedOn taken limit (errors.Fault f) = StopsForGood taken limit f
+FailedOn taken limit errors.Device = ⊥
+FailedOn taken limit errors.Memory = Unit {0}
+
+abbrev pub limit_at : Standing → ℕ
+limit_at (standings.Reading r) = r.limit
+limit_at (standings.Failed limit e) = limit
+
+abbrev pub TookAt : Standing → (taken : List ℕ) → Type 0
+TookAt (standings.Reading r) taken = HasTaken r taken
+TookAt (standings.Failed limit e) taken = FailedOn taken limit e
+
+abbrev pub IsSpentAt : Standing → Type 0
+IsSpentAt (standings.Reading r) = ⊥
+IsSpentAt (standings.Failed limit e) = e ≡ errors.Memory
+
+-- ---- what is answered
+
+-- all of these bytes are a header within the limit
+abbrev pub IsWhole : (bytes : List ℕ) (limit : ℕ) → Type 0
+IsWhole bytes limit = (s : Schema) × IsHeader s bytes × (length bytes ≤ limit)
+
+-- the input ends inside of a field, and has no other fault
+abbrev pub GoesOn : (input : List ℕ) (limit : ℕ) → Type 0
+GoesOn input limit = (f : Fault) × Stops input limit f × (f.kind ≡ EndsEarly)
+
+-- the fault of an input that ends inside of a field
+abbrev pub cut_at : (limit at size : ℕ) → Fault
+cut_at limit at size = record { kind = if ltb limit (at + size) then HeaderTooLong else EndsEarly; offset = at }
+
+-- the answer where a field of this size is next, or none
+abbrev pub fed_of : Option ℕ → (used : ℕ) → Fed
+fed_of (Some n) used = More
+fed_of None used = Done used
+
+-- the bytes of the piece that are taken where this is answered
+abbrev pub front_taken : Result Fed HeaderError → (piece : List ℕ) → List ℕ
+front_taken (Ok (Done used)) piece = take used piece
+front_taken _ piece = piece
+
+-- what an answer says of the bytes that were taken and the piece, unless memory was refused
+abbrev pub Feeds : (taken piece : List ℕ) (limit : ℕ) → Result Fed HeaderError → Type 0
+Feeds taken piece limit (Ok More) = GoesOn (taken ++ piece) limit
+Feeds taken piece limit (Ok (Done used)) = (used ≤ length piece) × IsWhole (taken ++ take used piece) limit
+Feeds taken piece limit (Err e) = FailedOn (taken ++ piece) limit e
