@@ -9,3 +9,4 @@ mod TakePiece
 pub mod HeaderLaws
 mod Feeding
 pub mod Deciding
+pub mod Writing

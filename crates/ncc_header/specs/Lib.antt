@@ -3,6 +3,9 @@ pub mod Schema
 pub mod Header
 pub mod Fields
 pub mod Answers
+pub mod Device
+pub mod Source
+pub mod Sink
 pub mod States
 pub mod Held
 pub mod Reading

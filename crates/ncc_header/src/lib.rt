@@ -1,21 +1,28 @@
 //! The header of a netCDF classic file: its grammar, its faults and a decoder that takes it in pieces.
 #![tactic(auto)]
 
-mod decoding;
 mod decoder;
+mod decoding;
 mod failed;
 mod fault;
 mod judge;
 pub mod laws;
 mod reading;
 mod schema;
+mod sink;
+mod source;
 mod standing;
 mod state;
 mod step;
 mod taking;
 mod wrong;
 
+pub use decoder::Decoder;
+pub use decoding::decode;
 pub use failed::Failed;
 pub use fault::{Fault, FaultKind, HeaderError};
 pub use ncc_values::{Seq, Version, pad};
 pub use schema::{Count, Dim, Header, Schema};
+pub use sink::{Sink, WriteSink, write_all};
+pub use source::{ReadSource, Source};
+pub use standing::Fed;

@@ -1,0 +1,38 @@
+-- Writing all of a text by turns.
+use Rattle.std.proofs.Common.{◌≡◌, ℕ, ◌<◌, ◌≤◌, ◌+◌, ◌-◌, List, [], ◌∷◌, ◌++◌, length, take, drop, Option, Some, None, Result, Ok, Err, refl, sym, ap, subst, ◌∙◌, append_assoc, arith}
+use Rattle.std.proofs.lemmas.List.{append-nil, take-append-drop}
+use Rattle.ncc_header.specs.declared.failed.Failed.{Failed}
+use Rattle.ncc_header.specs.Device.{Puts, Writes, WritesAll}
+
+-- known bytes that grow twice grow by both
+pub puts_both : (old mid new : Option (List ℕ)) (a b : List ℕ) → Puts old mid a → Puts mid new b → Puts old new (a ++ b)
+puts_both None mid new a b p q = tt
+puts_both (Some xs) mid new a b p q =
+    let r : Puts (Some (xs ++ a)) new b = subst (λ (m : Option (List ℕ)). Puts m new b) p q in
+    r ∙ ap (λ (z : List ℕ). Some z) (append_assoc xs a b)
+
+pub puts_none : (old : Option (List ℕ)) → Puts old old []
+puts_none None = tt
+puts_none (Some xs) = ap (λ (z : List ℕ). Some z) (sym (append-nil xs))
+
+-- so far: a front went out, and the rest is to be written
+pub record SoFar (old now : Option (List ℕ)) (text rest : List ℕ) : Type 0 where
+  pub front : List ℕ
+  pub joined : text ≡ front ++ rest
+  pub puts : Puts old now front
+
+pub so_far_at_first : (old : Option (List ℕ)) (text : List ℕ) → SoFar old old text text
+so_far_at_first old text = record { front = []; joined = refl; puts = puts_none old }
+
+pub so_far_more : (old now new : Option (List ℕ)) (text rest after : List ℕ) (n : ℕ) → SoFar old now text rest → Puts now new (take n rest) → after ≡ drop n rest → SoFar old new text after
+so_far_more old now new text rest after n s p e = record {
+  front = s.front ++ take n rest;
+  joined = s.joined ∙ ap (λ (z : List ℕ). s.front ++ z) (sym (take-append-drop n rest) ∙ ap (λ (z : List ℕ). take n rest ++ z) (sym e)) ∙ sym (append_assoc s.front (take n rest) after);
+  puts = puts_both old now new s.front (take n rest) s.puts p;
+}
+
+pub so_far_fails : (old now new : Option (List ℕ)) (text rest : List ℕ) (e : Failed) → SoFar old now text rest → Puts now new [] → WritesAll old new (Err e) text
+so_far_fails old now new text rest e s p = (s.front, rest, s.joined, subst (λ (z : List ℕ). Puts old new z) (append-nil s.front) (puts_both old now new s.front [] s.puts p))
+
+pub so_far_done : (old now : Option (List ℕ)) (text rest : List ℕ) → SoFar old now text rest → rest ≡ [] → Puts old now text
+so_far_done old now text rest s e = subst (λ (z : List ℕ). Puts old now z) (sym (s.joined ∙ ap (λ (z : List ℕ). s.front ++ z) e ∙ append-nil s.front)) s.puts
