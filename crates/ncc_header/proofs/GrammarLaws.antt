@@ -1,7 +1,7 @@
 -- The laws of every grammar of fields, each by one induction.
 use Rattle.std.proofs.Common.{◌≡◌, ℕ, zero, suc, ◌+◌, ◌-◌, ◌≤◌, Bool, true, false, ltb, List, [], ◌∷◌, ◌++◌, length, take, drop, Option, Some, None, refl, sym, ap, subst, ◌∙◌, append_assoc, arith, ◌⊎◌, inl, inr}
 use Rattle.std.proofs.lemmas.Bool.{cases_lt, le-ltb, lt-ltb}
-use Rattle.std.proofs.lemmas.List.{take_at, drop_at, take-append-drop, length-append, length-take-le, take-append-le, drop-append-le, append_cancel_right}
+use Rattle.std.proofs.lemmas.List.{take_at, drop_at, take-append-drop, length-append, length-take-le, take-append-le, drop-append-le, length-drop, append_cancel_right}
 use Rattle.ncc_values.specs.Numbers.{IsBytes}
 use Rattle.ncc_values.proofs.BigEndian.{bytes-take, bytes-drop}
 use Rattle.ncc_header.specs.declared.fault.FaultKind.{FaultKind}
@@ -146,6 +146,22 @@ stop_stays {A = A} (field label size wrong next) limit at input more offset kind
             ∙ rw (fronts, backs) (stays-if_wrong (wrong (take size input)) at offset kind _ _ (sym (whole_front label size wrong next limit at input long within) ∙ h)
             (stop_stays (next (take size input)) limit (at + size) (drop size input) more offset kind other))
       ]
+    ]
+
+-- A stop stays, whatever follows, once all bytes within the limit are there.
+pub limit_covers : {A : Type 0} (g : Grammar A) (limit at : ℕ) (input more : List ℕ) (offset : ℕ) (kind : FaultKind) → limit ≤ at + length input → read g limit at input ≡ stops offset kind → read g limit at (input ++ more) ≡ stops offset kind
+unfolding read
+limit_covers (done x) limit at input more offset kind covered h = absurd (outcomes_are_one (reads x at input) (stops offset kind) h)
+limit_covers {A = A} (field label size wrong next) limit at input more offset kind covered h =
+    elim (cases_lt limit (at + size)) [
+      | inl past ↦ rw (lt-ltb limit (at + size) past) (rw (lt-ltb limit (at + size) past) at h)
+      | inr within ↦
+          let long : size ≤ length input = omega (arith, covered, within) in
+          let fronts : take size (input ++ more) ≡ take size input = take-append-le size input more long in
+          let backs : drop size (input ++ more) ≡ drop size input ++ more = drop-append-le size input more long in
+          whole_front label size wrong next limit at (input ++ more) (omega (arith, length-append input more, long)) within
+          ∙ rw (fronts, backs) (stays-if_wrong (wrong (take size input)) at offset kind _ _ (sym (whole_front label size wrong next limit at input long within) ∙ h)
+          (limit_covers (next (take size input)) limit (at + size) (drop size input) more offset kind (omega (arith, covered, length-drop size input, long))))
     ]
 
 -- ---- joining

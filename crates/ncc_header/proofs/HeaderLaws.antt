@@ -17,7 +17,7 @@ use Rattle.ncc_header.specs.Header.{◌⨾◌, any_bytes, each, IsHeader, zeros,
 use Rattle.ncc_header.specs.Header as spelled
 use Rattle.ncc_header.specs.Fields.{header}
 use Rattle.ncc_header.specs.Answers.{Begins, Stops}
-use Rattle.ncc_header.proofs.GrammarLaws.{one_spelling, spelled-is_read, read-is_spelled, begins_or_stops, not_both, one_stop, stop_stays}
+use Rattle.ncc_header.proofs.GrammarLaws.{one_spelling, spelled-is_read, read-is_spelled, begins_or_stops, not_both, one_stop, stop_stays, limit_covers}
 use Rattle.ncc_header.proofs.Rules.{exact_header}
 
 -- the fields of a header spell it, and what they spell is a header
@@ -52,6 +52,9 @@ one_fault input limit f g s t =
 
 pub header_stop_stays : (input more : List ℕ) (limit : ℕ) (f : Fault) → Stops input limit f → f.kind ≢ EndsEarly → Stops (input ++ more) limit f
 header_stop_stays input more limit f stop other = stop_stays header limit 0 input more f.offset f.kind other stop
+
+pub header_limit_covers : (input more : List ℕ) (limit : ℕ) (f : Fault) → Stops input limit f → limit ≤ length input → Stops (input ++ more) limit f
+header_limit_covers input more limit f stop covered = limit_covers header limit 0 input more f.offset f.kind (omega (arith, covered)) stop
 
 pub one_begins : (input : List ℕ) (limit : ℕ) (h k : Header) → Begins input limit h → Begins input limit k → h ≡ k
 one_begins input limit h k b c =

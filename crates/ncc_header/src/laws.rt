@@ -1,6 +1,6 @@
 //! Laws of the grammar alone, each the contract of a function that does nothing.
 
-ghost use Rattle.std.specs.Prelude.{◌≡◌, ◌≢◌, ℕ, List, ◌++◌, ◌⊎◌};
+ghost use Rattle.std.specs.Prelude.{◌≡◌, ◌≢◌, ℕ, ◌≤◌, List, ◌++◌, length, ◌⊎◌};
 ghost use Rattle.ncc_values.specs.Numbers.{IsBytes};
 ghost use Rattle.ncc_header.specs.declared.fault.Fault.{Fault};
 ghost use Rattle.ncc_header.specs.declared.fault.FaultKind.TheVariants.{EndsEarly};
@@ -27,6 +27,12 @@ pub fn header_or_stop()
 /// A fault other than an early end stays, whatever bytes follow.
 pub fn stop_stays()
     ensures { (input more : List ℕ) (limit : ℕ) (f : Fault) → Stops input limit f → f.kind ≢ EndsEarly → Stops (input ++ more) limit f }
+{
+}
+
+/// Bytes past the limit take no part in a fault.
+pub fn limit_covers()
+    ensures { (input more : List ℕ) (limit : ℕ) (f : Fault) → Stops input limit f → limit ≤ length input → Stops (input ++ more) limit f }
 {
 }
 

@@ -23,7 +23,7 @@ returns-clause-answers c =
     let feeds : Feeds [] input c.args.limit (Ok fed) = subst (λ (limit : ℕ). Feeds [] input limit (Ok fed)) new.limit (c.in_ok-_fed.ensures.answers [] new.took) in
     let answers : Answers (front_taken (Ok fed) input) c.args.limit c.finish.result = subst (λ (limit : ℕ). Answers (front_taken (Ok fed) input) limit c.finish.result) (c.in_ok-_fed.ensures.limit ∙ new.limit)
         (c.finish.ensures.answers (front_taken (Ok fed) input) (c.in_ok-_fed.ensures.takes [] new.took)) in
-    fed_answers input c.args.limit fed c.finish.result feeds answers
+    fed_answers [] input c.args.limit fed c.finish.result feeds answers
 
 pub returns-clause-header : goal.returns-clause-header
 returns-clause-header c = header_or_memory c.args.input.now c.args.limit c.finish.result (returns-clause-answers c)
