@@ -9,4 +9,5 @@ mod TakePiece
 pub mod HeaderLaws
 mod Feeding
 pub mod Deciding
+mod FromSource
 pub mod Writing

@@ -4,6 +4,7 @@ use Rattle.ncc_header.specs.declared.fault.Fault.{Fault}
 use Rattle.ncc_header.specs.declared.fault.HeaderError.{HeaderError}
 use Rattle.ncc_header.specs.declared.fault.HeaderError.TheVariants as errors
 use Rattle.ncc_header.specs.declared.schema.Header.{Header}
+use Rattle.ncc_header.specs.Device.{Rose}
 use Rattle.ncc_header.specs.Grammar.{read, stops}
 use Rattle.ncc_header.specs.Header.{IsHeader}
 use Rattle.ncc_header.specs.Fields.{header}
@@ -36,3 +37,8 @@ AnswersOf input limit result = Answers input limit result
 -- this answer, unless memory was refused
 abbrev pub OrMemory : Result Header HeaderError → Result Header HeaderError → Type 0
 OrMemory result answer = (result ≡ answer) ⊎ (result ≡ Err errors.Memory)
+
+-- an answer that the device failed goes with a count of failures that rose, and no other answer does
+abbrev pub CountsAs : {T : Type 0} → (old new : ℕ) → Result T HeaderError → Type 0
+CountsAs old new (Err errors.Device) = Rose old new
+CountsAs old new result = new ≡ old

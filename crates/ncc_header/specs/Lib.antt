@@ -2,8 +2,8 @@ pub mod Grammar
 pub mod Schema
 pub mod Header
 pub mod Fields
-pub mod Answers
 pub mod Device
+pub mod Answers
 pub mod Source
 pub mod Sink
 pub mod States

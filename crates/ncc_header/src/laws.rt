@@ -20,7 +20,8 @@ pub fn one_header()
 pub fn header_or_stop()
     ensures either { (input : List ℕ) (limit : ℕ) → IsBytes input → ((h : Header) × Begins input limit h) ⊎ ((f : Fault) × Stops input limit f) }
     ensures apart { (input : List ℕ) (limit : ℕ) (h : Header) (f : Fault) → Begins input limit h → Stops input limit f → ⊥ }
-    ensures one { (input : List ℕ) (limit : ℕ) (f g : Fault) → Stops input limit f → Stops input limit g → f ≡ g }
+    ensures one_header { (input : List ℕ) (limit : ℕ) (h k : Header) → Begins input limit h → Begins input limit k → h ≡ k }
+    ensures one_stop { (input : List ℕ) (limit : ℕ) (f g : Fault) → Stops input limit f → Stops input limit g → f ≡ g }
 {
 }
 
