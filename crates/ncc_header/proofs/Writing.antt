@@ -1,10 +1,10 @@
--- Writing all of a text by turns.
-use Rattle.std.proofs.Common.{◌≡◌, ℕ, ◌<◌, ◌≤◌, ◌+◌, ◌-◌, List, [], ◌∷◌, ◌++◌, length, take, drop, Option, Some, None, Result, Ok, Err, refl, sym, ap, subst, ◌∙◌, append_assoc, arith}
-use Rattle.std.proofs.lemmas.List.{append-nil, take-append-drop}
+-- Putting out a text by turns.
+use Rattle.std.proofs.Common.{◌≡◌, ℕ, List, [], ◌++◌, Option, Some, None, Err, refl, sym, ap, subst, ◌∙◌, append_assoc}
+use Rattle.std.proofs.lemmas.List.{append-nil}
 use Rattle.ncc_header.specs.declared.failed.Failed.{Failed}
-use Rattle.ncc_header.specs.Device.{Puts, Writes, WritesAll}
+use Rattle.ncc_header.specs.Device.{Puts, WritesAll}
 
--- known bytes that grow twice grow by both
+-- told bytes that grow twice grow by both
 pub puts_both : (old mid new : Option (List ℕ)) (a b : List ℕ) → Puts old mid a → Puts mid new b → Puts old new (a ++ b)
 puts_both None mid new a b p q = tt
 puts_both (Some xs) mid new a b p q =
@@ -15,7 +15,7 @@ pub puts_none : (old : Option (List ℕ)) → Puts old old []
 puts_none None = tt
 puts_none (Some xs) = ap (λ (z : List ℕ). Some z) (sym (append-nil xs))
 
--- so far: a front went out, and the rest is to be written
+-- a front of the text went out, and the rest is to be put out
 pub record SoFar (old now : Option (List ℕ)) (text rest : List ℕ) : Type 0 where
   pub front : List ℕ
   pub joined : text ≡ front ++ rest
@@ -24,15 +24,15 @@ pub record SoFar (old now : Option (List ℕ)) (text rest : List ℕ) : Type 0 w
 pub so_far_at_first : (old : Option (List ℕ)) (text : List ℕ) → SoFar old old text text
 so_far_at_first old text = record { front = []; joined = refl; puts = puts_none old }
 
-pub so_far_more : (old now new : Option (List ℕ)) (text rest after : List ℕ) (n : ℕ) → SoFar old now text rest → Puts now new (take n rest) → after ≡ drop n rest → SoFar old new text after
-so_far_more old now new text rest after n s p e = record {
-  front = s.front ++ take n rest;
-  joined = s.joined ∙ ap (λ (z : List ℕ). s.front ++ z) (sym (take-append-drop n rest) ∙ ap (λ (z : List ℕ). take n rest ++ z) (sym e)) ∙ sym (append_assoc s.front (take n rest) after);
-  puts = puts_both old now new s.front (take n rest) s.puts p;
+pub so_far_more : (old now new : Option (List ℕ)) (text rest piece after : List ℕ) → SoFar old now text rest → rest ≡ piece ++ after → Puts now new piece → SoFar old new text after
+so_far_more old now new text rest piece after s e p = record {
+  front = s.front ++ piece;
+  joined = s.joined ∙ ap (λ (z : List ℕ). s.front ++ z) e ∙ sym (append_assoc s.front piece after);
+  puts = puts_both old now new s.front piece s.puts p;
 }
 
 pub so_far_fails : (old now new : Option (List ℕ)) (text rest : List ℕ) (e : Failed) → SoFar old now text rest → Puts now new [] → WritesAll old new (Err e) text
-so_far_fails old now new text rest e s p = (s.front, rest, s.joined, subst (λ (z : List ℕ). Puts old new z) (append-nil s.front) (puts_both old now new s.front [] s.puts p))
+so_far_fails old now new text rest e s p = let t = so_far_more old now new text rest [] rest s refl p in (t.front, rest, t.joined, t.puts)
 
 pub so_far_done : (old now : Option (List ℕ)) (text rest : List ℕ) → SoFar old now text rest → rest ≡ [] → Puts old now text
 so_far_done old now text rest s e = subst (λ (z : List ℕ). Puts old now z) (sym (s.joined ∙ ap (λ (z : List ℕ). s.front ++ z) e ∙ append-nil s.front)) s.puts

@@ -1,0 +1,43 @@
+-- A text that was sent is that of the input, or a front of it.
+use Rattle.std.proofs.Common.{◌≡◌, ℕ, List, [], ◌++◌, Option, Some, None, Result, Ok, Err, refl, sym, ap, subst, ◌∙◌, ◌⊎◌, inl, inr}
+use Rattle.std.specs.Prelude.{IfSome}
+use Rattle.ncc_header.specs.declared.fault.Fault.{Fault}
+use Rattle.ncc_header.specs.declared.fault.HeaderError.TheVariants as errors
+use Rattle.ncc_header.specs.declared.schema.Header.{Header}
+use Rattle.ncc_header.specs.Device.{Puts}
+use Rattle.ncc_header.specs.Answers.{Begins, Stops, AnswersOf}
+use Rattle.ncc_cli.specs.declared.answer.Answer.{Answer}
+use Rattle.ncc_cli.specs.declared.answer.Answer.TheVariants as answers
+use Rattle.ncc_cli.specs.declared.answer.Halt.{Halt}
+use Rattle.ncc_cli.specs.declared.answer.Halt.TheVariants as halts
+use Rattle.ncc_cli.specs.Texts.{list_text, fault_line}
+use Rattle.ncc_cli.specs.Listing.{IsListOf, IsFaultOf, Lists, Sends, answer_of}
+
+-- the laws of headers that make the text of an input one
+pub record Laws : Type 0 where
+  pub apart : (input : List ℕ) (limit : ℕ) (h : Header) (f : Fault) → Begins input limit h → Stops input limit f → ⊥
+  pub one_header : (input : List ℕ) (limit : ℕ) (h k : Header) → Begins input limit h → Begins input limit k → h ≡ k
+  pub one_stop : (input : List ℕ) (limit : ℕ) (f g : Fault) → Stops input limit f → Stops input limit g → f ≡ g
+
+one_text : Laws → (input : List ℕ) (limit : ℕ) (t u : List ℕ) → IsListOf input limit t ⊎ IsFaultOf input limit t → IsListOf input limit u ⊎ IsFaultOf input limit u → t ≡ u
+one_text laws input limit t u (inl a) (inl b) = a.2 ∙ ap (λ (h : Header). list_text h.schema) (laws.one_header input limit a.0 b.0 a.1 b.1) ∙ sym b.2
+one_text laws input limit t u (inl a) (inr b) = absurd (laws.apart input limit a.0 b.0 a.1 b.1)
+one_text laws input limit t u (inr a) (inl b) = absurd (laws.apart input limit b.0 a.0 b.1 a.1)
+one_text laws input limit t u (inr a) (inr b) = a.2 ∙ ap fault_line (laws.one_stop input limit a.0 b.0 a.1 b.1) ∙ sym b.2
+
+-- what went out of the text of this input, by the answer
+abbrev pub Gone : (input : List ℕ) (limit : ℕ) (old new : Option (List ℕ)) → Answer → Type 0
+Gone input limit old new answer = (out : List ℕ) × Puts old new out × Lists input limit answer out
+
+sent : Laws → (input : List ℕ) (limit : ℕ) (old new : Option (List ℕ)) (text : List ℕ) (answer : Answer) (result : Result (Unit {0}) Halt) → Lists input limit answer text → IsListOf input limit text ⊎ IsFaultOf input limit text → Sends old new text result → Gone input limit old new (answer_of result answer)
+sent laws input limit old new text answer (Ok x) l any s = (text, s, l)
+sent laws input limit old new text answer (Err halts.Device) l any s = (s.0, s.3, λ t a. (s.1, one_text laws input limit t text a any ∙ s.2))
+sent laws input limit old new text answer (Err halts.Memory) l any s = (s.0, s.3, λ t a. (s.1, one_text laws input limit t text a any ∙ s.2))
+
+pub sent_list : Laws → (left : Option (List ℕ)) (limit : ℕ) (old new : Option (List ℕ)) (h : Header) (result : Result (Unit {0}) Halt) → IfSome left (λ input. AnswersOf input limit (Ok h)) → Sends old new (list_text h.schema) result → IfSome left (λ input. Gone input limit old new (answer_of result answers.Passed))
+sent_list laws None limit old new h result a s = tt
+sent_list laws (Some input) limit old new h result a s = sent laws input limit old new (list_text h.schema) answers.Passed result (h, a, refl) (inl (h, a, refl)) s
+
+pub sent_fault : Laws → (left : Option (List ℕ)) (limit : ℕ) (old new : Option (List ℕ)) (f : Fault) (result : Result (Unit {0}) Halt) → IfSome left (λ input. AnswersOf input limit (Err (errors.Fault f))) → Sends old new (fault_line f) result → IfSome left (λ input. Gone input limit old new (answer_of result answers.Refused))
+sent_fault laws None limit old new f result a s = tt
+sent_fault laws (Some input) limit old new f result a s = sent laws input limit old new (fault_line f) answers.Refused result (f, a, refl) (inr (f, a, refl)) s

@@ -1,0 +1,77 @@
+//! `list`: what the header alone says.
+
+ghost use Rattle.std.specs.Prelude.{◌≡◌, ◌⊎◌, ℕ, List, IfSome};
+ghost use Rattle.ncc_header.specs.Device.{Puts, Rose};
+ghost use Rattle.ncc_cli.specs.Texts.{dim_lines, list_text, fault_line};
+ghost use Rattle.ncc_cli.specs.Listing.{Lists, Sends, Blames, answer_of};
+
+use crate::answer::{Answer, Halt};
+use crate::texts::{push_dim, push_fault, push_head};
+use ncc_header::{Dim, Fault, HeaderError, Schema, Sink, Source, laws, read_header, write_all};
+use std::alloc::Global;
+
+/// Sends a line for each dimension.
+fn send_dims<W: Sink>(alloc: Global, dims: &[Dim], sink: &mut W) -> Result<(), Halt>
+    ensures sent { Sends (W.put sink.old) (W.put sink.new) (dim_lines 0 dims.now) result }
+    ensures count { Blames (W.failures sink.old) (W.failures sink.new) result }
+{
+    for (number, dim) in dims.iter().enumerate() {
+        let mut line = Vec::new(alloc);
+        push_dim(&mut line, number, dim)?;
+        write_all(sink, &line)?;
+    }
+    Ok(())
+}
+
+/// Sends the lines of a header.
+fn send_list<W: Sink>(alloc: Global, schema: &Schema, sink: &mut W) -> Result<(), Halt>
+    ensures sent { Sends (W.put sink.old) (W.put sink.new) (list_text schema.now) result }
+    ensures count { Blames (W.failures sink.old) (W.failures sink.new) result }
+{
+    let mut head = Vec::new(alloc);
+    push_head(&mut head, schema)?;
+    write_all(sink, &head)?;
+    send_dims(alloc, schema.dims.as_slice(), sink)
+}
+
+/// Sends the line of a fault.
+fn send_fault<W: Sink>(alloc: Global, fault: Fault, sink: &mut W) -> Result<(), Halt>
+    ensures sent { Sends (W.put sink.old) (W.put sink.new) (fault_line fault) result }
+    ensures count { Blames (W.failures sink.old) (W.failures sink.new) result }
+{
+    let mut line = Vec::new(alloc);
+    push_fault(&mut line, fault)?;
+    write_all(sink, &line)?;
+    Ok(())
+}
+
+/// This answer, where the text went out.
+fn answered(sent: Result<(), Halt>, answer: Answer) -> Answer
+    ensures { result ≡ answer_of sent answer }
+{
+    match sent {
+        Ok(()) => answer,
+        Err(Halt::Device) => Answer::Device,
+        Err(Halt::Memory) => Answer::Memory,
+    }
+}
+
+/// Writes the lines of the header at the front of the source, of at most `limit` bytes, or the line
+/// of its fault.
+pub fn list_engine<R: Source, W: Sink>(
+    alloc: Global,
+    source: &mut R,
+    limit: u64,
+    sink: &mut W,
+) -> Answer
+    ensures lists { IfSome (R.left source.old) (λ input. (out : List ℕ) × Puts (W.put sink.old) (W.put sink.new) out × Lists input limit result out) }
+    ensures device { result ≡ Answer.Device → Rose (R.failures source.old) (R.failures source.new) ⊎ Rose (W.failures sink.old) (W.failures sink.new) }
+{
+    laws::header_or_stop();
+    match read_header(alloc, source, limit) {
+        Ok(header) => answered(send_list(alloc, &header.schema, sink), Answer::Passed),
+        Err(HeaderError::Fault(fault)) => answered(send_fault(alloc, fault, sink), Answer::Refused),
+        Err(HeaderError::Device) => Answer::Device,
+        Err(HeaderError::Memory) => Answer::Memory,
+    }
+}

@@ -1,0 +1,8 @@
+//! `ncc`: lists netCDF classic files.
+#![tactic(auto)]
+
+mod answer;
+mod listing;
+mod texts;
+
+fn main() {}

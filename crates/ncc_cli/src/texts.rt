@@ -1,0 +1,132 @@
+//! The lines that are printed.
+
+ghost use Rattle.std.specs.Prelude.{◌≡◌, ◌++◌, ◌<◌, decimal, OnOk};
+ghost use Rattle.ncc_cli.specs.Texts.{hex_digit, escaped, name_text, format_line, records_line, head_lines, length_text, dim_line, kind_text, fault_line};
+
+use itoa::Buffer;
+use ncc_header::{Count, Dim, Fault, FaultKind, Schema, Version};
+use std::alloc::AllocError;
+
+/// A hexadecimal digit, in lower case.
+fn digit(n: u8) -> u8
+    requires { n < 16 }
+    ensures { result ≡ hex_digit n }
+{
+    if n < 10 { b'0' + n } else { b'a' - 10 + n }
+}
+
+/// Adds a byte of a name, as it is printed.
+fn push_escaped(out: &mut Vec<u8>, b: u8) -> Result<(), AllocError>
+    ensures { OnOk result (out.new.items ≡ out.old.items ++ escaped b) }
+{
+    if 32 < b && b < 127 && b != b'\\' {
+        out.push(b)?;
+        return Ok(());
+    }
+    out.extend_from_slice(&[b'\\', b'x', digit(b / 16), digit(b % 16)])?;
+    Ok(())
+}
+
+fn push_name(out: &mut Vec<u8>, name: &[u8]) -> Result<(), AllocError>
+    ensures { OnOk result (out.new.items ≡ out.old.items ++ name_text name.now) }
+{
+    for b in name {
+        push_escaped(out, *b)?;
+    }
+    Ok(())
+}
+
+fn push_decimal(out: &mut Vec<u8>, n: u64) -> Result<(), AllocError>
+    ensures { OnOk result (out.new.items ≡ out.old.items ++ decimal n) }
+{
+    let mut buffer = Buffer::new();
+    out.extend_from_slice(buffer.format(n).as_bytes())?;
+    Ok(())
+}
+
+fn push_version(out: &mut Vec<u8>, version: Version) -> Result<(), AllocError>
+    ensures { OnOk result (out.new.items ≡ out.old.items ++ format_line version) }
+{
+    match version {
+        Version::V1 => out.extend_from_slice(b"format CDF-1\n")?,
+        Version::V2 => out.extend_from_slice(b"format CDF-2\n")?,
+        Version::V5 => out.extend_from_slice(b"format CDF-5\n")?,
+    }
+    Ok(())
+}
+
+fn push_records(out: &mut Vec<u8>, count: Count) -> Result<(), AllocError>
+    ensures { OnOk result (out.new.items ≡ out.old.items ++ records_line count) }
+{
+    match count {
+        Count::Known(n) => {
+            out.extend_from_slice(b"records ")?;
+            push_decimal(out, n)?;
+            out.extend_from_slice(b"\n")?;
+        }
+        Count::Streaming => out.extend_from_slice(b"records streaming\n")?,
+    }
+    Ok(())
+}
+
+fn push_length(out: &mut Vec<u8>, length: u64) -> Result<(), AllocError>
+    ensures { OnOk result (out.new.items ≡ out.old.items ++ length_text length) }
+{
+    if length == 0 {
+        out.extend_from_slice(b"unlimited")?;
+        return Ok(());
+    }
+    push_decimal(out, length)
+}
+
+/// Adds the line of a dimension.
+#[tactic(auto, unfolding(crate::specs::Texts::dim_line))]
+pub fn push_dim(out: &mut Vec<u8>, number: usize, dim: &Dim) -> Result<(), AllocError>
+    ensures { OnOk result (out.new.items ≡ out.old.items ++ dim_line number dim.now) }
+{
+    out.extend_from_slice(b"dimension ")?;
+    push_decimal(out, number as u64)?;
+    out.extend_from_slice(b" ")?;
+    push_name(out, dim.name.as_slice())?;
+    out.extend_from_slice(b" ")?;
+    push_length(out, dim.length)?;
+    out.extend_from_slice(b"\n")?;
+    Ok(())
+}
+
+/// Adds the lines of the format and the number of records.
+pub fn push_head(out: &mut Vec<u8>, schema: &Schema) -> Result<(), AllocError>
+    ensures { OnOk result (out.new.items ≡ out.old.items ++ head_lines schema.now) }
+{
+    push_version(out, schema.version)?;
+    push_records(out, schema.count)
+}
+
+/// The word that names a fault.
+fn kind_word(kind: FaultKind) -> &'static str
+    ensures { result.now ≡ kind_text kind }
+{
+    match kind {
+        FaultKind::Unsupported => "Unsupported",
+        FaultKind::BadMagic => "BadMagic",
+        FaultKind::BadVersion => "BadVersion",
+        FaultKind::NegativeCount => "NegativeCount",
+        FaultKind::BadTag => "BadTag",
+        FaultKind::TwoRecordDims => "TwoRecordDims",
+        FaultKind::HeaderTooLong => "HeaderTooLong",
+        FaultKind::EndsEarly => "EndsEarly",
+    }
+}
+
+/// Adds the line of a fault.
+#[tactic(auto, unfolding(crate::specs::Texts::fault_line))]
+pub fn push_fault(out: &mut Vec<u8>, fault: Fault) -> Result<(), AllocError>
+    ensures { OnOk result (out.new.items ≡ out.old.items ++ fault_line fault) }
+{
+    out.extend_from_slice(b"fault ")?;
+    out.extend_from_slice(kind_word(fault.kind).as_bytes())?;
+    out.extend_from_slice(b" at ")?;
+    push_decimal(out, fault.offset)?;
+    out.extend_from_slice(b"\n")?;
+    Ok(())
+}
