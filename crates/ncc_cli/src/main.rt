@@ -3,6 +3,16 @@
 
 mod answer;
 mod listing;
+mod run;
+#[cfg(test)]
+mod tests;
 mod texts;
 
-fn main() {}
+use std::process::ExitCode;
+use std::{env, io};
+
+fn main(rt: HostRuntime) -> io::Result<ExitCode> {
+    let words: Vec<String> = env::args(&rt)?.collect(rt.alloc())?;
+    let status = run::run(&rt, &words, &mut rt.stdout(), &mut rt.stderr());
+    Ok(ExitCode::from(status))
+}

@@ -1,0 +1,3 @@
+//! Rows of `list`, of the statuses and of what is printed.
+
+use crate::answer::Answer;
