@@ -1,5 +1,5 @@
 -- Sending a text line by line.
-use Rattle.std.proofs.Common.{◌≡◌, ℕ, ◌+◌, ◌<◌, List, ◌∷◌, ◌++◌, length, drop, get_or, Option, Result, Ok, Err, refl, sym, ap, ap₂, ◌∙◌, append_assoc}
+use Rattle.std.proofs.Common.{◌≡◌, ℕ, ◌+◌, ◌<◌, List, [], ◌++◌, length, drop, get_or, Option, Result, Ok, Err, sym, ap, ◌∙◌, append_assoc}
 use Rattle.std.proofs.lemmas.List.{drop_more}
 use Rattle.ncc_header.specs.declared.failed.Failed.{Failed}
 use Rattle.ncc_header.specs.declared.schema.Dim.{Dim}
@@ -8,6 +8,10 @@ use Rattle.ncc_header.proofs.Writing.{SoFar, so_far_more, puts_both}
 use Rattle.ncc_cli.specs.declared.answer.Halt.{Halt}
 use Rattle.ncc_cli.specs.Listing.{Sends}
 use Rattle.ncc_cli.specs.Texts.{dim_line, dim_lines}
+
+-- what was pushed onto an empty buffer
+pub pushed : (sent buffer empty text : List ℕ) → sent ≡ buffer → buffer ≡ empty ++ text → empty ≡ [] → sent ≡ text
+pushed sent buffer empty text s b e = s ∙ b ∙ ap (λ (t : List ℕ). t ++ text) e
 
 -- the line of a dimension, and then those that follow
 pub next_line : (dims : List Dim) (number : ℕ) (d : Dim) (line : List ℕ) → number < length dims → d ≡ get_or dims number d → line ≡ dim_line number d → dim_lines number (drop number dims) ≡ line ++ dim_lines (number + 1) (drop (number + 1) dims)

@@ -1,6 +1,7 @@
 //! The command line.
 
-ghost use Rattle.std.specs.Prelude.{◌≤◌};
+ghost use Rattle.std.specs.Prelude.{◌≡◌, ◌≤◌};
+ghost use Rattle.ncc_cli.specs.Status.{status_of};
 
 use crate::answer::Answer;
 use crate::listing::list_engine;
@@ -18,8 +19,11 @@ const LIMIT: u64 = 67_108_864;
 /// The program's statuses: it passed, the file was refused, the words were wrong, or a device or
 /// memory failed.
 const PASSED: u8 = 0;
+
 const REFUSED: u8 = 1;
+
 const USAGE: u8 = 2;
+
 const FAILED: u8 = 3;
 
 fn command<'a>(alloc: Global) -> Result<Command<'a>, AllocError> {
@@ -33,7 +37,7 @@ fn command<'a>(alloc: Global) -> Result<Command<'a>, AllocError> {
     Command::new(alloc, "ncc")
         .bin_name("ncc")?
         .version("0.1.0")
-        .about("Checks, reads and writes netCDF classic files")
+        .about("Lists the headers of netCDF classic files")
         .subcommand_required(true)
         .arg_required_else_help(true)
         .subcommand(list)
@@ -42,7 +46,7 @@ fn command<'a>(alloc: Global) -> Result<Command<'a>, AllocError> {
 /// Says on `err` what kept the command from its end, as far as that can be written, and gives the
 /// status.
 fn finish<E: Write>(answer: Answer, err: &mut E) -> u8
-    ensures { result ≤ 3 }
+    ensures { result ≡ status_of answer }
 {
     match answer {
         Answer::Passed => PASSED,

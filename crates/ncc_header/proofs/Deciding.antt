@@ -58,8 +58,8 @@ fed_answers taken piece limit (Done used) result f a =
 pub done_answers : (taken piece more : List ℕ) (limit used : ℕ) (result : Result Header HeaderError) → Feeds taken piece limit (Ok (Done used)) → Answers (taken ++ take used piece) limit result → Answers ((taken ++ piece) ++ more) limit result
 done_answers taken piece more limit used result f a =
     let all : (taken ++ take used piece) ++ (drop used piece ++ more) ≡ (taken ++ piece) ++ more =
-        sym (append_assoc (taken ++ take used piece) (drop used piece) more)
-        ∙ ap (λ (x : List ℕ). x ++ more) (append_assoc taken (take used piece) (drop used piece) ∙ ap (λ (x : List ℕ). taken ++ x) (take-append-drop used piece)) in
+    sym (append_assoc (taken ++ take used piece) (drop used piece) more)
+    ∙ ap (λ (x : List ℕ). x ++ more) (append_assoc taken (take used piece) (drop used piece) ∙ ap (λ (x : List ℕ). taken ++ x) (take-append-drop used piece)) in
     subst (λ (input : List ℕ). Answers input limit result) all (whole_answers (taken ++ take used piece) (drop used piece ++ more) limit result f.1 a)
 
 -- what is answered of all bytes within the limit is answered of them and all that follows

@@ -1,12 +1,11 @@
 -- What a decoder has taken once it was fed a piece.
-use Rattle.std.proofs.Common.{◌≡◌, ℕ, zero, suc, ◌+◌, ◌<◌, ◌≤◌, max, List, [], ◌∷◌, ◌++◌, length, take, get_or, Option, Some, None, Ok, refl, sym, ap, ap₂, subst, ◌∙◌, inl, inr, append_assoc, append-nil, arith}
+use Rattle.std.proofs.Common.{◌≡◌, ℕ, ◌+◌, ◌<◌, ◌≤◌, max, List, [], ◌++◌, length, take, Option, Some, None, Ok, refl, sym, ap, ap₂, subst, ◌∙◌, inl, inr, append_assoc, append-nil, arith}
 use Rattle.std.proofs.lemmas.List.{length-append, take_all, nil_from_length}
 use Rattle.std.specs.Prelude.{unwrap_or}
 use Rattle.std.proofs.lemmas.Bool.{cases_lt, le-ltb, lt-ltb}
 use Rattle.ncc_values.specs.Numbers.{IsBytes}
 use Rattle.ncc_values.proofs.BigEndian.{bytes-append, bytes-take}
 use Rattle.ncc_header.specs.declared.fault.FaultKind.TheVariants.{EndsEarly}
-use Rattle.ncc_header.specs.declared.fault.Fault.{Fault}
 use Rattle.ncc_header.specs.declared.fault.HeaderError.{HeaderError}
 use Rattle.ncc_header.specs.declared.fault.HeaderError.TheVariants as errors
 use Rattle.ncc_header.specs.declared.reading.Reading.{Reading}
@@ -17,7 +16,7 @@ use Rattle.ncc_header.specs.Fields.{header}
 use Rattle.ncc_header.specs.Answers.{Begins, Stops}
 use Rattle.ncc_header.specs.States.{left_of, size_of}
 use Rattle.ncc_header.specs.Reading.{held_of, onward, Takes, FailsBehind, Waits}
-use Rattle.ncc_header.specs.Standing.{HasTaken, FailedOn, IsWhole, Feeds, fed_of, front_taken, cut_at}
+use Rattle.ncc_header.specs.Standing.{HasTaken, FailedOn, Feeds, fed_of, front_taken, cut_at}
 use Rattle.ncc_header.proofs.OneField.{field_ends_early, field_too_long}
 use Rattle.ncc_header.proofs.HeaderLaws.{header_stop_stays, begins_with_read}
 
@@ -70,7 +69,7 @@ whole_header r taken s t is =
     let empty : length (held_of r) ≡ 0 = ap length none in
     let long : r.at ≡ length taken = omega (arith, empty, t.long) in
     let all : read header r.limit 0 (taken ++ []) ≡ reads s r.at [] =
-        t.goes_on [] ∙ ap₂ (λ (g : Grammar Schema) (h : List ℕ). read g r.limit r.at (h ++ [])) is none ∙ read_none s r.limit r.at [] in
+    t.goes_on [] ∙ ap₂ (λ (g : Grammar Schema) (h : List ℕ). read g r.limit r.at (h ++ [])) is none ∙ read_none s r.limit r.at [] in
     let whole = begins_with_read taken [] r.limit r.at s (bytes-append taken [] t.bytes tt) long all in
     (whole.0, whole.1, long)
 
@@ -85,8 +84,8 @@ feeds old new taken piece used (Some n) bytes t k waits within all is =
     let front : take used piece ≡ piece = ap (λ (m : ℕ). take m piece) (all n is) ∙ take_all (length piece) piece (omega arith) in (
       record { kind = EndsEarly; offset = new.at },
       ap (λ (input : List ℕ). read header old.limit 0 (taken ++ input)) (sym front)
-      ∙ ap (λ (limit : ℕ). read header limit 0 (taken ++ take used piece)) (sym k.limit)
-      ∙ ends_early new (taken ++ take used piece) n t2 is (waits n is).0,
+          ∙ ap (λ (limit : ℕ). read header limit 0 (taken ++ take used piece)) (sym k.limit)
+          ∙ ends_early new (taken ++ take used piece) n t2 is (waits n is).0,
       refl,
     )
 feeds old new taken piece used None bytes t k waits within all is =

@@ -1,5 +1,5 @@
 -- Reading a header from a source by turns.
-use Rattle.std.proofs.Common.{◌≡◌, ℕ, ◌+◌, ◌≤◌, List, [], ◌++◌, length, take, Option, Some, None, Result, Ok, Err, refl, sym, ap, subst, ◌∙◌, append_assoc, append-nil, arith}
+use Rattle.std.proofs.Common.{◌≡◌, ℕ, ◌+◌, ◌≤◌, List, [], ◌++◌, length, Option, Some, None, Result, Ok, Err, refl, sym, ap, subst, ◌∙◌, append_assoc, append-nil, arith}
 use Rattle.std.specs.Prelude.{IfSome}
 use Rattle.std.specs.Io.KnownBytes.{IsAtEnd}
 use Rattle.std.proofs.lemmas.List.{length-append}
@@ -13,7 +13,7 @@ use Rattle.ncc_header.specs.Device.{Loses}
 use Rattle.ncc_header.specs.Answers.{Answers, AnswersOf}
 use Rattle.ncc_header.specs.Decoder.{Took, limit_of}
 use Rattle.ncc_header.specs.Standing.{FailedOn, Feeds, front_taken}
-use Rattle.ncc_header.proofs.Deciding.{fed_answers, done_answers, covered_answers}
+use Rattle.ncc_header.proofs.Deciding.{done_answers, covered_answers}
 use Rattle.ncc_header.proofs.HeaderLaws.{header_stop_stays}
 
 -- ---- bytes that are lost by turns

@@ -1,23 +1,22 @@
 -- The laws of headers.
-use Rattle.std.proofs.Common.{◌≡◌, ◌≢◌, ℕ, zero, suc, ◌+◌, ◌≤◌, List, [], ◌∷◌, ◌++◌, length, refl, sym, ap, ap₂, subst, ◌∙◌, arith, ◌⊎◌, inl, inr}
+use Rattle.std.proofs.Common.{◌≡◌, ◌≢◌, ℕ, zero, suc, ◌≤◌, List, [], ◌∷◌, ◌++◌, length, refl, sym, ap, subst, ◌∙◌, arith, ◌⊎◌, inl, inr}
 use Rattle.std.proofs.lemmas.List.{append_cancel_right}
 use Rattle.std.specs.List.{flat_map}
-use Rattle.ncc_values.specs.Numbers.{IsBytes, big_endian}
+use Rattle.ncc_values.specs.Numbers.{IsBytes}
 use Rattle.ncc_values.specs.Padding.{padding_of}
 use Rattle.ncc_values.specs.declared.version.Version.{Version}
 use Rattle.ncc_header.specs.declared.fault.Fault.{Fault}
-use Rattle.ncc_header.specs.declared.fault.FaultKind.{FaultKind}
 use Rattle.ncc_header.specs.declared.fault.FaultKind.TheVariants.{EndsEarly}
 use Rattle.ncc_header.specs.declared.schema.Dim.{Dim}
 use Rattle.ncc_header.specs.declared.schema.Schema.{Schema}
 use Rattle.ncc_header.specs.declared.schema.Header.{Header}
-use Rattle.ncc_header.specs.Grammar.{Spells, Outcome, reads, stops, read}
+use Rattle.ncc_header.specs.Grammar.{Spells, reads, read}
 use Rattle.ncc_header.specs.Schema.{Legal}
 use Rattle.ncc_header.specs.Header.{◌⨾◌, any_bytes, each, IsHeader, zeros, canon_name, canon_head, canon_list, canon_dim, canon}
 use Rattle.ncc_header.specs.Header as spelled
 use Rattle.ncc_header.specs.Fields.{header}
 use Rattle.ncc_header.specs.Answers.{Begins, Stops}
-use Rattle.ncc_header.proofs.GrammarLaws.{one_spelling, spelled-is_read, read-is_spelled, begins_or_stops, not_both, one_stop, stop_stays, limit_covers}
+use Rattle.ncc_header.proofs.GrammarLaws.{one_spelling, read-is_spelled, begins_or_stops, not_both, one_stop, stop_stays, limit_covers}
 use Rattle.ncc_header.proofs.Rules.{exact_header}
 
 -- the fields of a header spell it, and what they spell is a header

@@ -19,7 +19,7 @@ use Rattle.ncc_header.specs.Grammar.{Plain, Grammar, done, Spells, ◌>>=◌, �
 use Rattle.ncc_header.specs.Schema.{count_limit, length_limit, mark, record_dims, LegalName, LegalDim, LegalCount, IsSupported, Legal}
 use Rattle.ncc_header.specs.Header.{exactly, each, list_tag}
 use Rattle.ncc_header.specs.Header as spelled
-use Rattle.ncc_header.specs.Fields.{unless, first, at_tag_if, magic_wrong, version_wrong, count_wrong, tag_wrong, list_count_wrong, no_count_wrong, length_wrong, number_field, number, count, name, label_of_count, list_count, list_head, list, no_count, no_list, dim, magic, version, numrecs, count_of, header}
+use Rattle.ncc_header.specs.Fields.{unless, first, at_tag_if, magic_wrong, version_wrong, count_wrong, tag_wrong, list_count_wrong, no_count_wrong, length_wrong, number_field, number, count, name, label_of_count, list_head, list, no_count, no_list, dim, magic, version, numrecs, count_of, header}
 use Rattle.ncc_header.proofs.GrammarLaws.{joined, join}
 use Rattle.ncc_header.proofs.Exact.{Exact, exact_then, exact_into, exact_fits, ◌then◌, flat, exact_as, exact_counted, AllAfter, exact_number, exact_bytes, exact_padding}
 

@@ -1,5 +1,5 @@
 -- What a reading has still to read, once bytes were taken.
-use Rattle.std.proofs.Common.{◌≡◌, ℕ, ◌+◌, ◌-◌, ◌<◌, ◌≤◌, List, [], ◌++◌, length, Some, refl, sym, ap, ap₂, subst₂, ◌∙◌, append_assoc, arith, Err}
+use Rattle.std.proofs.Common.{◌≡◌, ℕ, ◌+◌, ◌≤◌, List, [], ◌++◌, length, Some, sym, ap, ap₂, subst₂, ◌∙◌, append_assoc, arith, Err}
 use Rattle.std.proofs.lemmas.List.{length-append}
 use Rattle.ncc_header.specs.declared.reading.Reading.{Reading}
 use Rattle.ncc_header.specs.declared.state.State.{State}
@@ -7,8 +7,8 @@ use Rattle.ncc_header.specs.declared.state.StepError.{StepError}
 use Rattle.ncc_header.specs.declared.state.StepError.TheVariants as steps
 use Rattle.ncc_header.specs.declared.schema.Schema.{Schema}
 use Rattle.ncc_header.specs.Grammar.{Grammar, read}
-use Rattle.ncc_header.specs.States.{left_of, size_of, front_of, Advances, IsRefused, IsFresh, Steps}
-use Rattle.ncc_header.specs.Reading.{held_of, onward, told_of, Takes, StopsBehind, FailsBehind}
+use Rattle.ncc_header.specs.States.{left_of, size_of, front_of, Advances, IsRefused, Steps}
+use Rattle.ncc_header.specs.Reading.{held_of, told_of, Takes, FailsBehind}
 use Rattle.ncc_header.proofs.OneField.{field_goes_on, field_is_refused}
 use Rattle.ncc_header.proofs.RefusedKinds.{refused_other}
 

@@ -1,13 +1,6 @@
 -- What a decoder has taken, and what it answers.
-use Rattle.std.specs.Prelude.{◌≡◌, ◌≢◌, ℕ, ◌+◌, ◌≤◌, ◌<◌, List, ◌++◌, length, take, Some, Result, Ok, Err}
-use Rattle.ncc_values.specs.Numbers.{IsBytes}
+use Rattle.std.specs.Prelude.{ℕ, List}
 use Rattle.ncc_header.specs.declared.decoder.Decoder.{Decoder}
-use Rattle.ncc_header.specs.declared.fault.Fault.{Fault}
-use Rattle.ncc_header.specs.declared.fault.FaultKind.TheVariants.{EndsEarly}
-use Rattle.ncc_header.specs.declared.fault.HeaderError.{HeaderError}
-use Rattle.ncc_header.specs.declared.schema.Schema.{Schema}
-use Rattle.ncc_header.specs.declared.standing.Fed.{Fed}
-use Rattle.ncc_header.specs.declared.standing.Standing.{Standing}
 use Rattle.ncc_header.specs.Standing.{limit_at, TookAt, IsSpentAt}
 
 -- how long a header may be, in bytes

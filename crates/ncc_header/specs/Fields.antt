@@ -1,5 +1,5 @@
 -- The header as a sequence of fields, each with what it is judged for.
-use Rattle.std.specs.Prelude.{ℕ, List, [], length, Option, Some, None, Bool, true, false, ltb, is_some, not, ◌==◌, ◌&&◌, ◌||◌, if◌then◌else◌, unwrap_or}
+use Rattle.std.specs.Prelude.{ℕ, List, [], Option, Some, None, Bool, true, false, ltb, is_some, not, ◌==◌, ◌&&◌, ◌||◌, if◌then◌else◌, unwrap_or}
 use Rattle.ncc_values.specs.Numbers.{number_of}
 use Rattle.ncc_values.specs.Padding.{padding_of}
 use Rattle.ncc_values.specs.Version.{version_of, count_width_of}

@@ -1,5 +1,5 @@
 -- How much of the next field has come.
-use Rattle.std.specs.Prelude.{ℕ, List, length, Option, unwrap_or}
+use Rattle.std.specs.Prelude.{ℕ, List, length, unwrap_or}
 use Rattle.ncc_header.specs.declared.state.State.{State}
 use Rattle.ncc_header.specs.States.{left_of, size_of, front_of}
 

@@ -1,6 +1,5 @@
 -- What a reading has taken, and what it has still to read.
-use Rattle.std.specs.Prelude.{◌≡◌, ◌≢◌, ℕ, ◌+◌, ◌-◌, ◌≤◌, ◌<◌, List, [], ◌++◌, length, Some, None, Result, Ok, Err}
-use Rattle.ncc_values.specs.Numbers.{IsBytes}
+use Rattle.std.specs.Prelude.{◌≡◌, ◌≢◌, ℕ, ◌+◌, ◌-◌, ◌≤◌, ◌<◌, List, ◌++◌, length, Some}
 use Rattle.ncc_header.specs.declared.fault.Fault.{Fault}
 use Rattle.ncc_header.specs.declared.fault.FaultKind.TheVariants.{EndsEarly}
 use Rattle.ncc_header.specs.declared.fault.HeaderError.{HeaderError}
@@ -10,7 +9,6 @@ use Rattle.ncc_header.specs.declared.schema.Schema.{Schema}
 use Rattle.ncc_header.specs.declared.state.StepError.{StepError}
 use Rattle.ncc_header.specs.declared.state.StepError.TheVariants as steps
 use Rattle.ncc_header.specs.Grammar.{Outcome, read, stops}
-use Rattle.ncc_header.specs.Fields.{header}
 use Rattle.ncc_header.specs.States.{left_of, size_of, front_of}
 
 -- the bytes of the next field that have come

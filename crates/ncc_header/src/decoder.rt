@@ -35,11 +35,7 @@ fn fed(reading: &Reading, used: usize) -> Fed
 }
 
 /// Takes a piece.
-fn advance(
-    alloc: Global,
-    standing: Standing,
-    piece: &[u8],
-) -> (Standing, Result<Fed, HeaderError>)
+fn advance(alloc: Global, standing: Standing, piece: &[u8]) -> (Standing, Result<Fed, HeaderError>)
     ensures limit { limit_at result.0 ≡ limit_at standing }
     ensures answers { (taken : List ℕ) → TookAt standing taken → Feeds taken piece.now (limit_at standing) result.1 }
     ensures takes { (taken : List ℕ) → TookAt standing taken → TookAt result.0 (taken ++ front_taken result.1 piece.now) }
@@ -135,7 +131,11 @@ impl Decoder {
         ensures few { (taken : List ℕ) → Took self.old taken → length taken + length piece.now ≤ 8 → result ≡ Err HeaderError.Memory → IsSpent self.old }
     {
         let unused = Standing::Failed(0, HeaderError::Memory);
-        let (standing, answer) = advance(self.alloc, mem::replace(&mut self.standing, unused), piece);
+        let (standing, answer) = advance(
+            self.alloc,
+            mem::replace(&mut self.standing, unused),
+            piece,
+        );
         self.standing = standing;
         answer
     }

@@ -107,9 +107,7 @@ pub fn tag(own: u64, tag: u64) -> Result<(), Wrong>
 pub fn list_count(version: Version, tag: u64, n: u64) -> Result<(), Wrong>
     ensures { Judges (list_count_wrong version tag n) result }
 {
-    if n >= limit_of_counts(version) {
-        return refused(FaultKind::NegativeCount);
-    }
+    count(version, n)?;
     if tag == 0 && n != 0 {
         return refused_tag(FaultKind::BadTag);
     }
@@ -120,12 +118,7 @@ pub fn list_count(version: Version, tag: u64, n: u64) -> Result<(), Wrong>
 pub fn no_count(version: Version, tag: u64, n: u64) -> Result<(), Wrong>
     ensures { Judges (no_count_wrong version tag n) result }
 {
-    if n >= limit_of_counts(version) {
-        return refused(FaultKind::NegativeCount);
-    }
-    if tag == 0 && n != 0 {
-        return refused_tag(FaultKind::BadTag);
-    }
+    list_count(version, tag, n)?;
     if n != 0 {
         return refused_tag(FaultKind::Unsupported);
     }

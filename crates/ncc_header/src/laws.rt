@@ -13,8 +13,7 @@ ghost use Rattle.ncc_header.specs.Answers.{Begins, Stops};
 /// Of the fronts of one input one is a header at most, and of one schema.
 pub fn one_header()
     ensures { (s t : Schema) (b c x y : List ℕ) → IsHeader s b → IsHeader t c → b ++ x ≡ c ++ y → (b ≡ c) × (s ≡ t) }
-{
-}
+{}
 
 /// Each input begins with a header within the limit, or stops with exactly one fault, and never both.
 pub fn header_or_stop()
@@ -22,23 +21,19 @@ pub fn header_or_stop()
     ensures apart { (input : List ℕ) (limit : ℕ) (h : Header) (f : Fault) → Begins input limit h → Stops input limit f → ⊥ }
     ensures one_header { (input : List ℕ) (limit : ℕ) (h k : Header) → Begins input limit h → Begins input limit k → h ≡ k }
     ensures one_stop { (input : List ℕ) (limit : ℕ) (f g : Fault) → Stops input limit f → Stops input limit g → f ≡ g }
-{
-}
+{}
 
 /// A fault other than an early end stays, whatever bytes follow.
 pub fn stop_stays()
     ensures { (input more : List ℕ) (limit : ℕ) (f : Fault) → Stops input limit f → f.kind ≢ EndsEarly → Stops (input ++ more) limit f }
-{
-}
+{}
 
 /// Bytes past the limit take no part in a fault.
 pub fn limit_covers()
     ensures { (input more : List ℕ) (limit : ℕ) (f : Fault) → Stops input limit f → limit ≤ length input → Stops (input ++ more) limit f }
-{
-}
+{}
 
 /// The canonical spelling of a legal schema is a header of it.
 pub fn canonical_header()
     ensures { (s : Schema) → Legal s → IsHeader s (canon s) }
-{
-}
+{}

@@ -16,6 +16,8 @@ mod standing;
 mod state;
 mod step;
 mod taking;
+#[cfg(test)]
+mod tests;
 mod wrong;
 
 pub use decoder::Decoder;

@@ -17,7 +17,9 @@ use std::alloc::{AllocError, AllocFailed, Global};
 
 /// The tags of the lists.
 const DIMENSIONS: u64 = 10;
+
 const VARIABLES: u64 = 11;
+
 const ATTRIBUTES: u64 = 12;
 
 impl From<AllocFailed<Dim>> for StepError {

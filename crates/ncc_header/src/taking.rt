@@ -105,11 +105,7 @@ fn hold(reading: Reading, front: &[u8]) -> Result<Reading, HeaderError>
 }
 
 /// Takes the bytes of a piece as far as the header goes, and tells how many.
-pub fn take(
-    alloc: Global,
-    reading: Reading,
-    piece: &[u8],
-) -> Result<(Reading, usize), HeaderError>
+pub fn take(alloc: Global, reading: Reading, piece: &[u8]) -> Result<(Reading, usize), HeaderError>
     ensures within { IfOk result (λ x. x.1 ≤ length piece.now) }
     ensures takes { IfOk result (λ x. Takes reading x.0 (take x.1 piece.now)) }
     ensures waits { IfOk result (λ x. Waits x.0) }

@@ -1,13 +1,10 @@
-use Rattle.std.proofs.Common.{◌≡◌, ℕ, ◌++◌, List, [], length, take, Some, None, Ok, Result, refl, sym, ap, subst, subst₂, arith}
-use Rattle.std.proofs.lemmas.List.{nil_from_length}
+use Rattle.std.proofs.Common.{ℕ, ◌++◌, take, Ok, refl, sym, ap, subst, subst₂, arith}
 use Rattle.ncc_values.specs.Numbers.{IsBytes}
 use Rattle.ncc_values.proofs.BigEndian.{bytes-take, bytes-by_index}
-use Rattle.ncc_header.specs.declared.fault.HeaderError.{HeaderError}
 use Rattle.ncc_header.specs.declared.standing.Fed.{Fed}
 use Rattle.ncc_header.specs.declared.standing.Standing.{Standing}
 use Rattle.ncc_header.specs.States.{left_of, size_of}
-use Rattle.ncc_header.specs.Reading.{held_of}
-use Rattle.ncc_header.specs.Standing.{HasTaken, FailedOn, limit_at, TookAt, front_taken, Feeds}
+use Rattle.ncc_header.specs.Standing.{HasTaken, FailedOn, limit_at, TookAt, Feeds}
 use Rattle.ncc_header.proofs.Feeding.{has_taken_more, feeds, takes_fed, fails_after, fails_again}
 use Rattle.ncc_header.proofs.decoder.advance.Goals as goal
 

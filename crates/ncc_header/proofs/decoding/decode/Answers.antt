@@ -1,8 +1,5 @@
-use Rattle.std.proofs.Common.{◌≡◌, ℕ, [], Ok, Err, Result, sym, subst, ◌∙◌}
+use Rattle.std.proofs.Common.{ℕ, [], Ok, Err, subst, ◌∙◌}
 use Rattle.std.proofs.lemmas.Result.{err_from_is_err_and}
-use Rattle.ncc_header.specs.declared.fault.HeaderError.{HeaderError}
-use Rattle.ncc_header.specs.declared.schema.Header.{Header}
-use Rattle.ncc_header.specs.declared.standing.Fed.{Fed}
 use Rattle.ncc_header.specs.Answers.{Answers}
 use Rattle.ncc_header.specs.Standing.{FailedOn, Feeds, front_taken}
 use Rattle.ncc_header.proofs.Deciding.{header_or_memory, fault_or_memory, fed_answers, failed_answers}
@@ -22,7 +19,7 @@ returns-clause-answers c =
     let new = c.new-decoder.ensures in
     let feeds : Feeds [] input c.args.limit (Ok fed) = subst (λ (limit : ℕ). Feeds [] input limit (Ok fed)) new.limit (c.in_ok-_fed.ensures.answers [] new.took) in
     let answers : Answers (front_taken (Ok fed) input) c.args.limit c.finish.result = subst (λ (limit : ℕ). Answers (front_taken (Ok fed) input) limit c.finish.result) (c.in_ok-_fed.ensures.limit ∙ new.limit)
-        (c.finish.ensures.answers (front_taken (Ok fed) input) (c.in_ok-_fed.ensures.takes [] new.took)) in
+    (c.finish.ensures.answers (front_taken (Ok fed) input) (c.in_ok-_fed.ensures.takes [] new.took)) in
     fed_answers [] input c.args.limit fed c.finish.result feeds answers
 
 pub returns-clause-header : goal.returns-clause-header

@@ -1,8 +1,7 @@
-use Rattle.std.proofs.Common.{◌≡◌, ℕ, List, ◌++◌, Ok, sym, subst, ◌∙◌, arith}
+use Rattle.std.proofs.Common.{ℕ, List, ◌++◌, Ok, sym, subst, ◌∙◌, arith}
 use Rattle.std.proofs.lemmas.List.{length-take}
 use Rattle.std.proofs.lemmas.Result.{err_from_is_err_and}
 use Rattle.ncc_header.specs.declared.standing.Fed.{Fed}
-use Rattle.ncc_header.specs.declared.standing.Fed.TheVariants.{More}
 use Rattle.ncc_header.specs.Device.{Loses}
 use Rattle.ncc_header.specs.Decoder.{Took}
 use Rattle.ncc_header.specs.Standing.{front_taken}

@@ -1,5 +1,4 @@
-use Rattle.std.proofs.Common.{◌≡◌, ◌-◌, ℕ, List, length}
-use Rattle.ncc_header.specs.Decoder.{Took, limit_of}
+use Rattle.std.proofs.Common.{◌≡◌, ◌-◌}
 use Rattle.ncc_header.proofs.FromSource.{HasRead}
 use Rattle.ncc_header.proofs.from_source.read_header.Given as goal
 

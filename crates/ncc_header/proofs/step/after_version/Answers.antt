@@ -1,8 +1,7 @@
-use Rattle.std.proofs.Common.{◌≡◌, ℕ, Option, None, refl, ap, subst, arith}
+use Rattle.std.proofs.Common.{◌≡◌, ℕ, None, refl, ap, subst, arith}
 use Rattle.std.specs.Prelude.{unwrap_or}
 use Rattle.ncc_values.specs.Version.{version_of}
 use Rattle.ncc_values.specs.declared.version.Version.TheVariants.{V1}
-use Rattle.ncc_header.specs.declared.wrong.Wrong.{Wrong}
 use Rattle.ncc_header.specs.Fields.{version_wrong}
 use Rattle.ncc_header.specs.States.{from_version}
 use Rattle.ncc_header.proofs.step.after_version.Goals as goal
