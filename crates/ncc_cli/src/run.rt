@@ -45,7 +45,7 @@ fn command<'a>(alloc: Global) -> Result<Command<'a>, AllocError> {
 
 /// Says on `err` what kept the command from its end, as far as that can be written, and gives the
 /// status.
-fn finish<E: Write>(answer: Answer, err: &mut E) -> u8
+pub fn finish<E: Write>(answer: Answer, err: &mut E) -> u8
     ensures { result ≡ status_of answer }
 {
     match answer {
