@@ -1,10 +1,18 @@
 //! The values below the header of a netCDF classic file: versions, sizes, padding and lists.
 #![tactic(auto)]
 
+mod external;
 mod padding;
+mod raw;
 mod seq;
+mod signed;
+mod unsigned;
 mod version;
+mod xtype;
 
+pub use external::External;
 pub use padding::pad;
+pub use raw::{Char, F32Bits, F64Bits};
 pub use seq::Seq;
 pub use version::Version;
+pub use xtype::XType;
