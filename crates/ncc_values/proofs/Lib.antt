@@ -1,2 +1,3 @@
 pub mod BigEndian
+pub mod ElementsLemmas
 pub mod Reading

@@ -4,5 +4,6 @@ pub mod ExternalLaws
 pub mod Numbers
 pub mod Padding
 pub mod Raw
+pub mod Values
 pub mod Version
 pub mod XType

@@ -1,12 +1,14 @@
 //! The values below the header of a netCDF classic file: versions, sizes, padding and lists.
 #![tactic(auto)]
 
+mod elements;
 mod external;
 mod padding;
 mod raw;
 mod seq;
 mod signed;
 mod unsigned;
+mod values;
 mod version;
 mod xtype;
 
@@ -14,5 +16,6 @@ pub use external::External;
 pub use padding::pad;
 pub use raw::{Char, F32Bits, F64Bits};
 pub use seq::Seq;
+pub use values::Values;
 pub use version::Version;
 pub use xtype::XType;
