@@ -103,6 +103,13 @@ take-bytes_by number t k items fits =
     ap (take (k * size_of t)) (bytes_by-cut number t k items)
     ∙ take_at (bytes_by number t (take k items)) (bytes_by number t (drop k items)) (k * size_of t) (length-front number t k items fits)
 
+-- the bytes of the elements from first on, as many as fill the room
+pub bytes_by-between : {A : Type 0} (number : A → ℤ) (t : XType) (items : List A) (first count size width room : ℕ)
+    → width ≡ size_of t → room ≡ count * width → size ≡ count → first + count ≤ length items
+    → bytes_by number t (take size (drop first items)) ≡ take room (drop (first * width) (bytes_by number t items))
+bytes_by-between number t items first count size width room at_width at_room same fits =
+    rw (at_room, at_width, same, drop-bytes_by number t first items (omega arith)) (sym (take-bytes_by number t count (drop first items) (omega (arith, length-drop first items))))
+
 -- ---- both ways
 
 pub bytes_by-elements_from : {A : Type 0} (element : ℤ → A) (number : A → ℤ) (t : XType) (k : ℕ) (bytes : List ℕ)

@@ -1,6 +1,7 @@
 pub mod BigEndian
 pub mod External
 pub mod ExternalLaws
+pub mod Fill
 pub mod Numbers
 pub mod Padding
 pub mod Raw

@@ -3,6 +3,7 @@
 
 mod elements;
 mod external;
+mod fill;
 mod padding;
 mod raw;
 mod seq;
@@ -13,6 +14,7 @@ mod version;
 mod xtype;
 
 pub use external::External;
+pub use fill::fill_default;
 pub use padding::pad;
 pub use raw::{Char, F32Bits, F64Bits};
 pub use seq::Seq;
