@@ -1,3 +1,4 @@
 pub mod BigEndian
 pub mod ElementsLemmas
+pub mod NameLemmas
 pub mod Reading

@@ -4,6 +4,7 @@
 mod elements;
 mod external;
 mod fill;
+mod name;
 mod padding;
 mod raw;
 mod seq;
@@ -15,6 +16,7 @@ mod xtype;
 
 pub use external::External;
 pub use fill::fill_default;
+pub use name::name_fits;
 pub use padding::pad;
 pub use raw::{Char, F32Bits, F64Bits};
 pub use seq::Seq;
