@@ -1,5 +1,5 @@
 -- Elements one after the other, and their bytes.
-use Rattle.std.proofs.Common.{◌≡◌, ℕ, zero, suc, ◌+◌, ◌-◌, ◌*◌, ◌/◌, ◌≤◌, ◌<◌, List, [], ◌∷◌, ◌++◌, length, take, drop, refl, sym, ap, subst, ◌∙◌, arith, add-one, append_assoc, length-append, length-drop}
+use Rattle.std.proofs.Common.{◌≡◌, ℕ, zero, suc, ◌+◌, ◌-◌, ◌*◌, ◌/◌, ◌≤◌, ◌<◌, List, [], ◌∷◌, ◌++◌, length, take, drop, refl, sym, ap, subst, ◌∙◌, arith, add-one, append_assoc, mul-div_cancel, length-append, length-drop}
 use Rattle.std.specs.Prelude.{ℤ}
 use Rattle.std.specs.List.{AllByRecursion, flat_map}
 use Rattle.std.proofs.lemmas.List.{drop-drop, nil_from_length, take_at, drop_at, take-append-le, drop-append-le, take-append-drop, length-take-le}
@@ -8,7 +8,8 @@ use Rattle.ncc_values.specs.declared.xtype.XType.TheVariants.{Byte, Char, Short,
 use Rattle.ncc_values.specs.Numbers.{IsBytes}
 use Rattle.ncc_values.specs.XType.{size_of}
 use Rattle.ncc_values.specs.External.{unsigned_of, number_in, bytes_in, IsNumberOf}
-use Rattle.ncc_values.specs.Values.{elements_from, elements_of, bytes_by}
+use Rattle.ncc_values.specs.Values.{elements_from, elements_of, bytes_by, AreNumbersOf}
+use Rattle.ncc_values.specs.ExternalLaws.{number_in-IsNumberOf}
 use Rattle.ncc_values.specs.BigEndian.{bytes-take, bytes-drop, bytes-append, length-big_endian, bytes-big_endian}
 
 pub size_of-some : (t : XType) → 0 < size_of t
@@ -130,3 +131,44 @@ elements_from-bytes_by element number t (x ∷ items) back h =
     let first = bytes_in t (number x) in
     let rest = bytes_by number t items in
     rw (take_at first rest (size_of t) (length-bytes_in t (number x)), drop_at first rest (size_of t) (length-bytes_in t (number x)), back x h.0, elements_from-bytes_by element number t items back h.1) refl
+
+-- ---- all the elements that bytes spell
+
+pub count-length : (t : XType) (k : ℕ) (bytes : List ℕ) → length bytes ≡ k * size_of t → length bytes / size_of t ≡ k
+count-length t k bytes e = ap (λ (n : ℕ). n / size_of t) e ∙ mul-div_cancel k (size_of-some t)
+
+pub elements_of-counted : {A : Type 0} (element : ℤ → A) (t : XType) (k : ℕ) (bytes : List ℕ) → length bytes ≡ k * size_of t → elements_of element t bytes ≡ elements_from element t k bytes
+elements_of-counted element t k bytes e =
+    ap (λ (n : ℕ). elements_from element t n bytes) (count-length t k bytes e)
+
+pub length-elements_of : {A : Type 0} (element : ℤ → A) (t : XType) (k : ℕ) (bytes : List ℕ) → length bytes ≡ k * size_of t → length (elements_of element t bytes) ≡ k
+length-elements_of element t k bytes e =
+    length-elements_from element t (length bytes / size_of t) bytes ∙ count-length t k bytes e
+
+pub elements_of-append : {A : Type 0} (element : ℤ → A) (t : XType) (j k : ℕ) (a b : List ℕ) → length a ≡ j * size_of t → length b ≡ k * size_of t → elements_of element t (a ++ b) ≡ elements_of element t a ++ elements_of element t b
+elements_of-append element t j k a b ea eb =
+    let whole : length (a ++ b) ≡ (j + k) * size_of t = omega (arith, ea, eb, length-append a b) in
+    elements_of-counted element t (j + k) (a ++ b) whole
+    ∙ elements_from-append element t j k a b ea
+    ∙ rw (elements_of-counted element t j a ea, elements_of-counted element t k b eb) refl
+
+pub bytes_by-elements_of : {A : Type 0} (element : ℤ → A) (number : A → ℤ) (t : XType) (k : ℕ) (bytes : List ℕ)
+    → ((b : List ℕ) → IsBytes b → length b ≡ size_of t → bytes_in t (number (element (number_in t b))) ≡ b)
+    → IsBytes bytes → length bytes ≡ k * size_of t → bytes_by number t (elements_of element t bytes) ≡ bytes
+bytes_by-elements_of element number t k bytes back h e =
+    ap (bytes_by number t) (elements_of-counted element t k bytes e) ∙ bytes_by-elements_from element number t k bytes back h e
+
+pub elements_of-bytes_by : {A : Type 0} (element : ℤ → A) (number : A → ℤ) (t : XType) (items : List A)
+    → ((x : A) → IsNumberOf t (number x) → element (number_in t (bytes_in t (number x))) ≡ x)
+    → AreNumbersOf number t items → elements_of element t (bytes_by number t items) ≡ items
+elements_of-bytes_by element number t items back h =
+    elements_of-counted element t (length items) (bytes_by number t items) (length-bytes_by number t items) ∙ elements_from-bytes_by element number t items back h
+
+pub numbers-elements_from : {A : Type 0} (element : ℤ → A) (number : A → ℤ) (t : XType) (k : ℕ) (bytes : List ℕ)
+    → ((z : ℤ) → IsNumberOf t z → number (element z) ≡ z)
+    → IsBytes bytes → length bytes ≡ k * size_of t → AreNumbersOf number t (elements_from element t k bytes)
+numbers-elements_from element number t zero bytes same h e = tt
+numbers-elements_from element number t (suc k) bytes same h e =
+    let long : size_of t ≤ length bytes = omega (arith, e) in
+    let first = number_in-IsNumberOf t (take (size_of t) bytes) (bytes-take (size_of t) bytes h) (length-take-le (size_of t) bytes long) in
+    (subst (IsNumberOf t) (sym (same _ first)) first, numbers-elements_from element number t k (drop (size_of t) bytes) same (bytes-drop (size_of t) bytes h) (omega (arith, e, length-drop (size_of t) bytes)))

@@ -2,3 +2,4 @@ pub mod BigEndian
 pub mod ElementsLemmas
 pub mod NameLemmas
 pub mod Reading
+pub mod ValuesLemmas

@@ -73,3 +73,24 @@ bytes_in-number_in UShort bytes h e = bytes_back 2 _ bytes h e refl
 bytes_in-number_in UInt bytes h e = bytes_back 4 _ bytes h e refl
 bytes_in-number_in Int64 bytes h e = signed_bytes 8 (2 ^ 63) bytes h e refl
 bytes_in-number_in UInt64 bytes h e = bytes_back 8 _ bytes h e refl
+
+-- ---- what bytes spell is a number of the type
+
+signed_number : (w half n : ℕ) → 256 ^ w ≡ half * 2 → 0 < half → n < 256 ^ w → ((pos 0 -ℤ pos half) ≤ℤ signed_of w n) × (signed_of w n ≤ℤ pos (half - 1))
+signed_number w half n e some lt = (grind (arith, ints), grind (arith, ints))
+
+unsigned_number : (p n : ℕ) → n < p → (pos 0 ≤ℤ pos n) × (pos n ≤ℤ pos (p - 1))
+unsigned_number p n lt = (omega (arith, ints), omega (arith, ints))
+
+pub number_in-IsNumberOf : (t : XType) (bytes : List ℕ) → IsBytes bytes → length bytes ≡ size_of t → IsNumberOf t (number_in t bytes)
+number_in-IsNumberOf Byte bytes h e = signed_number 1 (2 ^ 7) _ refl (omega arith) (number_of-lt 1 bytes h e)
+number_in-IsNumberOf Char bytes h e = unsigned_number (256 ^ 1) _ (number_of-lt 1 bytes h e)
+number_in-IsNumberOf Short bytes h e = signed_number 2 (2 ^ 15) _ refl (omega arith) (number_of-lt 2 bytes h e)
+number_in-IsNumberOf Int bytes h e = signed_number 4 (2 ^ 31) _ refl (omega arith) (number_of-lt 4 bytes h e)
+number_in-IsNumberOf Float bytes h e = unsigned_number (256 ^ 4) _ (number_of-lt 4 bytes h e)
+number_in-IsNumberOf Double bytes h e = unsigned_number (256 ^ 8) _ (number_of-lt 8 bytes h e)
+number_in-IsNumberOf UByte bytes h e = unsigned_number (256 ^ 1) _ (number_of-lt 1 bytes h e)
+number_in-IsNumberOf UShort bytes h e = unsigned_number (256 ^ 2) _ (number_of-lt 2 bytes h e)
+number_in-IsNumberOf UInt bytes h e = unsigned_number (256 ^ 4) _ (number_of-lt 4 bytes h e)
+number_in-IsNumberOf Int64 bytes h e = signed_number 8 (2 ^ 63) _ refl (omega arith) (number_of-lt 8 bytes h e)
+number_in-IsNumberOf UInt64 bytes h e = unsigned_number (256 ^ 8) _ (number_of-lt 8 bytes h e)

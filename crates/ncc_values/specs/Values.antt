@@ -1,11 +1,11 @@
 -- Values of one type: their elements, and the bytes that these have in a file, one after the other.
 use Rattle.std.specs.Prelude.{ℕ, zero, suc, ◌/◌, ℤ, pos, List, [], ◌∷◌, ◌++◌, length, take, drop, unsigned_abs}
-use Rattle.std.specs.List.{flat_map}
+use Rattle.std.specs.List.{AllByRecursion, flat_map}
 use Rattle.ncc_values.specs.declared.values.Values.{Values}
 use Rattle.ncc_values.specs.declared.values.Values.TheVariants.{Bytes, Chars, Shorts, Ints, Floats, Doubles, UBytes, UShorts, UInts, Int64s, UInt64s}
 use Rattle.ncc_values.specs.declared.xtype.XType.{XType}
 use Rattle.ncc_values.specs.declared.xtype.XType.TheVariants.{Byte, Char, Short, Int, Float, Double, UByte, UShort, UInt, Int64, UInt64}
-use Rattle.ncc_values.specs.External.{number_in, bytes_in}
+use Rattle.ncc_values.specs.External.{number_in, bytes_in, IsNumberOf}
 use Rattle.ncc_values.specs.Raw.{char_of, float_of, double_of}
 use Rattle.ncc_values.specs.XType.{size_of}
 
@@ -99,3 +99,23 @@ with_bytes (UInt64s items) bytes = UInt64s (items ++ elements_of unsigned_abs UI
 -- the values of the type that the bytes spell
 abbrev pub values_of : XType → List ℕ → Values
 values_of t bytes = with_bytes (no_values t) bytes
+
+-- ---- values that a file can hold
+
+-- each is a number of the type
+abbrev pub AreNumbersOf : {A : Type 0} → (A → ℤ) → XType → List A → Type 0
+AreNumbersOf number t items = AllByRecursion (λ x. IsNumberOf t (number x)) items
+
+-- each is in the range of its Rust type, as all values of the program are
+abbrev pub AreInRange : Values → Type 0
+AreInRange (Bytes items) = AreNumbersOf (λ x. x) Byte items
+AreInRange (Chars items) = AreNumbersOf (λ x. pos x.0) Char items
+AreInRange (Shorts items) = AreNumbersOf (λ x. x) Short items
+AreInRange (Ints items) = AreNumbersOf (λ x. x) Int items
+AreInRange (Floats items) = AreNumbersOf (λ x. pos x.0) Float items
+AreInRange (Doubles items) = AreNumbersOf (λ x. pos x.0) Double items
+AreInRange (UBytes items) = AreNumbersOf (λ x. pos x) UByte items
+AreInRange (UShorts items) = AreNumbersOf (λ x. pos x) UShort items
+AreInRange (UInts items) = AreNumbersOf (λ x. pos x) UInt items
+AreInRange (Int64s items) = AreNumbersOf (λ x. x) Int64 items
+AreInRange (UInt64s items) = AreNumbersOf (λ x. pos x) UInt64 items
