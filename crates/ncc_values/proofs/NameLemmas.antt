@@ -1,5 +1,5 @@
 -- The name rule, character by character, and on ASCII.
-use Rattle.std.proofs.Common.{◌≡◌, ◌≢◌, ℕ, suc, ◌<◌, Bool, true, false, not, ◌&&◌, ◌==◌, List, [], ◌∷◌, ◌++◌, length, slice_index, chars, refl, sym, ap, ◌∙◌, arith, encode_utf8}
+use Rattle.std.proofs.Common.{◌≡◌, ◌≢◌, ℕ, suc, Bool, true, false, not, ◌&&◌, ◌==◌, List, [], ◌∷◌, ◌++◌, length, slice_index, chars, refl, ap, ◌∙◌, arith, encode_utf8}
 use Rattle.std.specs.List.{list_all}
 use Rattle.std.specs.Str.{IsUtf8}
 use Rattle.std.proofs.lemmas.Str.{chars_past_char, IsUtf8-past_char, chars-nil}
@@ -23,13 +23,13 @@ pub record Left (text : List ℕ) (first last : ℕ) (rest : List ℕ) : Type 0 
 pub left_first : (text rest : List ℕ) (c : ℕ) → IsUtf8 text → text ≡ encode_utf8 c ++ rest → Left text c c rest
 left_first text rest c h e = record {
   utf8 = IsUtf8-past_char text rest c h e;
-  answer = ap are_name_characters (chars_past_char text rest c h e)
+  answer = ap are_name_characters (chars_past_char text rest c h e);
 }
 
 pub left_next : (text before rest : List ℕ) (first last c : ℕ) → Left text first last before → before ≡ encode_utf8 c ++ rest → can_follow c ≡ true → Left text first c rest
 left_next text before rest first last c h e fits = record {
   utf8 = IsUtf8-past_char before rest c h.utf8 e;
-  answer = h.answer ∙ rw (chars_past_char before rest c h.utf8 e, fits) refl
+  answer = h.answer ∙ rw (chars_past_char before rest c h.utf8 e, fits) refl;
 }
 
 and_false : (b : Bool) → (b && false) ≡ false

@@ -7,10 +7,9 @@ use Rattle.ncc_values.specs.declared.values.Values.{Values}
 use Rattle.ncc_values.specs.declared.values.Values.TheVariants.{Bytes, Chars, Shorts, Ints, Floats, Doubles, UBytes, UShorts, UInts, Int64s, UInt64s}
 use Rattle.ncc_values.specs.declared.xtype.XType.{XType}
 use Rattle.ncc_values.specs.declared.xtype.XType.TheVariants.{Byte, Char, Short, Int, Float, Double, UByte, UShort, UInt, Int64, UInt64}
-use Rattle.ncc_values.specs.External.{number_in, bytes_in, IsNumberOf}
 use Rattle.ncc_values.specs.ExternalLaws.{number_in-bytes_in, bytes_in-number_in}
 use Rattle.ncc_values.specs.Raw.{char_of, float_of, double_of}
-use Rattle.ncc_values.specs.Values.{elements_of, bytes_by, type_of, count_of, bytes_of, no_values, with_bytes, values_of, AreNumbersOf, AreInRange}
+use Rattle.ncc_values.specs.Values.{bytes_by, type_of, count_of, bytes_of, no_values, with_bytes, values_of, AreNumbersOf, AreInRange}
 use Rattle.ncc_values.specs.XType.{size_of}
 use Rattle.ncc_values.proofs.ElementsLemmas.{length-bytes_by, bytes-bytes_by, bytes_by-append, length-elements_of, elements_of-append, bytes_by-elements_of, elements_of-bytes_by, elements_of-counted, numbers-elements_from}
 

@@ -1,13 +1,12 @@
 -- The laws of `External`, in terms of numbers and bytes: each of the two goes back to the other.
-use Rattle.std.proofs.Common.{◌≡◌, ℕ, ◌+◌, ◌-◌, ◌*◌, ◌/◌, ◌^◌, ◌<◌, ◌≤◌, List, length, refl, sym, ap, ◌∙◌, arith, inl, inr}
-use Rattle.std.specs.Prelude.{ℤ, pos, negsuc, ◌-ℤ◌, ◌≤ℤ◌, Bool, true, false}
+use Rattle.std.proofs.Common.{◌≡◌, ℕ, ◌-◌, ◌*◌, ◌^◌, ◌<◌, List, length, refl, sym, ap, ◌∙◌, arith}
+use Rattle.std.specs.Prelude.{ℤ, pos, negsuc, ◌-ℤ◌, ◌≤ℤ◌}
 use Rattle.std.proofs.lemmas.Int.{ints}
-use Rattle.std.proofs.lemmas.Bool.{cases_lt}
 use Rattle.ncc_values.specs.Numbers.{IsBytes, big_endian, number_of}
 use Rattle.ncc_values.specs.BigEndian.{number_of-big_endian, big_endian-number_of, number_of-lt}
 use Rattle.ncc_values.specs.declared.xtype.XType.{XType}
 use Rattle.ncc_values.specs.declared.xtype.XType.TheVariants.{Byte, Char, Short, Int, Float, Double, UByte, UShort, UInt, Int64, UInt64}
-use Rattle.ncc_values.specs.XType.{size_of, is_signed}
+use Rattle.ncc_values.specs.XType.{size_of}
 use Rattle.ncc_values.specs.External.{signed_of, unsigned_of, number_in, bytes_in, IsNumberOf}
 
 -- ---- two's complement in w bytes, of which half stand for negative numbers

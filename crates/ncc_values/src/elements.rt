@@ -3,9 +3,8 @@
 ghost use Rattle.std.specs.Prelude.{◌≡◌, ◌*◌, ◌++◌, ◌%◌, length, OnOk, OnErr};
 ghost use Rattle.ncc_values.specs.Values.{elements_of, bytes_by};
 
-use std::alloc::AllocError;
-
 use crate::external::External;
+use std::alloc::AllocError;
 
 /// Adds the elements that the bytes spell.
 pub(crate) fn push_elements<T: External + Drop>(

@@ -23,3 +23,6 @@ pub use seq::Seq;
 pub use values::Values;
 pub use version::Version;
 pub use xtype::XType;
+
+#[cfg(test)]
+mod tests;

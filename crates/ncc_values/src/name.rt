@@ -4,7 +4,6 @@ ghost use Rattle.std.specs.Prelude.{◌≡◌, ◌↔◌, IsTrue, IsOk, IfOk, Is
 ghost use Rattle.ncc_values.specs.Name.{can_begin, can_follow, are_name_characters, FitsAsName};
 
 use std::alloc::{AllocError, Global};
-
 use unicode_normalization::is_nfc;
 
 /// Whether the bytes fit as a name: UTF-8 in the normal form NFC, of at least one character, the

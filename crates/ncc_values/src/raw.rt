@@ -1,9 +1,8 @@
 //! Elements kept as they stand in the file: characters, and floats by their bits.
 
-use byteorder::{BigEndian, ByteOrder};
-
 use crate::external::External;
 use crate::xtype::XType;
+use byteorder::{BigEndian, ByteOrder};
 
 /// A character of a text of the file, as its byte.
 #[derive(Clone, Copy, Debug, PartialEq, Eq)]

@@ -2,11 +2,10 @@
 
 ghost use Rattle.std.specs.Prelude.{◌≡◌, ◌+◌, ◌*◌, ◌/◌, ◌%◌, ◌≤◌, ◌↔◌, [], ◌++◌, length, take, drop, IsTrue, OnOk, OnErr};
 
-use std::alloc::{AllocError, Global};
-use std::marker::Model;
-
 use crate::elements::{push_elements, put_elements};
 use crate::external::External;
+use std::alloc::{AllocError, Global};
+use std::marker::Model;
 
 /// A list of elements: a `Vec` whose allocator and capacity no contract sees.
 #[derive(Debug, Drop)]

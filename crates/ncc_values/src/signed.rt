@@ -4,10 +4,9 @@ ghost use Rattle.std.specs.Prelude.{refl};
 ghost use Rattle.ncc_values.specs.ExternalLaws.{number_in-bytes_in, bytes_in-number_in};
 ghost use Rattle.ncc_values.specs.declared.xtype.XType.TheVariants.{Byte, Short, Int, Int64};
 
-use byteorder::{BigEndian, ByteOrder};
-
 use crate::external::External;
 use crate::xtype::XType;
+use byteorder::{BigEndian, ByteOrder};
 
 impl External for i8 {
     ghost TYPE = { Byte };

@@ -5,10 +5,9 @@ ghost use Rattle.std.proofs.Common.{ap};
 ghost use Rattle.ncc_values.specs.ExternalLaws.{number_in-bytes_in, bytes_in-number_in};
 ghost use Rattle.ncc_values.specs.declared.xtype.XType.TheVariants.{UByte, UShort, UInt, UInt64};
 
-use byteorder::{BigEndian, ByteOrder};
-
 use crate::external::External;
 use crate::xtype::XType;
+use byteorder::{BigEndian, ByteOrder};
 
 impl External for u8 {
     ghost TYPE = { UByte };

@@ -2,11 +2,10 @@
 
 ghost use Rattle.std.specs.Prelude.{◌≡◌, ◌+◌, ◌*◌, ◌/◌, ◌%◌, ◌≤◌, ◌↔◌, length, take, drop, IsTrue, OnOk, OnErr};
 
-use std::alloc::{AllocError, Global};
-
 use crate::raw::{Char, F32Bits, F64Bits};
 use crate::seq::Seq;
 use crate::xtype::XType;
+use std::alloc::{AllocError, Global};
 
 /// Values of one external type, in order.
 #[derive(Debug, PartialEq, Eq, Drop)]

@@ -1,5 +1,4 @@
-use Rattle.std.proofs.Common.{◌≡◌, ◌&&◌, ◌∙◌, not, false, sym, ap, rules}
-use Rattle.ncc_values.specs.Name.{can_begin, space}
+use Rattle.std.proofs.Common.{◌∙◌, sym}
 use Rattle.ncc_values.proofs.NameLemmas.{left_first, left_next, left_refused, left_none}
 use Rattle.ncc_values.proofs.name.has_name_characters.Goals as goal
 

@@ -1,5 +1,3 @@
-use Rattle.std.proofs.Common.{subst}
-use Rattle.std.specs.Str.{IsAscii}
 use Rattle.ncc_values.proofs.NameLemmas.{quick_check_text-ascii}
 use Rattle.ncc_values.proofs.name.name_fits.Goals as goal
 
