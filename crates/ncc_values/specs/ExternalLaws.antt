@@ -1,4 +1,5 @@
--- The laws of `External`, in terms of numbers and bytes: each of the two goes back to the other.
+-- The laws of `External`, in terms of numbers and bytes: each of the two goes back to the other. An
+-- implementation can cite them only in specs/.
 use Rattle.std.proofs.Common.{◌≡◌, ℕ, ◌-◌, ◌*◌, ◌^◌, ◌<◌, List, length, refl, sym, ap, ◌∙◌, arith}
 use Rattle.std.specs.Prelude.{ℤ, pos, negsuc, ◌-ℤ◌, ◌≤ℤ◌}
 use Rattle.std.proofs.lemmas.Int.{ints}

@@ -1,5 +1,6 @@
--- Names of dimensions, variables and attributes (NetCDF Classic Format Specification, "The Format in
--- Detail", under `name`).
+-- Names of dimensions, variables and attributes (NetCDF Classic Format Specification: `name` in the
+-- grammar and "Note on names"): ([a-zA-Z0-9_]|{MUTF8})([^\x00-\x1F/\x7F-\xFF]|{MUTF8})*, with no space
+-- at the end.
 use Rattle.std.specs.Prelude.{ℕ, Bool, false, not, ◌&&◌, ◌||◌, ◌==◌, nat_le, List, [], ◌∷◌, length, slice_index, chars, IsTrue, IsUtf8}
 use Rattle.std.specs.Char.{is_ascii_alphanumeric}
 use Rattle.std.specs.Int.{is_in_range}
@@ -18,7 +19,7 @@ tilde = 0x7e
 abbrev pub underscore : ℕ
 underscore = 0x5f
 
--- a character past ASCII
+-- past ASCII (MUTF8)
 abbrev pub is_multibyte : ℕ → Bool
 is_multibyte c = nat_le 0x80 c
 

@@ -5,7 +5,7 @@ ghost use Rattle.ncc_values.specs.Numbers.{IsBytes};
 
 use crate::xtype::XType;
 
-/// An element of an external type.
+/// An element of an external type, which has `SIZE` bytes in a file, the most significant first.
 pub trait External {
     ghost use Rattle.ncc_values.specs.declared.xtype.XType.{XType};
     ghost use Rattle.ncc_values.specs.XType.{size_of};
@@ -26,7 +26,7 @@ pub trait External {
     /// The bytes of one element.
     const SIZE: usize;
 
-    /// The element that the bytes spell.
+    /// The element that the bytes spell: in a signed type by two's complement.
     fn get(bytes: &[u8]) -> Self
         requires { length bytes.now ≡ SIZE }
         ensures { number result ≡ number_in TYPE bytes.now };
