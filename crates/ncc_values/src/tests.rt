@@ -202,7 +202,12 @@ fn longest_elements_have_their_bytes(rt: HostRuntime) {
 }
 
 // The values of the bytes have these bytes, and behind the first value the later ones.
-fn through_values(rt: &impl Abort, alloc: Global, xtype: XType, bytes: &[u8]) -> Result<(), Fail> {
+fn through_values(
+    rt: &impl Abort,
+    alloc: Global,
+    xtype: XType,
+    bytes: &[u8; 40],
+) -> Result<(), Fail> {
     let mut values = Values::new(alloc, xtype);
     assert!(rt; values.is_empty() && values.xtype() == xtype);
     let size = values.xtype().size();
@@ -210,10 +215,12 @@ fn through_values(rt: &impl Abort, alloc: Global, xtype: XType, bytes: &[u8]) ->
     values.push_from(bytes)?;
     assert_eq!(rt; values.len(), bytes.len() / size);
     assert!(rt; values.xtype().size() == size && 2 * size <= bytes.len());
-    let mut out = [0; 8];
-    let later = &mut out[..size];
-    values.put_from(1, later);
-    assert_eq!(rt; &*later, &bytes[size..2 * size], "{xtype:?}");
+    let mut all = [0; 40];
+    values.put_from(0, &mut all);
+    assert_eq!(rt; &all, bytes, "{xtype:?}");
+    let mut second = [0; 8];
+    values.put_from(1, &mut second[..size]);
+    assert_eq!(rt; &second[..size], &bytes[size..2 * size], "{xtype:?}");
     Ok(())
 }
 
@@ -221,7 +228,7 @@ fn through_values(rt: &impl Abort, alloc: Global, xtype: XType, bytes: &[u8]) ->
 fn values_have_their_bytes(rt: HostRuntime) -> Result<(), Fail> {
     let bytes = [
         0x80, 0, 0, 0, 0, 0, 0, 0, 0x7f, 0xff, 0xff, 0xff, 0xff, 0xff, 0xff, 0xff, 1, 2, 3, 4, 5,
-        6, 7, 8,
+        6, 7, 8, 0, 0, 0, 0, 0, 0, 0, 0, 0xff, 0xff, 0xff, 0xff, 0xff, 0xff, 0xff, 0xff,
     ];
     let types = [
         XType::Byte,
@@ -250,6 +257,18 @@ fn values_are_told_by_their_elements(rt: HostRuntime) -> Result<(), Fail> {
     let other = Values::Shorts(Seq::from_vec([-2, -32766].to_vec(rt.alloc())?));
     assert_eq!(rt; values, same);
     assert_ne!(rt; values, other);
+    Ok(())
+}
+
+#[test]
+fn lists_keep_their_elements(rt: HostRuntime) -> Result<(), Fail> {
+    let none: Seq<u8> = Seq::new(rt.alloc());
+    assert!(rt; none.is_empty());
+    let list = Seq::from_vec([7, 8].to_vec(rt.alloc())?);
+    assert!(rt; !list.is_empty());
+    assert_eq!(rt; list.len(), 2);
+    assert_eq!(rt; list.as_slice(), [7, 8].as_slice());
+    assert_eq!(rt; list.into_vec().as_slice(), [7, 8].as_slice());
     Ok(())
 }
 
