@@ -2,7 +2,7 @@
 use Rattle.std.proofs.Common.{◌≡◌, ℕ, zero, suc, ◌^◌, ◌<◌, List, [], ◌∷◌, ◌++◌, length, Option, None, refl, sym, ap, subst, subst₂, ◌∙◌, append_assoc, append-nil, arith}
 use mathlib.Core.Path.{fun_ext}
 use Rattle.ncc_values.specs.Numbers.{IsBytes, big_endian, number_of}
-use Rattle.ncc_values.proofs.BigEndian.{length-big_endian, bytes-big_endian, number_of-big_endian, big_endian-number_of, number_of-lt}
+use Rattle.ncc_values.specs.BigEndian.{length-big_endian, bytes-big_endian, number_of-big_endian, big_endian-number_of, number_of-lt}
 use Rattle.ncc_header.specs.declared.wrong.Wrong.{Wrong}
 use Rattle.ncc_header.specs.Grammar.{Label, Grammar, done, field, Spells, ◌>>=◌, ◌into◌, repeat}
 use Rattle.ncc_header.specs.Header.{◌⨾◌, exactly, any_bytes, each}

@@ -3,7 +3,7 @@ use Rattle.std.proofs.Common.{◌≡◌, ℕ, ◌+◌, ◌-◌, ◌≤◌, false
 use Rattle.std.proofs.lemmas.Bool.{cases_lt, le-ltb, lt-ltb}
 use Rattle.std.proofs.lemmas.List.{take_at, drop_at, take-append-drop, length-append, length-take-le, take-append-le, drop-append-le, length-drop, append_cancel_right}
 use Rattle.ncc_values.specs.Numbers.{IsBytes}
-use Rattle.ncc_values.proofs.BigEndian.{bytes-take, bytes-drop}
+use Rattle.ncc_values.specs.BigEndian.{bytes-take, bytes-drop}
 use Rattle.ncc_header.specs.declared.fault.FaultKind.{FaultKind}
 use Rattle.ncc_header.specs.declared.fault.FaultKind.TheVariants.{HeaderTooLong, EndsEarly}
 use Rattle.ncc_header.specs.declared.wrong.Wrong.{Wrong}

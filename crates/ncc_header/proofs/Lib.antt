@@ -1,7 +1,6 @@
 mod GrammarLaws
 mod Exact
 mod Rules
-mod ReadNumber
 mod RefusedKinds
 mod OneField
 mod TakeField

@@ -1,7 +1,6 @@
 //! What the value of each field is judged for.
 
 ghost use Rattle.std.specs.Prelude.{◌≡◌, ◌≤◌, ◌<◌, length, nat_lt, unwrap_or, IfOk, OnOk};
-ghost use Rattle.ncc_values.specs.Numbers.{number_of};
 ghost use Rattle.ncc_values.specs.Version.{version_of};
 ghost use Rattle.ncc_values.specs.declared.version.Version.TheVariants.{V1};
 ghost use Rattle.ncc_header.specs.Schema.{count_limit, record_dims};
@@ -11,20 +10,10 @@ ghost use Rattle.ncc_header.specs.States.{Judges};
 use crate::fault::FaultKind;
 use crate::schema::{Count, Dim};
 use crate::wrong::Wrong;
-use byteorder::{BigEndian, ByteOrder};
 use ncc_values::Version;
 
 /// The letters C, D and F.
 const MAGIC: u64 = 0x434446;
-
-/// The number of a field's bytes, which are 1 to 8.
-pub fn number(bytes: &[u8]) -> u64
-    requires some { 0 < length bytes.now }
-    requires few { length bytes.now ≤ 8 }
-    ensures { result ≡ number_of bytes.now }
-{
-    BigEndian::read_uint(bytes, bytes.len())
-}
 
 /// Refuses a field's value, at the field.
 fn refused<T>(kind: FaultKind) -> Result<T, Wrong>

@@ -8,11 +8,11 @@ ghost use Rattle.ncc_header.specs.declared.state.State.TheVariants as states;
 ghost use Rattle.ncc_header.specs.declared.state.StepError.TheVariants.{Memory, Wrong as IsWrong};
 ghost use Rattle.ncc_header.specs.States.{left_of, from_dims, size_of, front_of, idle_of, first_at, IsFresh, Steps};
 
-use crate::judge::{self, number};
+use crate::judge;
 use crate::schema::{Count, Dim, Schema};
 use crate::state::{Dims, State, StepError};
 use crate::wrong::Wrong;
-use ncc_values::{Seq, Version, pad};
+use ncc_values::{Seq, Version, number, pad};
 use std::alloc::{AllocError, AllocFailed, Global};
 
 /// The tags of the lists.

@@ -1,1 +1,4 @@
-pub mod BigEndian
+pub mod ElementsLemmas
+pub mod NameLemmas
+pub mod Reading
+pub mod ValuesLemmas

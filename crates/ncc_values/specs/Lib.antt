@@ -1,3 +1,11 @@
+pub mod BigEndian
+pub mod External
+pub mod ExternalLaws
+pub mod Fill
+pub mod Name
 pub mod Numbers
 pub mod Padding
+pub mod Raw
+pub mod Values
 pub mod Version
+pub mod XType

@@ -1,10 +1,30 @@
 //! The values below the header of a netCDF classic file: versions, sizes, padding and lists.
 #![tactic(auto)]
 
+mod elements;
+mod external;
+mod fill;
+mod name;
+mod numbers;
 mod padding;
+mod raw;
 mod seq;
+mod signed;
+mod unsigned;
+mod values;
 mod version;
+mod xtype;
 
+pub use external::External;
+pub use fill::fill_default;
+pub use name::name_fits;
+pub use numbers::number;
 pub use padding::pad;
+pub use raw::{Char, F32Bits, F64Bits};
 pub use seq::Seq;
+pub use values::Values;
 pub use version::Version;
+pub use xtype::XType;
+
+#[cfg(test)]
+mod tests;

@@ -1,6 +1,6 @@
 use Rattle.std.proofs.Common.{ℕ, ◌++◌, take, Ok, refl, sym, ap, subst, subst₂, arith}
 use Rattle.ncc_values.specs.Numbers.{IsBytes}
-use Rattle.ncc_values.proofs.BigEndian.{bytes-take, bytes-by_index}
+use Rattle.ncc_values.specs.BigEndian.{bytes-take, bytes-by_index}
 use Rattle.ncc_header.specs.declared.standing.Fed.{Fed}
 use Rattle.ncc_header.specs.declared.standing.Standing.{Standing}
 use Rattle.ncc_header.specs.States.{left_of, size_of}

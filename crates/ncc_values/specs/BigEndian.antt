@@ -1,4 +1,5 @@
--- Numbers and their bytes, both ways.
+-- Numbers and their bytes, both ways. These lemmas stand in specs/ since the laws of `External` cite
+-- them.
 use Rattle.std.proofs.Common.{◌≡◌, ℕ, zero, suc, ◌+◌, ◌*◌, ◌/◌, ◌%◌, ◌^◌, ◌<◌, ◌≤◌, List, [], ◌∷◌, ◌++◌, length, take, drop, get_or, refl, ap, subst, ◌∙◌, append-nil, arith, mul-le-mul_right}
 use Rattle.std.proofs.Math.Nat.{pow-suc}
 use Rattle.ncc_values.specs.Numbers.{IsBytes, big_endian_onto, big_endian, number_onto, number_of}

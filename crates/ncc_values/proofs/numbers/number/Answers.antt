@@ -1,0 +1,6 @@
+use Rattle.std.proofs.Common.{refl, ◌∙◌}
+use Rattle.ncc_values.proofs.Reading.{number_of-big_number}
+use Rattle.ncc_values.proofs.numbers.number.Goals as goal
+
+pub returns : goal.returns
+returns c = c.read_uint.ensures ∙ number_of-big_number _ c.args.bytes.now refl

@@ -1,0 +1,36 @@
+//! Lists of elements of one type, from and to their bytes.
+
+ghost use Rattle.std.specs.Prelude.{◌≡◌, ◌*◌, ◌++◌, ◌%◌, length, OnOk, OnErr};
+ghost use Rattle.ncc_values.specs.Values.{elements_of, bytes_by};
+
+use crate::external::External;
+use std::alloc::AllocError;
+
+/// Adds the elements that the bytes spell.
+pub(crate) fn push_elements<T: External + Drop>(
+    items: &mut Vec<T>,
+    bytes: &[u8],
+) -> Result<(), AllocError>
+    requires { length bytes.now % T.SIZE ≡ 0 }
+    ensures ok { OnOk result (items.new.items ≡ items.old.items ++ elements_of T.element T.TYPE bytes.now) }
+    ensures err { OnErr result (items.new.items ≡ items.old.items) }
+{
+    let count = bytes.len() / T::SIZE;
+    items.reserve(count)?;
+    'elements: for i in 0..count {
+        let start = i * T::SIZE;
+        items.push(T::get(&bytes[start..start + T::SIZE]))?;
+    }
+    Ok(())
+}
+
+/// Writes the bytes of the elements.
+pub(crate) fn put_elements<T: External + Copy>(items: &[T], out: &mut [u8])
+    requires { length out.old ≡ length items.now * T.SIZE }
+    ensures { out.new ≡ bytes_by T.number T.TYPE items.now }
+{
+    'elements: for i in 0..items.len() {
+        let start = i * T::SIZE;
+        items[i].put(&mut out[start..start + T::SIZE]);
+    }
+}

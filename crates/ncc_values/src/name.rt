@@ -1,0 +1,52 @@
+//! Names of dimensions, variables and attributes.
+
+ghost use Rattle.std.specs.Prelude.{◌≡◌, ◌↔◌, IsTrue, IsOk, IfOk, IsAscii, chars};
+ghost use Rattle.ncc_values.specs.Name.{can_begin, can_follow, are_name_characters, FitsAsName};
+
+use std::alloc::{AllocError, Global};
+use unicode_normalization::is_nfc;
+
+/// Whether the bytes fit as a name: UTF-8 in the normal form NFC, of at least one character, the
+/// first a letter, a digit, an underscore or past ASCII, none a control or a slash, and the last no
+/// space. On ASCII it takes no memory.
+pub fn name_fits(alloc: Global, name: &[u8]) -> Result<bool, AllocError>
+    ensures fits { IfOk result (λ fits. IsTrue fits ↔ FitsAsName name.now) }
+    ensures ascii { IsAscii name.now → IsOk result }
+{
+    let Ok(text) = std::str::from_utf8(name) else {
+        return Ok(false);
+    };
+    if !has_name_characters(text) {
+        return Ok(false);
+    }
+    is_nfc(alloc, text)
+}
+
+fn has_name_characters(text: &str) -> bool
+    ensures { result ≡ are_name_characters (chars text.now) }
+{
+    let mut characters = text.chars();
+    let Some(first) = characters.next() else {
+        return false;
+    };
+    let mut last = first;
+    for character in characters {
+        if !can_follow(character) {
+            return false;
+        }
+        last = character;
+    }
+    can_begin(first) && last != ' '
+}
+
+fn can_begin(character: char) -> bool
+    ensures { result ≡ can_begin character }
+{
+    character.is_ascii_alphanumeric() || character == '_' || !character.is_ascii()
+}
+
+fn can_follow(character: char) -> bool
+    ensures { result ≡ can_follow character }
+{
+    matches!(character, ' '..='~') && character != '/' || !character.is_ascii()
+}

@@ -1,0 +1,134 @@
+//! Values of one external type.
+
+ghost use Rattle.std.specs.Prelude.{◌≡◌, ◌+◌, ◌*◌, ◌/◌, ◌%◌, ◌≤◌, ◌↔◌, length, take, drop, IsTrue, OnOk, OnErr};
+
+use crate::raw::{Char, F32Bits, F64Bits};
+use crate::seq::Seq;
+use crate::xtype::XType;
+use std::alloc::{AllocError, Global};
+
+/// Values of one external type, in order.
+#[derive(Debug, PartialEq, Eq, Drop)]
+pub enum Values {
+    Bytes(Seq<i8>),
+    Chars(Seq<Char>),
+    Shorts(Seq<i16>),
+    Ints(Seq<i32>),
+    Floats(Seq<F32Bits>),
+    Doubles(Seq<F64Bits>),
+    UBytes(Seq<u8>),
+    UShorts(Seq<u16>),
+    UInts(Seq<u32>),
+    Int64s(Seq<i64>),
+    UInt64s(Seq<u64>),
+}
+
+impl Values {
+    ghost use Rattle.ncc_values.specs.XType.{size_of};
+    ghost use Rattle.ncc_values.specs.Values.{type_of, count_of, bytes_of, no_values, with_bytes};
+
+    /// No values of the type. They will be kept in memory of the allocator.
+    pub fn new(alloc: Global, xtype: XType) -> Values
+        ensures { result ≡ no_values xtype }
+    {
+        match xtype {
+            XType::Byte => Values::Bytes(Seq::new(alloc)),
+            XType::Char => Values::Chars(Seq::new(alloc)),
+            XType::Short => Values::Shorts(Seq::new(alloc)),
+            XType::Int => Values::Ints(Seq::new(alloc)),
+            XType::Float => Values::Floats(Seq::new(alloc)),
+            XType::Double => Values::Doubles(Seq::new(alloc)),
+            XType::UByte => Values::UBytes(Seq::new(alloc)),
+            XType::UShort => Values::UShorts(Seq::new(alloc)),
+            XType::UInt => Values::UInts(Seq::new(alloc)),
+            XType::Int64 => Values::Int64s(Seq::new(alloc)),
+            XType::UInt64 => Values::UInt64s(Seq::new(alloc)),
+        }
+    }
+
+    /// How many values there are.
+    pub fn len(&self) -> usize
+        ensures { result ≡ count_of self.now }
+    {
+        match self {
+            Values::Bytes(items) => items.len(),
+            Values::Chars(items) => items.len(),
+            Values::Shorts(items) => items.len(),
+            Values::Ints(items) => items.len(),
+            Values::Floats(items) => items.len(),
+            Values::Doubles(items) => items.len(),
+            Values::UBytes(items) => items.len(),
+            Values::UShorts(items) => items.len(),
+            Values::UInts(items) => items.len(),
+            Values::Int64s(items) => items.len(),
+            Values::UInt64s(items) => items.len(),
+        }
+    }
+
+    pub fn is_empty(&self) -> bool
+        ensures { IsTrue result ↔ (count_of self.now ≡ 0) }
+    {
+        self.len() == 0
+    }
+
+    /// The type of the values.
+    pub fn xtype(&self) -> XType
+        ensures { result ≡ type_of self.now }
+    {
+        match self {
+            Values::Bytes(_) => XType::Byte,
+            Values::Chars(_) => XType::Char,
+            Values::Shorts(_) => XType::Short,
+            Values::Ints(_) => XType::Int,
+            Values::Floats(_) => XType::Float,
+            Values::Doubles(_) => XType::Double,
+            Values::UBytes(_) => XType::UByte,
+            Values::UShorts(_) => XType::UShort,
+            Values::UInts(_) => XType::UInt,
+            Values::Int64s(_) => XType::Int64,
+            Values::UInt64s(_) => XType::UInt64,
+        }
+    }
+
+    /// Adds the values that the bytes spell. After an error the values are as they were.
+    pub fn push_from(&mut self, bytes: &[u8]) -> Result<(), AllocError>
+        requires { length bytes.now % size_of (type_of self.old) ≡ 0 }
+        ensures ok { OnOk result (self.new ≡ with_bytes self.old bytes.now) }
+        ensures err { OnErr result (self.new ≡ self.old) }
+    {
+        match self {
+            Values::Bytes(items) => items.push_from(bytes),
+            Values::Chars(items) => items.push_from(bytes),
+            Values::Shorts(items) => items.push_from(bytes),
+            Values::Ints(items) => items.push_from(bytes),
+            Values::Floats(items) => items.push_from(bytes),
+            Values::Doubles(items) => items.push_from(bytes),
+            Values::UBytes(items) => items.push_from(bytes),
+            Values::UShorts(items) => items.push_from(bytes),
+            Values::UInts(items) => items.push_from(bytes),
+            Values::Int64s(items) => items.push_from(bytes),
+            Values::UInt64s(items) => items.push_from(bytes),
+        }
+    }
+
+    /// Writes the bytes of the values from `first` on, as many as `out` has room for.
+    pub fn put_from(&self, first: usize, out: &mut [u8])
+        requires whole { length out.old % size_of (type_of self.now) ≡ 0 }
+        requires there { first + length out.old / size_of (type_of self.now) ≤ count_of self.now }
+        ensures { out.new ≡ take (length out.old) (drop (first * size_of (type_of self.now)) (bytes_of self.now)) }
+    {
+        match self {
+            Values::Bytes(items) => items.put_from(first, out),
+            Values::Chars(items) => items.put_from(first, out),
+            Values::Shorts(items) => items.put_from(first, out),
+            Values::Ints(items) => items.put_from(first, out),
+            Values::Floats(items) => items.put_from(first, out),
+            Values::Doubles(items) => items.put_from(first, out),
+            Values::UBytes(items) => items.put_from(first, out),
+            Values::UShorts(items) => items.put_from(first, out),
+            Values::UInts(items) => items.put_from(first, out),
+            Values::Int64s(items) => items.put_from(first, out),
+            Values::UInt64s(items) => items.put_from(first, out),
+        }
+    }
+}
