@@ -264,7 +264,16 @@ fn statuses(rt: HostRuntime) -> Result<(), Fail> {
     assert!(rt; out.as_slice() == b"ncc 0.1.0\n".as_slice());
     assert!(rt; err.is_empty());
     let (status, out, _) = outcome(&rt, "ncc list --help")?;
+    let help =
+        "Lists what the header of a file says\n\nUsage: ncc list <FILE>\n\nArguments:\n  <FILE>  A netCDF classic file\n\nOptions:\n  -h, --help  Print help\n";
     assert_eq!(rt; status, 0);
-    assert!(rt; !out.is_empty());
+    assert!(rt; out.as_slice() == help.as_bytes());
+    let (status, out, _) = outcome(&rt, "ncc --help")?;
+    assert_eq!(rt; status, 0);
+    assert!(rt;
+        out.as_slice().starts_with(
+            b"Lists the headers of netCDF classic files\n\nUsage: ncc <COMMAND>\n"
+        )
+    );
     Ok(())
 }

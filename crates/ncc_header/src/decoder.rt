@@ -143,6 +143,7 @@ impl Decoder {
     /// The header, where the input ends behind the pieces.
     pub fn finish(self) -> Result<Header, HeaderError>
         ensures answers { (taken : List ℕ) → Took self taken → Answers taken (limit_of self) result }
+        ensures spent { IsSpent self → result ≡ Err HeaderError.Memory }
         ensures memory { result ≡ Err HeaderError.Memory → IsSpent self }
     {
         match self.standing {

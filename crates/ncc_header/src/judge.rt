@@ -1,6 +1,6 @@
 //! What the value of each field is judged for.
 
-ghost use Rattle.std.specs.Prelude.{◌≡◌, ◌≤◌, ◌<◌, length, nat_lt, unwrap_or, IfOk, OnOk};
+ghost use Rattle.std.specs.Prelude.{◌≡◌, nat_lt, unwrap_or, IfOk};
 ghost use Rattle.ncc_values.specs.Version.{version_of};
 ghost use Rattle.ncc_values.specs.declared.version.Version.TheVariants.{V1};
 ghost use Rattle.ncc_header.specs.Schema.{count_limit, record_dims};

@@ -2,7 +2,6 @@
 
 ghost use Rattle.std.specs.Prelude.{◌≡◌, ◌<◌, ◌≤◌, length, Some, IfOk};
 ghost use Rattle.ncc_values.specs.Numbers.{number_of};
-ghost use Rattle.ncc_values.specs.Padding.{padding_of};
 ghost use Rattle.ncc_values.specs.Version.{count_width_of};
 ghost use Rattle.ncc_header.specs.declared.state.State.TheVariants as states;
 ghost use Rattle.ncc_header.specs.declared.state.StepError.TheVariants.{Memory, Wrong as IsWrong};

@@ -1,6 +1,6 @@
 //! Taking the bytes of a piece, field by field.
 
-ghost use Rattle.std.specs.Prelude.{◌≡◌, ◌≢◌, ◌+◌, ◌*◌, ◌≤◌, ◌<◌, ◌++◌, List, ℕ, length, take, Some, IfOk, IfErr};
+ghost use Rattle.std.specs.Prelude.{◌≡◌, ◌+◌, ◌≤◌, ◌<◌, ◌++◌, ℕ, length, take, Some, IfOk, IfErr};
 ghost use Rattle.ncc_header.specs.States.{left_of, size_of, front_of, idle_of, first_at};
 ghost use Rattle.ncc_header.specs.Held.{next_size, held_length};
 ghost use Rattle.ncc_header.specs.Reading.{held_of, told_of, Takes, FailsBehind, Waits};

@@ -1,7 +1,8 @@
 //! Tables of the format, and that each call succeeds where there is memory.
 
 use crate::{
-    Char, External, F32Bits, F64Bits, Seq, Values, Version, XType, fill_default, name_fits, number, pad,
+    Char, External, F32Bits, F64Bits, Seq, Values, Version, XType, fill_default, name_fits, number,
+    pad,
 };
 use std::alloc::Global;
 use std::fmt::Debug;
