@@ -1,7 +1,8 @@
 -- A text that was sent is that of the input, or a front of it.
-use Rattle.std.proofs.Common.{◌≡◌, ℕ, List, Option, Some, None, Result, Ok, Err, refl, sym, ap, ◌∙◌, ◌⊎◌, inl, inr}
+use Rattle.std.proofs.Common.{◌≡◌, ℕ, List, Option, Some, None, Result, Ok, Err, refl, sym, ap, subst, ◌∙◌, ◌⊎◌, inl, inr}
 use Rattle.std.specs.Prelude.{IfSome}
 use Rattle.ncc_header.specs.declared.fault.Fault.{Fault}
+use Rattle.ncc_header.specs.declared.fault.HeaderError.{HeaderError}
 use Rattle.ncc_header.specs.declared.fault.HeaderError.TheVariants as errors
 use Rattle.ncc_header.specs.declared.schema.Header.{Header}
 use Rattle.ncc_header.specs.Device.{Puts}
@@ -34,10 +35,21 @@ sent laws input limit old new text answer (Ok x) l any s = (text, s, l)
 sent laws input limit old new text answer (Err halts.Device) l any s = (s.0, s.3, λ t a. (s.1, one_text laws input limit t text a any ∙ s.2))
 sent laws input limit old new text answer (Err halts.Memory) l any s = (s.0, s.3, λ t a. (s.1, one_text laws input limit t text a any ∙ s.2))
 
-pub sent_list : Laws → (left : Option (List ℕ)) (limit : ℕ) (old new : Option (List ℕ)) (h : Header) (result : Result (Unit {0}) Halt) → IfSome left (λ input. AnswersOf input limit (Ok h)) → Sends old new (list_text h.schema) result → IfSome left (λ input. Gone input limit old new (answer_of result answers.Passed))
-sent_list laws None limit old new h result a s = tt
-sent_list laws (Some input) limit old new h result a s = sent laws input limit old new (list_text h.schema) answers.Passed result (h, a, refl) (inl (h, a, refl)) s
+gone_of : (left : Option (List ℕ)) (limit : ℕ) (old new : Option (List ℕ)) (answer result : Answer) → result ≡ answer → IfSome left (λ input. Gone input limit old new answer) → IfSome left (λ input. Gone input limit old new result)
+gone_of left limit old new answer result e g = subst (λ (a : Answer). IfSome left (λ input. Gone input limit old new a)) (sym e) g
 
-pub sent_fault : Laws → (left : Option (List ℕ)) (limit : ℕ) (old new : Option (List ℕ)) (f : Fault) (result : Result (Unit {0}) Halt) → IfSome left (λ input. AnswersOf input limit (Err (errors.Fault f))) → Sends old new (fault_line f) result → IfSome left (λ input. Gone input limit old new (answer_of result answers.Refused))
-sent_fault laws None limit old new f result a s = tt
-sent_fault laws (Some input) limit old new f result a s = sent laws input limit old new (fault_line f) answers.Refused result (f, a, refl) (inr (f, a, refl)) s
+list_gone : Laws → (left : Option (List ℕ)) (limit : ℕ) (old new : Option (List ℕ)) (h : Header) (result : Result (Unit {0}) Halt) → IfSome left (λ input. AnswersOf input limit (Ok h)) → Sends old new (list_text h.schema) result → IfSome left (λ input. Gone input limit old new (answer_of result answers.Passed))
+list_gone laws None limit old new h result a s = tt
+list_gone laws (Some input) limit old new h result a s = sent laws input limit old new (list_text h.schema) answers.Passed result (h, a, refl) (inl (h, a, refl)) s
+
+pub sent_list : Laws → (left : Option (List ℕ)) (limit : ℕ) (old new : Option (List ℕ)) (h : Header) (result : Result (Unit {0}) Halt) (answer : Answer) → IfSome left (λ input. AnswersOf input limit (Ok h)) → Sends old new (list_text h.schema) result → answer ≡ answer_of result answers.Passed → IfSome left (λ input. Gone input limit old new answer)
+sent_list laws left limit old new h result answer a s e = gone_of left limit old new (answer_of result answers.Passed) answer e (list_gone laws left limit old new h result a s)
+
+fault_gone : Laws → (left : Option (List ℕ)) (limit : ℕ) (old new : Option (List ℕ)) (f : Fault) (result : Result (Unit {0}) Halt) → IfSome left (λ input. AnswersOf input limit (Err (errors.Fault f))) → Sends old new (fault_line f) result → IfSome left (λ input. Gone input limit old new (answer_of result answers.Refused))
+fault_gone laws None limit old new f result a s = tt
+fault_gone laws (Some input) limit old new f result a s = sent laws input limit old new (fault_line f) answers.Refused result (f, a, refl) (inr (f, a, refl)) s
+
+pub sent_fault : Laws → (left : Option (List ℕ)) (limit : ℕ) (old new : Option (List ℕ)) (f : Fault) (error : HeaderError) (result : Result (Unit {0}) Halt) (answer : Answer) → error ≡ errors.Fault f → IfSome left (λ input. AnswersOf input limit (Err error)) → Sends old new (fault_line f) result → answer ≡ answer_of result answers.Refused → IfSome left (λ input. Gone input limit old new answer)
+sent_fault laws left limit old new f error result answer is a s e =
+    gone_of left limit old new (answer_of result answers.Refused) answer e
+    (fault_gone laws left limit old new f result (subst (λ (x : HeaderError). IfSome left (λ input. AnswersOf input limit (Err x))) is a) s)

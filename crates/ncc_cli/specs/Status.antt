@@ -1,5 +1,7 @@
--- The program's status, by what the command came to.
-use Rattle.std.specs.Prelude.{ℕ}
+-- The program's status, by what the command came to or why the words were not taken.
+use Rattle.std.specs.Prelude.{◌≡◌, ℕ, ◌⊎◌}
+use Rattle.clap.specs.declared.error.kind.ErrorKind.{ErrorKind}
+use Rattle.clap.specs.declared.error.kind.ErrorKind.TheVariants.{DisplayHelp, DisplayVersion, OutOfMemory}
 use Rattle.ncc_cli.specs.declared.answer.Answer.{Answer}
 use Rattle.ncc_cli.specs.declared.answer.Answer.TheVariants.{Passed, Refused, Device, Memory}
 
@@ -8,3 +10,15 @@ status_of Passed = 0
 status_of Refused = 1
 status_of Device = 3
 status_of Memory = 3
+
+-- help is no fault, and the words' faults are 2; either may fail to be written
+abbrev pub Explains : ErrorKind → (status : ℕ) → Type 0
+Explains DisplayHelp status = (status ≡ 0) ⊎ (status ≡ 3)
+Explains DisplayVersion status = (status ≡ 0) ⊎ (status ≡ 3)
+Explains OutOfMemory status = status ≡ 3
+Explains _ status = (status ≡ 2) ⊎ (status ≡ 3)
+
+-- the answer stays, unless what was left in a buffer could not go out
+abbrev pub Flushes : (old new : Answer) → Type 0
+Flushes Memory new = new ≡ Memory
+Flushes old new = (new ≡ old) ⊎ (new ≡ Device)

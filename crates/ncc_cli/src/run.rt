@@ -1,7 +1,8 @@
 //! The command line.
 
 ghost use Rattle.std.specs.Prelude.{◌≡◌, ◌≤◌};
-ghost use Rattle.ncc_cli.specs.Status.{status_of};
+ghost use Rattle.clap.specs.Values.{kind_of};
+ghost use Rattle.ncc_cli.specs.Status.{status_of, Explains, Flushes};
 
 use crate::answer::Answer;
 use crate::listing::list_engine;
@@ -63,7 +64,9 @@ pub fn finish<E: Write>(answer: Answer, err: &mut E) -> u8
 }
 
 /// The answer, once what is left in a buffer went out.
-fn flushed<W: Write>(writer: &mut W, answer: Answer) -> Answer {
+fn flushed<W: Write>(writer: &mut W, answer: Answer) -> Answer
+    ensures { Flushes answer result }
+{
     if writer.flush().is_ok() {
         return answer;
     }
@@ -89,7 +92,7 @@ fn list<R: Files + AllocGlobal, O: Write>(rt: &R, path: &str, out: &mut O) -> An
 
 /// Writes the parser's own text: help to `out`, and faults of the words to `err`.
 fn explain<O: Write, E: Write>(alloc: Global, error: &Error, out: &mut O, err: &mut E) -> u8
-    ensures { result ≤ 3 }
+    ensures { Explains (kind_of error.now) result }
 {
     if error.kind() == ErrorKind::OutOfMemory {
         return finish(Answer::Memory, err);
