@@ -5,8 +5,8 @@ mod RefusedKinds
 mod OneField
 mod TakeField
 mod TakePiece
-pub mod HeaderLaws
+mod HeaderLaws
 mod Feeding
-pub mod Deciding
+mod Deciding
 mod FromSource
 pub mod Writing
