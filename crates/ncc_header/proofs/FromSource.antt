@@ -18,10 +18,6 @@ use Rattle.ncc_header.proofs.HeaderLaws.{header_stop_stays}
 
 -- ---- bytes that are lost by turns
 
-loses_none : (old : Option (List ℕ)) → Loses old old []
-loses_none None = tt
-loses_none (Some xs) = (xs, refl, refl)
-
 loses_both : (old mid new : Option (List ℕ)) (a b : List ℕ) → Loses old mid a → Loses mid new b → Loses old new (a ++ b)
 loses_both None mid new a b p q = tt
 loses_both (Some xs) mid new a b p q =
@@ -37,9 +33,6 @@ pub record HasRead (old now : Option (List ℕ)) (decoder : Decoder) (limit take
   pub took : Took decoder bytes
   pub limit_is : limit_of decoder ≡ limit
   pub long : length bytes ≡ taken
-
-pub has_read_none : (old : Option (List ℕ)) (decoder : Decoder) (limit : ℕ) → Took decoder [] → limit_of decoder ≡ limit → HasRead old old decoder limit 0
-has_read_none old decoder limit took is = record { bytes = []; lost = loses_none old; took = took; limit_is = is; long = refl }
 
 pub has_read_more : (old mid new : Option (List ℕ)) (d e : Decoder) (limit taken : ℕ) (piece : List ℕ) (n : ℕ) → HasRead old mid d limit taken → Loses mid new piece → ((bytes : List ℕ) → Took d bytes → Took e (bytes ++ piece)) → limit_of e ≡ limit_of d → length piece ≡ n → HasRead old new e limit (taken + n)
 has_read_more old mid new d e limit taken piece n r lost took is long = record {
@@ -65,10 +58,6 @@ answers_of input limit (Err errors.Memory) a = a
 answers_lost : (old new : Option (List ℕ)) (limit : ℕ) (bytes : List ℕ) (result : Result Header HeaderError) → Loses old new bytes → ((rest : List ℕ) → new ≡ Some rest → Answers (bytes ++ rest) limit result) → AnswersSource old limit result
 answers_lost None new limit bytes result lost a = tt
 answers_lost (Some input) new limit bytes result lost a = subst (λ (x : List ℕ). AnswersOf x limit result) (sym lost.2) (answers_of (bytes ++ lost.0) limit result (a lost.0 lost.1))
-
-pub device_answers : (old : Option (List ℕ)) (limit : ℕ) → AnswersSource old limit (Err errors.Device)
-device_answers None limit = tt
-device_answers (Some input) limit = tt
 
 failed_more : (taken more : List ℕ) (limit : ℕ) (e : HeaderError) → FailedOn taken limit e → Answers (taken ++ more) limit (Err e)
 failed_more taken more limit (errors.Fault f) h = header_stop_stays taken more limit f h.0 h.1

@@ -1,5 +1,5 @@
 -- What a reading has still to read, once bytes were taken.
-use Rattle.std.proofs.Common.{◌≡◌, ℕ, ◌+◌, ◌≤◌, List, [], ◌++◌, length, Some, sym, ap, ap₂, subst₂, ◌∙◌, append_assoc, arith, Err}
+use Rattle.std.proofs.Common.{◌≡◌, ℕ, ◌+◌, ◌≤◌, List, [], ◌++◌, length, Some, sym, ap, ap₂, subst₂, ◌∙◌, arith, Err}
 use Rattle.std.proofs.lemmas.List.{length-append}
 use Rattle.ncc_header.specs.declared.reading.Reading.{Reading}
 use Rattle.ncc_header.specs.declared.state.State.{State}
@@ -20,16 +20,6 @@ takes_field old new n front is within long adv none limit at = record {
       field_goes_on (left_of old.state) (left_of new.state) old.limit old.at n (held_of old) front more is within (length-append (held_of old) front ∙ long) adv
       ∙ sym (ap₂ (λ (l a : ℕ). read (left_of new.state) l a (held_of new ++ more)) limit at ∙ ap (λ (h : List ℕ). read (left_of new.state) old.limit (old.at + n) (h ++ more)) none);
   long = let empty : length (held_of new) ≡ 0 = ap length none in omega (arith, empty, long, at);
-}
-
--- bytes are taken that don't make the field whole
-pub takes_part : (old new : Reading) (front : List ℕ) → left_of new.state ≡ left_of old.state → held_of new ≡ held_of old ++ front → new.limit ≡ old.limit → new.at ≡ old.at → Takes old new front
-takes_part old new front left held limit at = record {
-  limit = limit;
-  goes_on = λ more.
-      ap (read (left_of old.state) old.limit old.at) (sym (append_assoc (held_of old) front more) ∙ ap (λ (h : List ℕ). h ++ more) (sym held))
-      ∙ sym (ap (λ (g : Grammar Schema). read g new.limit new.at (held_of new ++ more)) left ∙ ap₂ (λ (l a : ℕ). read (left_of old.state) l a (held_of new ++ more)) limit at);
-  long = let longer : length (held_of new) ≡ length (held_of old ++ front) = ap length held in omega (arith, longer, length-append (held_of old) front, at);
 }
 
 -- the field's last bytes are refused

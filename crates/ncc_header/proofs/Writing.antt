@@ -1,8 +1,7 @@
 -- Putting out a text by turns.
-use Rattle.std.proofs.Common.{◌≡◌, ℕ, List, [], ◌++◌, Option, Some, None, Err, refl, sym, ap, subst, ◌∙◌, append_assoc}
+use Rattle.std.proofs.Common.{◌≡◌, ℕ, List, [], ◌++◌, Option, Some, None, refl, sym, ap, subst, ◌∙◌, append_assoc}
 use Rattle.std.proofs.lemmas.List.{append-nil}
-use Rattle.ncc_header.specs.declared.failed.Failed.{Failed}
-use Rattle.ncc_header.specs.Device.{Puts, WritesAll}
+use Rattle.ncc_header.specs.Device.{Puts}
 
 -- told bytes that grow twice grow by both
 pub puts_both : (old mid new : Option (List ℕ)) (a b : List ℕ) → Puts old mid a → Puts mid new b → Puts old new (a ++ b)
@@ -30,9 +29,3 @@ so_far_more old now new text rest piece after s e p = record {
   joined = s.joined ∙ ap (λ (z : List ℕ). s.front ++ z) e ∙ sym (append_assoc s.front piece after);
   puts = puts_both old now new s.front piece s.puts p;
 }
-
-pub so_far_fails : (old now new : Option (List ℕ)) (text rest : List ℕ) (e : Failed) → SoFar old now text rest → Puts now new [] → WritesAll old new (Err e) text
-so_far_fails old now new text rest e s p = let t = so_far_more old now new text rest [] rest s refl p in (t.front, rest, t.joined, t.puts)
-
-pub so_far_done : (old now : Option (List ℕ)) (text rest : List ℕ) → SoFar old now text rest → rest ≡ [] → Puts old now text
-so_far_done old now text rest s e = subst (λ (z : List ℕ). Puts old now z) (sym (s.joined ∙ ap (λ (z : List ℕ). s.front ++ z) e ∙ append-nil s.front)) s.puts
