@@ -1,5 +1,5 @@
 -- Which header an input begins with, or where it stops.
-use Rattle.std.specs.Prelude.{◌≡◌, ℕ, ◌≤◌, ◌⊎◌, List, ◌++◌, length, Result, Ok, Err}
+use Rattle.std.specs.Prelude.{◌≡◌, ℕ, ◌≤◌, ◌⊎◌, List, ◌++◌, length, map, Result, Ok, Err}
 use Rattle.ncc_header.specs.declared.fault.Fault.{Fault}
 use Rattle.ncc_header.specs.declared.fault.HeaderError.{HeaderError}
 use Rattle.ncc_header.specs.declared.fault.HeaderError.TheVariants as errors
@@ -7,6 +7,8 @@ use Rattle.ncc_header.specs.declared.schema.Header.{Header}
 use Rattle.ncc_header.specs.Device.{Rose}
 use Rattle.ncc_header.specs.Grammar.{read, stops}
 use Rattle.ncc_header.specs.Header.{IsHeader}
+use Rattle.ncc_header.specs.Marks.{header_marks, header_begins}
+use Rattle.ncc_header.specs.Schema.{places_of}
 use Rattle.ncc_header.specs.Fields.{header}
 
 -- a front of the input, of at most limit bytes, is this header
@@ -14,7 +16,9 @@ pub record Begins (input : List ℕ) (limit : ℕ) (h : Header) : Type 0 where
   pub front : List ℕ
   pub rest : List ℕ
   pub joined : input ≡ front ++ rest
-  pub is_header : IsHeader h.schema front
+  pub is_header : IsHeader h.schema (places_of h.places) front
+  pub begins : map (λ p. p.begin_at) h.places ≡ header_begins front
+  pub marks : h.marks ≡ header_marks front
   pub long : h.length ≡ length front
   pub within : h.length ≤ limit
 

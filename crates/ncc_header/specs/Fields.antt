@@ -1,19 +1,26 @@
 -- The header as a sequence of fields, each with what it is judged for.
-use Rattle.std.specs.Prelude.{ℕ, List, [], Option, Some, None, Bool, true, false, ltb, is_some, not, ◌==◌, ◌&&◌, ◌||◌, if◌then◌else◌, unwrap_or}
+use Rattle.std.specs.Prelude.{ℕ, ◌*◌, List, [], length, map, Option, Some, None, Bool, true, false, ltb, is_some, not, ◌==◌, ◌&&◌, ◌||◌, if◌then◌else◌, unwrap_or}
 use Rattle.ncc_values.specs.Numbers.{number_of}
 use Rattle.ncc_values.specs.Padding.{padding_of}
-use Rattle.ncc_values.specs.Version.{version_of, count_width_of}
+use Rattle.ncc_values.specs.Values.{values_of}
+use Rattle.ncc_values.specs.Version.{version_of, count_width_of, offset_width_of}
+use Rattle.ncc_values.specs.XType.{size_of, type_of_code}
+use Rattle.ncc_values.specs.declared.values.Values.{Values}
 use Rattle.ncc_values.specs.declared.version.Version.{Version}
 use Rattle.ncc_values.specs.declared.version.Version.TheVariants.{V1}
+use Rattle.ncc_values.specs.declared.xtype.XType.{XType}
+use Rattle.ncc_values.specs.declared.xtype.XType.TheVariants.{Byte}
 use Rattle.ncc_header.specs.declared.fault.FaultKind.{FaultKind}
-use Rattle.ncc_header.specs.declared.fault.FaultKind.TheVariants.{Unsupported, BadMagic, BadVersion, NegativeCount, BadTag, TwoRecordDims}
+use Rattle.ncc_header.specs.declared.fault.FaultKind.TheVariants.{BadMagic, BadVersion, NegativeCount, BadTag, BadType, TwoRecordDims, BadDimId, RecordDimNotFirst, NegativeOffset}
 use Rattle.ncc_header.specs.declared.wrong.Wrong.{Wrong}
 use Rattle.ncc_header.specs.declared.schema.Count.{Count}
 use Rattle.ncc_header.specs.declared.schema.Count.TheVariants.{Known, Streaming}
 use Rattle.ncc_header.specs.declared.schema.Dim.{Dim}
+use Rattle.ncc_header.specs.declared.schema.Attr.{Attr}
+use Rattle.ncc_header.specs.declared.schema.Var.{Var}
 use Rattle.ncc_header.specs.declared.schema.Schema.{Schema}
-use Rattle.ncc_header.specs.Grammar.{Label, Plain, Padding, CountOfTagged, Grammar, done, field, ◌>>=◌, ◌into◌, repeat}
-use Rattle.ncc_header.specs.Schema.{count_limit, length_limit, mark, record_dims}
+use Rattle.ncc_header.specs.Grammar.{Label, Plain, Padding, CountOfTagged, Begin, Grammar, done, field, ◌>>=◌, ◌into◌, repeat}
+use Rattle.ncc_header.specs.Schema.{count_limit, length_limit, offset_limit, mark, Place, record_dims, is_record}
 
 -- ---- judgements
 
@@ -36,7 +43,7 @@ abbrev pub magic_wrong : ℕ → Option Wrong
 magic_wrong n = unless (n == 0x434446) BadMagic
 
 abbrev pub version_wrong : ℕ → Option Wrong
-version_wrong n = first (unless (is_some (version_of n)) BadVersion) (unless (n == 1) Unsupported)
+version_wrong n = unless (is_some (version_of n)) BadVersion
 
 -- nelems
 abbrev pub count_wrong : Version → ℕ → Option Wrong
@@ -49,12 +56,18 @@ tag_wrong own t = unless ((t == 0) || (t == own)) BadTag
 abbrev pub list_count_wrong : Version → (t : ℕ) → ℕ → Option Wrong
 list_count_wrong v t n = first (count_wrong v n) (at_tag_if ((t == 0) && not (n == 0)) BadTag)
 
--- the same of a list whose items are not read as yet
-abbrev pub no_count_wrong : Version → (t : ℕ) → ℕ → Option Wrong
-no_count_wrong v t n = first (list_count_wrong v t n) (at_tag_if (not (n == 0)) Unsupported)
-
 abbrev pub length_wrong : Version → (before : List Dim) → ℕ → Option Wrong
 length_wrong v before n = first (unless (ltb n (length_limit v)) NegativeCount) (unless (not ((n == 0) && ltb 0 (record_dims before))) TwoRecordDims)
+
+abbrev pub type_wrong : Version → ℕ → Option Wrong
+type_wrong v n = unless (is_some (type_of_code v n)) BadType
+
+-- a dimension's number, behind the variable's numbers before it
+abbrev pub dimid_wrong : List Dim → (before : List ℕ) → ℕ → Option Wrong
+dimid_wrong dims before n = first (unless (ltb n (length dims)) BadDimId) (unless (not (is_record dims n && ltb 0 (length before))) RecordDimNotFirst)
+
+abbrev pub begin_wrong : Version → ℕ → Option Wrong
+begin_wrong v n = unless (ltb n (offset_limit v)) NegativeOffset
 
 -- ---- single fields
 
@@ -104,15 +117,6 @@ list v own item = do
   n ← list_head v own
   repeat item [] n
 
-abbrev pub no_count : Version → (t : ℕ) → Grammar ℕ
-no_count v t = number_field (label_of_count t) (count_width_of v) (no_count_wrong v t)
-
--- a list that has no items
-abbrev pub no_list : Version → (own : ℕ) → Grammar ℕ
-no_list v own = do
-  t ← list_tag own
-  no_count v t
-
 abbrev pub dim_length : Version → (before : List Dim) → Grammar ℕ
 dim_length v before = number (count_width_of v) (length_wrong v before)
 
@@ -122,6 +126,53 @@ dim v before = do
   text ← name v
   n ← dim_length v before
   done (record { name = text; length = n })
+
+-- nc_type
+abbrev pub nc_type : Version → Grammar XType
+nc_type v = number 4 (type_wrong v) into λ n. unwrap_or (type_of_code v n) Byte
+
+-- [values ...]
+abbrev pub values : XType → (number : ℕ) → Grammar Values
+values t k = field Plain (k * size_of t) (λ b. None) (λ b. done (values_of t b))
+
+-- attr = name nc_type nelems [values ...] padding
+abbrev pub attr : Version → Grammar Attr
+attr v = do
+  text ← name v
+  t ← nc_type v
+  k ← count v
+  vs ← values t k
+  zeros ← padding (k * size_of t)
+  done (record { name = text; values = vs })
+
+abbrev pub attrs : Version → Grammar (List Attr)
+attrs v = list v 12 (λ before. attr v)
+
+abbrev pub dimid : Version → List Dim → (before : List ℕ) → Grammar ℕ
+dimid v dims before = number (count_width_of v) (dimid_wrong dims before)
+
+-- nelems [dimid ...]
+abbrev pub dimids : Version → List Dim → Grammar (List ℕ)
+dimids v dims = do
+  n ← count v
+  repeat (dimid v dims) [] n
+
+abbrev pub vsize : Version → Grammar ℕ
+vsize v = number (count_width_of v) (λ n. None)
+
+abbrev pub begin : Version → Grammar ℕ
+begin v = number_field Begin (offset_width_of v) (begin_wrong v)
+
+-- var = name nelems [dimid ...] vatt_list nc_type vsize begin
+abbrev pub var : Version → List Dim → Grammar (Var × Place)
+var v dims = do
+  text ← name v
+  ids ← dimids v dims
+  as ← attrs v
+  t ← nc_type v
+  size ← vsize v
+  at ← begin v
+  done (record { name = text; dims = ids; attrs = as; xtype = t }, record { vsize = size; begin = at })
 
 -- magic = 'C' 'D' 'F' VERSION
 abbrev pub magic : Grammar ℕ
@@ -137,13 +188,13 @@ count_of v n = if n == mark v then Streaming else Known n
 abbrev pub numrecs : Version → Grammar Count
 numrecs v = number (count_width_of v) (λ n. None) into count_of v
 
--- header = magic numrecs dim_list gatt_list var_list, the last two empty as yet
-abbrev pub header : Grammar Schema
+-- header = magic numrecs dim_list gatt_list var_list
+abbrev pub header : Grammar (Schema × List Place)
 header = do
   letters ← magic
   v ← version
   c ← numrecs v
   dims ← list v 10 (dim v)
-  globals ← no_list v 12
-  variables ← no_list v 11
-  done (record { version = v; count = c; dims = dims })
+  gatts ← attrs v
+  vars ← list v 11 (λ before. var v dims)
+  done (record { version = v; count = c; dims = dims; gatts = gatts; vars = map (λ x. x.0) vars }, map (λ x. x.1) vars)

@@ -1,5 +1,5 @@
 -- Grammars as sequences of fields: what bytes spell, and where and why an input stops.
-use Rattle.std.specs.Prelude.{◌≡◌, ℕ, zero, suc, ◌+◌, ◌-◌, List, [], ◌∷◌, ◌++◌, length, take, drop, Option, Some, None, ltb, if◌then◌else◌}
+use Rattle.std.specs.Prelude.{◌≡◌, ℕ, zero, suc, ◌+◌, ◌-◌, List, [], ◌∷◌, ◌++◌, length, take, drop, Option, Some, None, ltb, is_some, if◌then◌else◌}
 use Rattle.ncc_values.specs.Numbers.{IsBytes}
 use Rattle.ncc_header.specs.declared.fault.FaultKind.{FaultKind}
 use Rattle.ncc_header.specs.declared.fault.FaultKind.TheVariants.{HeaderTooLong, EndsEarly}
@@ -7,7 +7,7 @@ use Rattle.ncc_header.specs.declared.wrong.Wrong.{Wrong}
 
 -- what a field is, for those who look for fields of a kind
 pub data Label : Type 0 where
-  Plain Padding CountOfTagged : Label
+  Plain Padding CountOfTagged Begin : Label
 
 -- Fields one after another: each has a size in bytes, a judgement of its bytes, and what follows once they are read.
 pub data Grammar (A : Type 0) : Type 0 where
@@ -39,6 +39,28 @@ read (field label size wrong next) limit at input =
     if ltb limit (at + size) then stops at HeaderTooLong
     else if ltb (length input) size then stops at EndsEarly
     else unless_wrong (wrong (take size input)) at onward
+
+-- the bytes that the field in which the input ends early still lacks; none where it doesn't end early
+unfoldable pub lacking : {A : Type 0} → Grammar A → (limit at : ℕ) → List ℕ → ℕ
+lacking (done a) limit at input = 0
+lacking (field label size wrong next) limit at input =
+    let onward = lacking (next (take size input)) limit (at + size) (drop size input) in
+    if ltb limit (at + size) then 0
+    else if ltb (length input) size then size - length input
+    else if is_some (wrong (take size input)) then 0 else onward
+
+-- ---- the fields of a spelling
+
+pub record Field : Type 0 where
+  pub label : Label
+  pub at : ℕ
+  pub bytes : List ℕ
+
+-- the fields that bytes spell, from an offset on
+unfoldable pub fields : {A : Type 0} → Grammar A → (at : ℕ) → List ℕ → List Field
+fields (done a) at bytes = []
+fields (field label size wrong next) at bytes =
+    record { label = label; at = at; bytes = take size bytes } ∷ fields (next (take size bytes)) (at + size) (drop size bytes)
 
 -- ---- joining
 

@@ -1,15 +1,20 @@
--- What bytes spell a schema as a header: the grammar, one definition a rule, and the canonical spelling.
-use Rattle.std.specs.Prelude.{◌≡◌, ℕ, zero, suc, ◌⊎◌, List, [], ◌∷◌, ◌++◌, length, replicate}
+-- What bytes spell a schema and a placement as a header: the grammar, one definition a rule, and the canonical spelling.
+use Rattle.std.specs.Prelude.{◌≡◌, ℕ, zero, suc, ◌*◌, ◌⊎◌, List, [], ◌∷◌, ◌++◌, length, replicate, zip}
 use Rattle.std.specs.List.{flat_map}
 use Rattle.ncc_values.specs.Numbers.{IsBytes, big_endian}
 use Rattle.ncc_values.specs.Padding.{padding_of}
-use Rattle.ncc_values.specs.Version.{byte_of, count_width_of}
+use Rattle.ncc_values.specs.Values.{type_of, count_of, bytes_of}
+use Rattle.ncc_values.specs.Version.{byte_of, count_width_of, offset_width_of}
+use Rattle.ncc_values.specs.XType.{code_of, size_of}
 use Rattle.ncc_values.specs.declared.version.Version.{Version}
+use Rattle.ncc_values.specs.declared.xtype.XType.{XType}
 use Rattle.ncc_header.specs.declared.schema.Count.{Count}
 use Rattle.ncc_header.specs.declared.schema.Count.TheVariants.{Known, Streaming}
 use Rattle.ncc_header.specs.declared.schema.Dim.{Dim}
+use Rattle.ncc_header.specs.declared.schema.Attr.{Attr}
+use Rattle.ncc_header.specs.declared.schema.Var.{Var}
 use Rattle.ncc_header.specs.declared.schema.Schema.{Schema}
-use Rattle.ncc_header.specs.Schema.{mark, Legal}
+use Rattle.ncc_header.specs.Schema.{mark, Place, Legal}
 
 -- ---- joining spellings
 
@@ -38,7 +43,7 @@ each item (a ∷ items) = item a ⨾ each item items
 abbrev pub number : (width : ℕ) → ℕ → Language
 number width n = exactly (big_endian width n)
 
--- a number of items, or a length
+-- a number of items, a length, a dimension's number or a vsize
 abbrev pub count : Version → ℕ → Language
 count v n = number (count_width_of v) n
 
@@ -65,20 +70,41 @@ list v tag item items = list_head v tag (length items) ⨾ each item items
 abbrev pub dim : Version → Dim → Language
 dim v d = name v d.name ⨾ count v d.length
 
+-- nc_type
+abbrev pub nc_type : XType → Language
+nc_type t = number 4 (code_of t)
+
+-- attr = name nc_type nelems [values ...] padding
+abbrev pub attr : Version → Attr → Language
+attr v a =
+    name v a.name ⨾ nc_type (type_of a.values) ⨾ count v (count_of a.values)
+    ⨾ exactly (bytes_of a.values) ⨾ padding (count_of a.values * size_of (type_of a.values))
+
+-- nelems [dimid ...]
+abbrev pub dimids : Version → List ℕ → Language
+dimids v ids = count v (length ids) ⨾ each (count v) ids
+
+-- var = name nelems [dimid ...] vatt_list nc_type vsize begin
+abbrev pub var : Version → Var × Place → Language
+var v x =
+    name v x.0.name ⨾ dimids v x.0.dims ⨾ list v 12 (attr v) x.0.attrs
+    ⨾ nc_type x.0.xtype ⨾ count v x.1.vsize ⨾ number (offset_width_of v) x.1.begin
+
 abbrev pub counted : Version → Count → ℕ
 counted v (Known n) = n
 counted v Streaming = mark v
 
--- header = magic numrecs dim_list gatt_list var_list, the last two empty as yet
-abbrev pub header : Schema → Language
-header s =
+-- header = magic numrecs dim_list gatt_list var_list
+abbrev pub header : Schema → List Place → Language
+header s places =
     exactly (0x43 ∷ 0x44 ∷ 0x46 ∷ []) ⨾ number 1 (byte_of s.version) ⨾ count s.version (counted s.version s.count)
-    ⨾ list s.version 10 (dim s.version) s.dims ⨾ list_head s.version 12 0 ⨾ list_head s.version 11 0
+    ⨾ list s.version 10 (dim s.version) s.dims ⨾ list s.version 12 (attr s.version) s.gatts
+    ⨾ list s.version 11 (var s.version) (zip s.vars places)
 
--- all of b is a header of s
-pub record IsHeader (s : Schema) (b : List ℕ) : Type 0 where
-  pub legal : Legal s
-  pub spelled : header s b
+-- all of b is a header of s, whose variables are at these places
+pub record IsHeader (s : Schema) (places : List Place) (b : List ℕ) : Type 0 where
+  pub legal : Legal s places
+  pub spelled : header s places b
 
 -- ---- the canonical spelling: zero padding, and zero tags for empty lists
 
@@ -98,7 +124,20 @@ canon_list v tag item items = canon_head v tag (length items) ++ flat_map item i
 abbrev pub canon_dim : Version → Dim → List ℕ
 canon_dim v d = canon_name v d.name ++ big_endian (count_width_of v) d.length
 
-abbrev pub canon : Schema → List ℕ
-canon s =
+abbrev pub canon_attr : Version → Attr → List ℕ
+canon_attr v a =
+    canon_name v a.name ++ (big_endian 4 (code_of (type_of a.values)) ++ (big_endian (count_width_of v) (count_of a.values)
+    ++ (bytes_of a.values ++ zeros (padding_of (count_of a.values * size_of (type_of a.values))))))
+
+abbrev pub canon_dimids : Version → List ℕ → List ℕ
+canon_dimids v ids = big_endian (count_width_of v) (length ids) ++ flat_map (big_endian (count_width_of v)) ids
+
+abbrev pub canon_var : Version → Var × Place → List ℕ
+canon_var v x =
+    canon_name v x.0.name ++ (canon_dimids v x.0.dims ++ (canon_list v 12 (canon_attr v) x.0.attrs
+    ++ (big_endian 4 (code_of x.0.xtype) ++ (big_endian (count_width_of v) x.1.vsize ++ big_endian (offset_width_of v) x.1.begin))))
+
+abbrev pub canon : Schema → List Place → List ℕ
+canon s places =
     (0x43 ∷ 0x44 ∷ 0x46 ∷ []) ++ (big_endian 1 (byte_of s.version) ++ (big_endian (count_width_of s.version) (counted s.version s.count)
-    ++ (canon_list s.version 10 (canon_dim s.version) s.dims ++ (canon_head s.version 12 0 ++ canon_head s.version 11 0))))
+    ++ (canon_list s.version 10 (canon_dim s.version) s.dims ++ (canon_list s.version 12 (canon_attr s.version) s.gatts ++ canon_list s.version 11 (canon_var s.version) (zip s.vars places)))))

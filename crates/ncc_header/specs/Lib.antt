@@ -2,6 +2,7 @@ pub mod Grammar
 pub mod Schema
 pub mod Header
 pub mod Fields
+pub mod Marks
 pub mod Device
 pub mod Answers
 pub mod Source

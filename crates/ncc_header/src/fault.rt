@@ -10,9 +10,6 @@ use thiserror::Error;
 /// What is wrong with a header.
 #[derive(Clone, Copy, Debug, PartialEq, Eq, Error)]
 pub enum FaultKind {
-    /// A version, or a list with items, that is not read yet.
-    #[error("Unsupported")]
-    Unsupported,
     /// The file doesn't begin with the letters CDF.
     #[error("BadMagic")]
     BadMagic,
@@ -25,9 +22,21 @@ pub enum FaultKind {
     /// A list's tag is neither zero nor its own, or it is zero and the list has items.
     #[error("BadTag")]
     BadTag,
+    /// A type's code that the version doesn't have.
+    #[error("BadType")]
+    BadType,
     /// A second dimension of length 0.
     #[error("TwoRecordDims")]
     TwoRecordDims,
+    /// A dimension's number that isn't below the number of dimensions.
+    #[error("BadDimId")]
+    BadDimId,
+    /// The record dimension at another than the first place of a variable.
+    #[error("RecordDimNotFirst")]
+    RecordDimNotFirst,
+    /// The top bit of a variable's offset is set.
+    #[error("NegativeOffset")]
+    NegativeOffset,
     /// A field ends past the limit of the header's length.
     #[error("HeaderTooLong")]
     HeaderTooLong,

@@ -1,6 +1,6 @@
 //! What a header says.
 
-use ncc_values::{Seq, Version};
+use ncc_values::{Seq, Values, Version, XType};
 
 /// How many records a file has.
 #[derive(Clone, Copy, Debug, PartialEq, Eq)]
@@ -17,17 +17,59 @@ pub struct Dim {
     pub length: u64,
 }
 
+/// An attribute, of a variable or of the whole file.
+#[derive(Debug, Drop, PartialEq, Eq)]
+pub struct Attr {
+    pub name: Seq<u8>,
+    pub values: Values,
+}
+
+/// A variable over dimensions, each given by its number.
+#[derive(Debug, Drop, PartialEq, Eq)]
+pub struct Var {
+    pub name: Seq<u8>,
+    pub dims: Seq<usize>,
+    pub attrs: Seq<Attr>,
+    pub xtype: XType,
+}
+
 /// All that a header says but for the places of its variables.
 #[derive(Debug, Drop, PartialEq, Eq)]
 pub struct Schema {
     pub version: Version,
     pub count: Count,
     pub dims: Seq<Dim>,
+    pub gatts: Seq<Attr>,
+    pub vars: Seq<Var>,
+}
+
+/// What a header says of a variable's place.
+#[derive(Clone, Copy, Debug, PartialEq, Eq)]
+pub struct VarPlace {
+    /// The word for the variable's size in bytes.
+    pub vsize: u64,
+    /// The offset in bytes of the variable's first byte.
+    pub begin: u64,
+    /// The offset in bytes of the field that holds `begin`.
+    pub begin_at: u64,
+}
+
+/// Where a header differs from its canonical spelling, by an offset in bytes.
+#[derive(Clone, Copy, Debug, PartialEq, Eq)]
+pub enum Mark {
+    /// A padding with a byte that isn't zero.
+    Padding(u64),
+    /// A list without items whose tag isn't zero.
+    TaggedEmpty(u64),
 }
 
 /// A header that was read, and its length in bytes.
 #[derive(Debug, Drop, PartialEq, Eq)]
 pub struct Header {
     pub schema: Schema,
+    /// One for each variable, in their order.
+    pub places: Seq<VarPlace>,
     pub length: u64,
+    /// In the order of their offsets.
+    pub marks: Seq<Mark>,
 }
