@@ -168,11 +168,11 @@ abbrev pub var : Version → List Dim → Grammar (Var × Place)
 var v dims = do
   text ← name v
   ids ← dimids v dims
-  as ← attrs v
+  notes ← attrs v
   t ← nc_type v
   size ← vsize v
   at ← begin v
-  done (record { name = text; dims = ids; attrs = as; xtype = t }, record { vsize = size; begin = at })
+  done (record { name = text; dims = ids; attrs = notes; xtype = t }, record { vsize = size; begin = at })
 
 -- magic = 'C' 'D' 'F' VERSION
 abbrev pub magic : Grammar ℕ

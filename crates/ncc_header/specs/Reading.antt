@@ -1,23 +1,45 @@
 -- What a reading has taken, and what it has still to read.
-use Rattle.std.specs.Prelude.{◌≡◌, ◌≢◌, ℕ, ◌+◌, ◌-◌, ◌≤◌, ◌<◌, List, ◌++◌, length, Some}
+use Rattle.std.specs.Prelude.{◌≡◌, ◌≢◌, ℕ, ◌+◌, ◌-◌, ◌≤◌, ◌<◌, List, [], ◌++◌, length, Some}
 use Rattle.ncc_header.specs.declared.fault.Fault.{Fault}
 use Rattle.ncc_header.specs.declared.fault.FaultKind.TheVariants.{EndsEarly}
 use Rattle.ncc_header.specs.declared.fault.HeaderError.{HeaderError}
 use Rattle.ncc_header.specs.declared.fault.HeaderError.TheVariants as errors
 use Rattle.ncc_header.specs.declared.reading.Reading.{Reading}
-use Rattle.ncc_header.specs.declared.schema.Schema.{Schema}
+use Rattle.ncc_header.specs.declared.schema.Mark.{Mark}
 use Rattle.ncc_header.specs.declared.state.StepError.{StepError}
 use Rattle.ncc_header.specs.declared.state.StepError.TheVariants as steps
-use Rattle.ncc_header.specs.Grammar.{Outcome, read, stops}
-use Rattle.ncc_header.specs.States.{left_of, size_of, front_of}
+use Rattle.ncc_header.specs.Grammar.{Grammar, Outcome, read, stops, lacking, fields}
+use Rattle.ncc_header.specs.Fields.{header}
+use Rattle.ncc_header.specs.Marks.{marks, begins}
+use Rattle.ncc_header.specs.States.{Given, left_of, begins_of, size_of, front_of}
+
+-- what becomes of an input: where reading it ends, what it lacks, and what its fields show
+pub record Course : Type 0 where
+  pub outcome : Outcome Given
+  pub lacks : ℕ
+  pub shown : List Mark
+  pub begun : List ℕ
+
+-- of an input for g from an offset on, behind fields that have shown so much
+abbrev pub course : Grammar Given → (limit at : ℕ) → List Mark → List ℕ → (input : List ℕ) → Course
+course g limit at shown begun input = record {
+  outcome = read g limit at input;
+  lacks = lacking g limit at input;
+  shown = shown ++ marks (fields g at input);
+  begun = begun ++ begins (fields g at input);
+}
+
+-- of an input from its first byte on
+abbrev pub from_start : (limit : ℕ) (input : List ℕ) → Course
+from_start limit input = course header limit 0 [] [] input
 
 -- the bytes of the next field that have come
 abbrev pub held_of : Reading → List ℕ
 held_of r = front_of r.state r.held.items
 
--- what becomes of the input where these bytes come next
-abbrev pub onward : Reading → (more : List ℕ) → Outcome Schema
-onward r more = read (left_of r.state) r.limit r.at (held_of r ++ more)
+-- of an input of which a reading has come so far, where these bytes come next
+abbrev pub onward : Reading → (more : List ℕ) → Course
+onward r more = course (left_of r.state) r.limit r.at r.marks.items (begins_of r.state) (held_of r ++ more)
 
 -- The bytes of front were taken.
 pub record Takes (old new : Reading) (front : List ℕ) : Type 0 where
@@ -27,7 +49,7 @@ pub record Takes (old new : Reading) (front : List ℕ) : Type 0 where
 
 -- Behind the bytes of front the input stops so, whatever follows.
 pub record StopsBehind (old : Reading) (front : List ℕ) (f : Fault) : Type 0 where
-  pub stays : (more : List ℕ) → onward old (front ++ more) ≡ stops f.offset f.kind
+  pub stays : (more : List ℕ) → (onward old (front ++ more)).outcome ≡ stops f.offset f.kind
   pub other : f.kind ≢ EndsEarly
 
 -- an error met while the bytes of front were taken

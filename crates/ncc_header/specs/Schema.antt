@@ -124,4 +124,4 @@ pub record LegalPlace (v : Version) (p : Place) : Type 0 where
 pub record Legal (s : Schema) (places : List Place) : Type 0 where
   pub sound : Sound s
   pub number : length places ≡ length s.vars
-  pub places : AllByRecursion (LegalPlace s.version) places
+  pub placed : AllByRecursion (LegalPlace s.version) places

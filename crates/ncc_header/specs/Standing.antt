@@ -11,19 +11,18 @@ use Rattle.ncc_header.specs.declared.standing.Fed.{Fed}
 use Rattle.ncc_header.specs.declared.standing.Fed.TheVariants.{More, Done}
 use Rattle.ncc_header.specs.declared.standing.Standing.{Standing}
 use Rattle.ncc_header.specs.declared.standing.Standing.TheVariants as standings
-use Rattle.ncc_header.specs.Grammar.{read}
 use Rattle.ncc_header.specs.Header.{IsHeader}
-use Rattle.ncc_header.specs.Fields.{header}
+use Rattle.ncc_header.specs.Schema.{Place}
 use Rattle.ncc_header.specs.Answers.{Stops}
 use Rattle.ncc_header.specs.States.{left_of, size_of}
-use Rattle.ncc_header.specs.Reading.{held_of, onward}
+use Rattle.ncc_header.specs.Reading.{from_start, held_of, onward}
 
 -- ---- what was taken
 
 -- The reading has taken these bytes: what becomes of them and any others becomes of what it has still to read.
 pub record HasTaken (r : Reading) (taken : List ℕ) : Type 0 where
   pub bytes : IsBytes taken
-  pub goes_on : (more : List ℕ) → read header r.limit 0 (taken ++ more) ≡ onward r more
+  pub goes_on : (more : List ℕ) → from_start r.limit (taken ++ more) ≡ onward r more
   pub long : r.at + length (held_of r) ≡ length taken
   pub partial : (n : ℕ) → size_of (left_of r.state) ≡ Some n → length (held_of r) < n
 
@@ -52,7 +51,7 @@ IsSpentAt (standings.Failed limit e) = e ≡ errors.Memory
 
 -- all of these bytes are a header within the limit
 abbrev pub IsWhole : (bytes : List ℕ) (limit : ℕ) → Type 0
-IsWhole bytes limit = (s : Schema) × IsHeader s bytes × (length bytes ≤ limit)
+IsWhole bytes limit = (s : Schema) × (places : List Place) × IsHeader s places bytes × (length bytes ≤ limit)
 
 -- the input ends inside of a field, and has no other fault
 abbrev pub GoesOn : (input : List ℕ) (limit : ℕ) → Type 0

@@ -8,12 +8,13 @@ ghost use Rattle.ncc_header.specs.Standing.{HasTaken, limit_at, TookAt, IsSpentA
 
 use crate::fault::{Fault, FaultKind, HeaderError};
 use crate::reading::Reading;
-use crate::schema::{Header, Schema};
+use crate::schema::{Header, Schema, VarPlace};
 use crate::standing::{Fed, Standing};
 use crate::state::State;
 use crate::step::size;
 use crate::taking::take;
 use arrayvec::ArrayVec;
+use ncc_values::Seq;
 use std::alloc::Global;
 use std::mem;
 
@@ -60,11 +61,11 @@ fn advance(alloc: Global, standing: Standing, piece: &[u8]) -> (Standing, Result
 }
 
 /// Why an input is refused that ends at this field.
-fn cut_short(limit: u64, at: u64, size: u64) -> Fault
+fn cut_short(limit: u64, at: u64, size: u128) -> Fault
     requires { at ≤ limit }
     ensures { result ≡ cut_at limit at size }
 {
-    let kind = if size > limit - at {
+    let kind = if size > (limit - at) as u128 {
         FaultKind::HeaderTooLong
     } else {
         FaultKind::EndsEarly
@@ -73,12 +74,12 @@ fn cut_short(limit: u64, at: u64, size: u64) -> Fault
 }
 
 /// What a header said that has no field left.
-fn whole(state: State) -> Schema
+fn whole(state: State) -> (Schema, Vec<VarPlace>)
     requires { size_of (left_of state) ≡ None }
-    ensures { left_of state ≡ done result }
+    ensures { state ≡ State.Whole result.0 result.1 }
 {
     match state {
-        State::Whole(schema) => schema,
+        State::Whole(schema, places) => (schema, places),
         _ => unreachable!(),
     }
 }
@@ -92,9 +93,12 @@ fn finished(reading: Reading) -> Result<Header, HeaderError>
     if let Some(size) = size(&reading.state) {
         return Err(HeaderError::Fault(cut_short(reading.limit, length, size)));
     }
+    let (schema, places) = whole(reading.state);
     Ok(Header {
-        schema: whole(reading.state),
+        schema,
+        places: Seq::from_vec(places),
         length,
+        marks: Seq::from_vec(reading.marks),
     })
 }
 
@@ -114,6 +118,7 @@ impl Decoder {
                 at: 0,
                 state: State::Magic,
                 held: ArrayVec::new(),
+                marks: Vec::new(alloc),
             }),
         }
     }

@@ -1,16 +1,17 @@
 //! What the value of each field is judged for.
 
-ghost use Rattle.std.specs.Prelude.{◌≡◌, nat_lt, unwrap_or, IfOk};
+ghost use Rattle.std.specs.Prelude.{◌≡◌, nat_lt, Some, unwrap_or, IfOk};
 ghost use Rattle.ncc_values.specs.Version.{version_of};
+ghost use Rattle.ncc_values.specs.XType.{type_of_code};
 ghost use Rattle.ncc_values.specs.declared.version.Version.TheVariants.{V1};
 ghost use Rattle.ncc_header.specs.Schema.{count_limit, record_dims};
-ghost use Rattle.ncc_header.specs.Fields.{magic_wrong, version_wrong, count_wrong, tag_wrong, list_count_wrong, no_count_wrong, length_wrong, count_of};
+ghost use Rattle.ncc_header.specs.Fields.{magic_wrong, version_wrong, count_wrong, tag_wrong, list_count_wrong, length_wrong, type_wrong, dimid_wrong, begin_wrong, count_of};
 ghost use Rattle.ncc_header.specs.States.{Judges};
 
 use crate::fault::FaultKind;
 use crate::schema::{Count, Dim};
 use crate::wrong::Wrong;
-use ncc_values::Version;
+use ncc_values::{Version, XType};
 
 /// The letters C, D and F.
 const MAGIC: u64 = 0x434446;
@@ -45,8 +46,11 @@ pub fn version(n: u64) -> Result<Version, Wrong>
     if n == 1 {
         return Ok(Version::V1);
     }
-    if n == 2 || n == 5 {
-        return refused(FaultKind::Unsupported);
+    if n == 2 {
+        return Ok(Version::V2);
+    }
+    if n == 5 {
+        return Ok(Version::V5);
     }
     refused(FaultKind::BadVersion)
 }
@@ -103,17 +107,6 @@ pub fn list_count(version: Version, tag: u64, n: u64) -> Result<(), Wrong>
     Ok(())
 }
 
-/// The same for a list whose items are not read as yet.
-pub fn no_count(version: Version, tag: u64, n: u64) -> Result<(), Wrong>
-    ensures { Judges (no_count_wrong version tag n) result }
-{
-    list_count(version, tag, n)?;
-    if n != 0 {
-        return refused_tag(FaultKind::Unsupported);
-    }
-    Ok(())
-}
-
 /// Is one of the dimensions the record dimension?
 fn has_record_dim(dims: &[Dim]) -> bool
     ensures { result ≡ nat_lt 0 (record_dims dims.now) }
@@ -139,6 +132,49 @@ pub fn dim_length(version: Version, before: &[Dim], n: u64) -> Result<(), Wrong>
     }
     if n == 0 && has_record_dim(before) {
         return refused(FaultKind::TwoRecordDims);
+    }
+    Ok(())
+}
+
+/// A type's code.
+pub fn nc_type(version: Version, n: u64) -> Result<XType, Wrong>
+    ensures judged { Judges (type_wrong version n) result }
+    ensures value { IfOk result (λ t. type_of_code version n ≡ Some t) }
+{
+    let Ok(code) = u32::try_from(n) else {
+        return refused(FaultKind::BadType);
+    };
+    match XType::from_code(code, version) {
+        Some(xtype) => Ok(xtype),
+        None => refused(FaultKind::BadType),
+    }
+}
+
+/// A dimension's number, behind the variable's numbers before it.
+pub fn dimid(dims: &[Dim], before: &[usize], n: u64) -> Result<usize, Wrong>
+    ensures judged { Judges (dimid_wrong dims.now before.now n) result }
+    ensures value { IfOk result (λ id. id ≡ n) }
+{
+    if n >= dims.len() as u64 {
+        return refused(FaultKind::BadDimId);
+    }
+    let id = n as usize;
+    if dims[id].length == 0 && !before.is_empty() {
+        return refused(FaultKind::RecordDimNotFirst);
+    }
+    Ok(id)
+}
+
+/// A variable's offset.
+pub fn begin(version: Version, n: u64) -> Result<(), Wrong>
+    ensures { Judges (begin_wrong version n) result }
+{
+    let limit = match version {
+        Version::V1 => 1 << 31,
+        Version::V2 | Version::V5 => 1 << 63,
+    };
+    if n >= limit {
+        return refused(FaultKind::NegativeOffset);
     }
     Ok(())
 }

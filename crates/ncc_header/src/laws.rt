@@ -1,18 +1,19 @@
 //! Laws of the grammar alone, each the contract of a function that does nothing.
 
-ghost use Rattle.std.specs.Prelude.{◌≡◌, ◌≢◌, ℕ, ◌≤◌, List, ◌++◌, length, ◌⊎◌};
+ghost use Rattle.std.specs.Prelude.{◌≡◌, ◌≢◌, ℕ, ◌≤◌, List, [], ◌++◌, length, ◌⊎◌};
 ghost use Rattle.ncc_values.specs.Numbers.{IsBytes};
 ghost use Rattle.ncc_header.specs.declared.fault.Fault.{Fault};
 ghost use Rattle.ncc_header.specs.declared.fault.FaultKind.TheVariants.{EndsEarly};
 ghost use Rattle.ncc_header.specs.declared.schema.Schema.{Schema};
 ghost use Rattle.ncc_header.specs.declared.schema.Header.{Header};
-ghost use Rattle.ncc_header.specs.Schema.{Legal};
+ghost use Rattle.ncc_header.specs.Schema.{Place, Legal};
 ghost use Rattle.ncc_header.specs.Header.{IsHeader, canon};
+ghost use Rattle.ncc_header.specs.Marks.{header_marks};
 ghost use Rattle.ncc_header.specs.Answers.{Begins, Stops};
 
-/// Of the fronts of one input one is a header at most, and of one schema.
+/// Of the fronts of one input one is a header at most, and of one schema and placement.
 pub fn one_header()
-    ensures { (s t : Schema) (b c x y : List ℕ) → IsHeader s b → IsHeader t c → b ++ x ≡ c ++ y → (b ≡ c) × (s ≡ t) }
+    ensures { (s t : Schema) (p q : List Place) (b c x y : List ℕ) → IsHeader s p b → IsHeader t q c → b ++ x ≡ c ++ y → (b ≡ c) × (s ≡ t) × (p ≡ q) }
 {}
 
 /// Each input begins with a header within the limit, or stops with exactly one fault, and never both.
@@ -33,7 +34,12 @@ pub fn limit_covers()
     ensures { (input more : List ℕ) (limit : ℕ) (f : Fault) → Stops input limit f → limit ≤ length input → Stops (input ++ more) limit f }
 {}
 
-/// The canonical spelling of a legal schema is a header of it.
+/// The canonical spelling of a legal schema and placement is a header of them.
 pub fn canonical_header()
-    ensures { (s : Schema) → Legal s → IsHeader s (canon s) }
+    ensures { (s : Schema) (places : List Place) → Legal s places → IsHeader s places (canon s places) }
+{}
+
+/// A header without marks is the canonical spelling of its schema and placement.
+pub fn unmarked_is_canonical()
+    ensures { (s : Schema) (places : List Place) (b : List ℕ) → IsHeader s places b → header_marks b ≡ [] → b ≡ canon s places }
 {}

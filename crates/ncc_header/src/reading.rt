@@ -1,9 +1,10 @@
 //! Reading a header from pieces.
 
-ghost use Rattle.std.specs.Prelude.{◌≤◌, ◌<◌, max};
-ghost use Rattle.ncc_header.specs.States.{first_at};
+ghost use Rattle.std.specs.Prelude.{◌≤◌, ◌<◌, max, length};
+ghost use Rattle.ncc_header.specs.States.{first_at, part_of};
 ghost use Rattle.ncc_header.specs.Held.{next_size, held_length};
 
+use crate::schema::Mark;
 use crate::state::State;
 use arrayvec::ArrayVec;
 
@@ -13,9 +14,12 @@ pub struct Reading {
     pub limit: u64,
     pub at: u64,
     pub state: State,
-    /// The bytes of the next field that have come. Those of a name stand in the state.
+    /// The bytes of the next field that have come, behind those that stand in the state.
     pub held: ArrayVec<u8, 8>,
+    /// The marks of the fields so far.
+    pub marks: Vec<Mark>,
     ghost within: { at ≤ limit },
     ghost after: { first_at state ≤ at },
     ghost partial: { held_length state held.items < max 1 (next_size state) },
+    ghost part: { length held.items < part_of state },
 }

@@ -1,46 +1,30 @@
 //! Taking the bytes of a piece, field by field.
 
 ghost use Rattle.std.specs.Prelude.{◌≡◌, ◌+◌, ◌≤◌, ◌<◌, ◌++◌, ℕ, length, take, Some, IfOk, IfErr};
-ghost use Rattle.ncc_header.specs.States.{left_of, size_of, front_of, idle_of, first_at};
+ghost use Rattle.ncc_header.specs.States.{left_of, size_of, idle_of, first_at};
 ghost use Rattle.ncc_header.specs.Held.{next_size, held_length};
 ghost use Rattle.ncc_header.specs.Reading.{held_of, told_of, Takes, FailsBehind, Waits};
 
 use crate::fault::{Fault, FaultKind, HeaderError};
+use crate::gathering::gather;
+use crate::marking::push_mark;
 use crate::reading::Reading;
 use crate::state::{State, StepError};
 use crate::step::{size, step};
 use arrayvec::ArrayVec;
-use std::alloc::{AllocError, Global};
+use std::alloc::Global;
 
 /// How many bytes of the next field have come.
-fn held_len(reading: &Reading) -> u64
+fn held_len(reading: &Reading) -> u128
     ensures { result ≡ length (held_of reading.now) }
 {
+    let held = reading.held.len() as u128;
     match &reading.state {
-        State::NameText(_, _, name) => name.len() as u64,
-        _ => reading.held.len() as u64,
-    }
-}
-
-/// Adds bytes to those of the next field that have come.
-fn gather(state: State, held: &mut ArrayVec<u8, 8>, front: &[u8]) -> Result<State, AllocError>
-    requires { held_length state held.old.items + length front.now ≤ next_size state }
-    ensures state { IfOk result (λ new. left_of new ≡ left_of state) }
-    ensures held { IfOk result (λ new. front_of new held.new.items ≡ front_of state held.old.items ++ front.now) }
-    ensures idle { IfOk result (λ new. idle_of new ≡ idle_of state) }
-    ensures at { IfOk result (λ new. first_at new ≡ first_at state) }
-    ensures memory { IfErr result (λ _. 12 ≤ first_at state) }
-{
-    match state {
-        State::NameText(dims, n, name) => {
-            let mut all = name;
-            all.extend_from_slice(front)?;
-            Ok(State::NameText(dims, n, all))
+        State::NameText(_, _, name) => name.len() as u128,
+        State::AttrValues(body) => {
+            body.values.len() as u128 * body.values.xtype().size() as u128 + held
         }
-        other => {
-            held.try_extend_from_slice(front).unwrap();
-            Ok(other)
-        }
+        _ => held,
     }
 }
 
@@ -74,12 +58,15 @@ fn take_field(
 {
     let mut held = reading.held;
     let state = gather(reading.state, &mut held, front)?;
-    match step(alloc, state, held.as_slice()) {
+    let mut marks = reading.marks;
+    push_mark(&mut marks, &state, reading.at, held.as_slice())?;
+    match step(alloc, state, reading.at, held.as_slice()) {
         Ok(state) => Ok(Reading {
             limit: reading.limit,
             at: reading.at + size,
             state,
             held: ArrayVec::new(),
+            marks,
         }),
         Err(error) => Err(told(reading.at, error)),
     }
@@ -101,6 +88,7 @@ fn hold(reading: Reading, front: &[u8]) -> Result<Reading, HeaderError>
         at: reading.at,
         state,
         held,
+        marks: reading.marks,
     })
 }
 
@@ -116,18 +104,18 @@ pub fn take(alloc: Global, reading: Reading, piece: &[u8]) -> Result<(Reading, u
     let mut reading = reading;
     let mut rest = piece;
     while let Some(size) = size(&reading.state) {
-        if size > reading.limit - reading.at {
+        if size > (reading.limit - reading.at) as u128 {
             return Err(HeaderError::Fault(Fault {
                 kind: FaultKind::HeaderTooLong,
                 offset: reading.at,
             }));
         }
         let lacking = size - held_len(&reading);
-        if (rest.len() as u64) < lacking {
+        if (rest.len() as u128) < lacking {
             return Ok((hold(reading, rest)?, piece.len()));
         }
         let (front, after) = rest.split_at(lacking as usize);
-        reading = take_field(alloc, reading, size, front)?;
+        reading = take_field(alloc, reading, size as u64, front)?;
         rest = after;
     }
     Ok((reading, piece.len() - rest.len()))

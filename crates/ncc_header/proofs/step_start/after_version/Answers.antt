@@ -4,7 +4,7 @@ use Rattle.ncc_values.specs.Version.{version_of}
 use Rattle.ncc_values.specs.declared.version.Version.TheVariants.{V1}
 use Rattle.ncc_header.specs.Fields.{version_wrong}
 use Rattle.ncc_header.specs.States.{from_version}
-use Rattle.ncc_header.proofs.step.after_version.Goals as goal
+use Rattle.ncc_header.proofs.step_start.after_version.Goals as goal
 
 pub returns : goal.returns
 returns c =
@@ -14,6 +14,7 @@ returns c =
         subst (λ (n : ℕ). version_wrong n ≡ None) c.number.ensures c.in_ok-version.ensures.judged,
         subst (λ (n : ℕ). from_version (unwrap_or (version_of n) V1) ≡ from_version v) c.number.ensures (ap from_version c.in_ok-version.ensures.value),
       );
+      begins = refl;
       fresh = refl;
-      at = omega (arith, c.requires);
+      first = omega (arith, c.requires);
     }
