@@ -1,48 +1,96 @@
 -- The laws of headers.
-use Rattle.std.proofs.Common.{◌≡◌, ◌≢◌, ℕ, zero, suc, ◌≤◌, List, [], ◌∷◌, ◌++◌, length, refl, sym, ap, subst, ◌∙◌, arith, ◌⊎◌, inl, inr}
-use Rattle.std.proofs.lemmas.List.{append_cancel_right}
-use Rattle.std.specs.List.{flat_map}
+use Rattle.std.proofs.Common.{◌≡◌, ◌≢◌, ℕ, ◌≤◌, List, [], ◌∷◌, ◌++◌, length, map, refl, sym, ap, subst, ◌∙◌, arith, ◌⊎◌, inl, inr}
+use Rattle.std.proofs.lemmas.List.{append_cancel_right, append-nil}
 use Rattle.ncc_values.specs.Numbers.{IsBytes}
-use Rattle.ncc_values.specs.Padding.{padding_of}
-use Rattle.ncc_values.specs.declared.version.Version.{Version}
 use Rattle.ncc_header.specs.declared.fault.Fault.{Fault}
 use Rattle.ncc_header.specs.declared.fault.FaultKind.TheVariants.{EndsEarly}
-use Rattle.ncc_header.specs.declared.schema.Dim.{Dim}
+use Rattle.ncc_header.specs.declared.schema.VarPlace.{VarPlace}
 use Rattle.ncc_header.specs.declared.schema.Schema.{Schema}
 use Rattle.ncc_header.specs.declared.schema.Header.{Header}
 use Rattle.ncc_header.specs.Grammar.{Spells, reads, read}
-use Rattle.ncc_header.specs.Schema.{Legal}
-use Rattle.ncc_header.specs.Header.{◌⨾◌, any_bytes, each, IsHeader, zeros, canon_name, canon_head, canon_list, canon_dim, canon}
-use Rattle.ncc_header.specs.Header as spelled
+use Rattle.ncc_header.specs.Schema.{Place, place_of, places_of}
+use Rattle.ncc_header.specs.Header.{IsHeader}
 use Rattle.ncc_header.specs.Fields.{header}
+use Rattle.ncc_header.specs.Marks.{header_marks, header_begins}
 use Rattle.ncc_header.specs.Answers.{Begins, Stops}
 use Rattle.ncc_header.proofs.GrammarLaws.{one_spelling, read-is_spelled, begins_or_stops, not_both, one_stop, stop_stays, limit_covers}
 use Rattle.ncc_header.proofs.Rules.{exact_header}
+use Rattle.ncc_header.proofs.BeginFields.{length-header_begins}
 
 -- the fields of a header spell it, and what they spell is a header
-fields_spell : (s : Schema) (b : List ℕ) → IsHeader s b → Spells header s b
-fields_spell s b h = exact_header.gives s b h.legal h.spelled
+pub fields_spell : (s : Schema) (places : List Place) (b : List ℕ) → IsHeader s places b → Spells header (s, places) b
+fields_spell s places b h = exact_header.gives (s, places) b (h.legal, h.typed) h.spelled
 
-spelled_by_fields : (s : Schema) (b : List ℕ) → Spells header s b → IsHeader s b
-spelled_by_fields s b h = record { legal = (exact_header.takes s b h).0; spelled = (exact_header.takes s b h).1 }
+pub spelled_by_fields : (s : Schema) (places : List Place) (b : List ℕ) → Spells header (s, places) b → IsHeader s places b
+spelled_by_fields s places b h = let e = exact_header.takes (s, places) b h in record { legal = e.0.0; typed = e.0.1; spelled = e.1 }
 
-pub one_header : (s t : Schema) (b c x y : List ℕ) → IsHeader s b → IsHeader t c → b ++ x ≡ c ++ y → (b ≡ c) × (s ≡ t)
-one_header s t b c x y h k e =
-    let one = one_spelling header s t b c x y (fields_spell s b h) (fields_spell t c k) e in
-    (one.1, one.0)
+pub one_header : (s t : Schema) (p q : List Place) (b c x y : List ℕ) → IsHeader s p b → IsHeader t q c → b ++ x ≡ c ++ y → (b ≡ c) × (s ≡ t) × (p ≡ q)
+one_header s t p q b c x y h k e =
+    let one = one_spelling header (s, p) (t, q) b c x y (fields_spell s p b h) (fields_spell t q c k) e in
+    (one.1, ap (λ (w : Schema × List Place). w.0) one.0, ap (λ (w : Schema × List Place). w.1) one.0)
 
-header_is : (s : Schema) (n : ℕ) → Header
-header_is s n = record { schema = s; length = n }
+-- ---- places, and where their begin fields are
+
+pub placed : List Place → List ℕ → List VarPlace
+placed [] begins = []
+placed (p ∷ places) [] = []
+placed (p ∷ places) (n ∷ begins) = record { vsize = p.vsize; begin = p.begin; begin_at = n } ∷ placed places begins
+
+pub places_of-placed : (places : List Place) (begins : List ℕ) → length begins ≡ length places → places_of (placed places begins) ≡ places
+unfolding placed
+places_of-placed [] begins e = refl
+places_of-placed (p ∷ places) [] e = absurd (omega (arith, e))
+places_of-placed (p ∷ places) (n ∷ begins) e = ap (λ (rest : List Place). p ∷ rest) (places_of-placed places begins (omega (arith, e)))
+
+begins-placed : (places : List Place) (begins : List ℕ) → length begins ≡ length places → map (λ p. p.begin_at) (placed places begins) ≡ begins
+unfolding placed
+begins-placed [] [] e = refl
+begins-placed [] (n ∷ begins) e = absurd (omega (arith, e))
+begins-placed (p ∷ places) [] e = absurd (omega (arith, e))
+begins-placed (p ∷ places) (n ∷ begins) e = ap (λ (rest : List ℕ). n ∷ rest) (begins-placed places begins (omega (arith, e)))
+
+same_places : (p q : List VarPlace) → places_of p ≡ places_of q → map (λ x. x.begin_at) p ≡ map (λ x. x.begin_at) q → p ≡ q
+same_places [] [] places begins = refl
+same_places [] (y ∷ q) places begins = absurd cc
+same_places (x ∷ p) [] places begins = absurd cc
+same_places (x ∷ p) (y ∷ q) places begins =
+    let place : place_of x ≡ place_of y = cc in
+    let at : x.begin_at ≡ y.begin_at = cc in
+    let rest : p ≡ q = same_places p q (cc) (cc) in
+    λ i. record { vsize = (place i).vsize; begin = (place i).begin; begin_at = at i } ∷ rest i
+
+-- ---- a header or one stop
+
+pub header_is : Schema → List Place → (b : List ℕ) → Header
+header_is s places b = record { schema = s; places = placed places (header_begins b); length = length b; marks = header_marks b }
+
+begins_with : (s : Schema) (places : List Place) (front rest input : List ℕ) (limit : ℕ) → input ≡ front ++ rest → IsHeader s places front → length front ≤ limit → Begins input limit (header_is s places front)
+unfolding header_is
+begins_with s places front rest input limit joined is within =
+    let number : length (header_begins front) ≡ length places = length-header_begins s places front (fields_spell s places front is) in
+    record {
+      front = front;
+      rest = rest;
+      joined = joined;
+      is_header = subst (λ (p : List Place). IsHeader s p front) (sym (places_of-placed places (header_begins front) number)) is;
+      begins = begins-placed places (header_begins front) number;
+      marks = refl;
+      long = refl;
+      within = within;
+    }
+
+pub whole_begins : (bytes : List ℕ) (limit : ℕ) (s : Schema) (places : List Place) → IsHeader s places bytes → length bytes ≤ limit → (h : Header) × Begins bytes limit h
+whole_begins bytes limit s places is within = (header_is s places bytes, begins_with s places bytes [] bytes limit (sym (append-nil bytes)) is within)
 
 pub either : (input : List ℕ) (limit : ℕ) → IsBytes input → ((h : Header) × Begins input limit h) ⊎ ((f : Fault) × Stops input limit f)
-unfolding header_is
 either input limit bytes = elim (begins_or_stops header input limit bytes) [
-  | inl h ↦ inl (header_is h.0 (length h.1), record { front = h.1; rest = h.2; joined = h.3; is_header = spelled_by_fields h.0 h.1 h.4; long = refl; within = h.5 })
+  | inl h ↦ inl (header_is h.0.0 h.0.1 h.1, begins_with h.0.0 h.0.1 h.1 h.2 input limit h.3 (spelled_by_fields h.0.0 h.0.1 h.1 h.4) h.5)
   | inr stop ↦ inr (record { kind = stop.1; offset = stop.0 }, stop.2)
 ]
 
 pub apart : (input : List ℕ) (limit : ℕ) (h : Header) (f : Fault) → Begins input limit h → Stops input limit f → ⊥
-apart input limit h f b stop = not_both header input limit f.offset f.kind (h.schema, b.front, b.rest, b.joined, fields_spell h.schema b.front b.is_header, omega (arith, b.long, b.within)) stop
+apart input limit h f b stop =
+    not_both header input limit f.offset f.kind ((h.schema, places_of h.places), b.front, b.rest, b.joined, fields_spell h.schema (places_of h.places) b.front b.is_header, omega (arith, b.long, b.within)) stop
 
 pub one_fault : (input : List ℕ) (limit : ℕ) (f g : Fault) → Stops input limit f → Stops input limit g → f ≡ g
 one_fault input limit f g s t =
@@ -57,49 +105,15 @@ header_limit_covers input more limit f stop covered = limit_covers header limit 
 
 pub one_begins : (input : List ℕ) (limit : ℕ) (h k : Header) → Begins input limit h → Begins input limit k → h ≡ k
 one_begins input limit h k b c =
-    let one = one_header h.schema k.schema b.front c.front b.rest c.rest b.is_header c.is_header (sym b.joined ∙ c.joined) in
+    let one = one_header h.schema k.schema (places_of h.places) (places_of k.places) b.front c.front b.rest c.rest b.is_header c.is_header (sym b.joined ∙ c.joined) in
     let long : h.length ≡ k.length = b.long ∙ ap length one.0 ∙ sym c.long in
-    λ i. record { schema = one.1 i; length = long i }
+    let places : h.places ≡ k.places = same_places h.places k.places one.2 (b.begins ∙ ap header_begins one.0 ∙ sym c.begins) in
+    let marks : h.marks ≡ k.marks = b.marks ∙ ap header_marks one.0 ∙ sym c.marks in
+    λ i. record { schema = one.1 i; places = places i; length = long i; marks = marks i }
 
 -- what was read of an input is the header that it begins with
-pub begins_with_read : (taken more : List ℕ) (limit at : ℕ) (s : Schema) → IsBytes (taken ++ more) → at ≡ length taken → read header limit 0 (taken ++ more) ≡ reads s at more → IsHeader s taken × (at ≤ limit)
-begins_with_read taken more limit at s bytes long e =
-    let r = read-is_spelled header limit 0 (taken ++ more) s at more bytes e in
+pub begins_with_read : (taken more : List ℕ) (limit at : ℕ) (x : Schema × List Place) → IsBytes (taken ++ more) → at ≡ length taken → read header limit 0 (taken ++ more) ≡ reads x at more → IsHeader x.0 x.1 taken × (at ≤ limit)
+begins_with_read taken more limit at x bytes long e =
+    let r = read-is_spelled header limit 0 (taken ++ more) x at more bytes e in
     let same : taken ≡ r.0 = append_cancel_right taken r.0 more r.1 in
-    (subst (λ (b : List ℕ). IsHeader s b) (sym same) (spelled_by_fields s r.0 r.2), r.4 (omega arith))
-
--- ---- the canonical spelling
-
-zeros_fit : (n : ℕ) → any_bytes n (zeros n)
-zeros_fit zero = (refl, tt)
-zeros_fit (suc n) = (ap suc (zeros_fit n).0, (omega arith, (zeros_fit n).1))
-
-each_canon : {A : Type 0} (S : A → List ℕ → Type 0) (c : A → List ℕ) → ((a : A) → S a (c a)) → (items : List A) → each S items (flat_map c items)
-each_canon S c h [] = refl
-each_canon S c h (a ∷ items) = (c a, flat_map c items, refl, h a, each_canon S c h items)
-
--- one spelling, and then the other
-both : {p q : List ℕ → Type 0} (x y : List ℕ) → p x → q y → (p ⨾ q) (x ++ y)
-both x y h k = (x, y, refl, h, k)
-
-name_canon : (v : Version) (n : List ℕ) → spelled.name v n (canon_name v n)
-name_canon v n = both _ _ refl (both _ _ refl (zeros_fit (padding_of (length n))))
-
-head_canon : (v : Version) (tag n : ℕ) → spelled.list_head v tag n (canon_head v tag n)
-head_canon v tag zero = both _ _ (inr (refl, refl)) refl
-head_canon v tag (suc n) = both _ _ (inl refl) refl
-
-list_canon : {A : Type 0} (v : Version) (tag : ℕ) (S : A → List ℕ → Type 0) (c : A → List ℕ) → ((a : A) → S a (c a)) → (items : List A) → spelled.list v tag S items (canon_list v tag c items)
-list_canon v tag S c h items = both _ _ (head_canon v tag (length items)) (each_canon S c h items)
-
-dim_canon : (v : Version) (d : Dim) → spelled.dim v d (canon_dim v d)
-dim_canon v d = both _ _ (name_canon v d.name) refl
-
-pub canonical_header : (s : Schema) → Legal s → IsHeader s (canon s)
-canonical_header s legal =
-    let v = s.version in
-    record {
-      legal = legal;
-      spelled = both _ _ refl (both _ _ refl (both _ _ refl
-          (both _ _ (list_canon v 10 (spelled.dim v) (canon_dim v) (dim_canon v) s.dims) (both _ _ (head_canon v 12 0) (head_canon v 11 0)))));
-    }
+    (subst (λ (b : List ℕ). IsHeader x.0 x.1 b) (sym same) (spelled_by_fields x.0 x.1 r.0 r.2), r.4 (omega arith))

@@ -1,12 +1,15 @@
 -- One field more, or one that stops.
-use Rattle.std.proofs.Common.{◌≡◌, ℕ, ◌+◌, ◌-◌, ◌<◌, ◌≤◌, List, ◌++◌, length, Some, refl, sym, ap, ◌∙◌, append_assoc, arith}
-use Rattle.std.proofs.lemmas.Bool.{le-ltb, lt-ltb}
-use Rattle.std.proofs.lemmas.List.{length-append, take_at}
+use Rattle.std.proofs.Common.{◌≡◌, ◌≢◌, ℕ, ◌+◌, ◌-◌, ◌<◌, ◌≤◌, List, [], ◌∷◌, ◌++◌, length, take, drop, Option, Some, None, refl, sym, ap, ◌∙◌, append_assoc, arith, inl, inr}
+use Rattle.std.specs.Prelude.{is_some, if◌then◌else◌}
+use Rattle.std.proofs.lemmas.Bool.{cases_lt, le-ltb, lt-ltb}
+use Rattle.std.proofs.lemmas.List.{length-append, take_at, drop_at}
+use Rattle.ncc_header.specs.declared.fault.FaultKind.{FaultKind}
 use Rattle.ncc_header.specs.declared.fault.FaultKind.TheVariants.{HeaderTooLong, EndsEarly}
 use Rattle.ncc_header.specs.declared.wrong.Wrong.{Wrong}
-use Rattle.ncc_header.specs.Grammar.{Grammar, done, field, stops, read}
-use Rattle.ncc_header.specs.States.{size_of, Advances, IsRefused}
-use Rattle.ncc_header.proofs.GrammarLaws.{read_field, whole_front}
+use Rattle.ncc_header.specs.Grammar.{Label, Grammar, done, field, Outcome, reads, stops, read, unless_wrong, lacking, Field, fields}
+use Rattle.ncc_header.specs.States.{size_of, label_of, Advances, IsRefused}
+use Rattle.ncc_header.proofs.FieldsLaws.{fields_first}
+use Rattle.ncc_header.proofs.GrammarLaws.{read_field, whole_front, outcomes_are_one}
 
 pub some_is : (m n : ℕ) → Some m ≡ Some n → m ≡ n
 some_is m n h = cc
@@ -45,3 +48,61 @@ field_ends_early (done x) limit at n input is within short = absurd cc
 field_ends_early (field label size wrong next) limit at n input is within short =
     let same : size ≡ n = some_is size n is in
     rw (le-ltb limit (at + size) (omega (arith, same, within)), lt-ltb (length input) size (omega (arith, same, short))) refl
+
+-- ---- what lacks, and what is shown
+
+-- a whole field that is not wrong lacks nothing
+lacking_first : {A : Type 0} (label : Label) (size : ℕ) (wrong : List ℕ → Option Wrong) (next : List ℕ → Grammar A) (limit at : ℕ) (front rest : List ℕ) → length front ≡ size → at + size ≤ limit → wrong front ≡ None
+    → lacking (field label size wrong next) limit at (front ++ rest) ≡ lacking (next front) limit (at + size) rest
+unfolding lacking
+lacking_first label size wrong next limit at front rest len le ok =
+    rw (le-ltb limit (at + size) le, le-ltb (length (front ++ rest)) size (omega (arith, length-append front rest, len)), take_at front rest size len, drop_at front rest size len, ok) refl
+
+pub lacking_goes_on : {A : Type 0} (g h : Grammar A) (limit at n : ℕ) (held front more : List ℕ) → size_of g ≡ Some n → at + n ≤ limit → length (held ++ front) ≡ n → Advances g (held ++ front) h → lacking g limit at (held ++ (front ++ more)) ≡ lacking h limit (at + n) more
+lacking_goes_on (done x) h limit at n held front more is within long adv = absurd adv
+lacking_goes_on (field label size wrong next) h limit at n held front more is within long adv =
+    let same : size ≡ n = some_is size n is in
+    ap (lacking (field label size wrong next) limit at) (sym (append_assoc held front more))
+    ∙ lacking_first label size wrong next limit at (held ++ front) more (long ∙ sym same) (omega (arith, same, within)) adv.0
+    ∙ ap (λ q. lacking q limit (at + size) more) adv.1
+    ∙ ap (λ (m : ℕ). lacking h limit (at + m) more) same
+
+pub fields_go_on : {A : Type 0} (g h : Grammar A) (at n : ℕ) (held front more : List ℕ) → size_of g ≡ Some n → length (held ++ front) ≡ n → Advances g (held ++ front) h → fields g at (held ++ (front ++ more)) ≡ record { label = label_of g; at = at; bytes = held ++ front } ∷ fields h (at + n) more
+fields_go_on (done x) h at n held front more is long adv = absurd adv
+fields_go_on (field label size wrong next) h at n held front more is long adv =
+    let same : size ≡ n = some_is size n is in
+    let one : Field = record { label = label; at = at; bytes = held ++ front } in
+    ap (fields (field label size wrong next) at) (sym (append_assoc held front more))
+    ∙ fields_first label size wrong next at (held ++ front) more (long ∙ sym same)
+    ∙ ap (λ q. one ∷ fields q (at + size) more) adv.1
+    ∙ ap (λ (m : ℕ). one ∷ fields h (at + m) more) same
+
+-- a field that the input ends in lacks the rest of its bytes
+pub lacking_early : {A : Type 0} (g : Grammar A) (limit at n : ℕ) (input : List ℕ) → size_of g ≡ Some n → at + n ≤ limit → length input < n → lacking g limit at input ≡ n - length input
+unfolding lacking
+lacking_early (done x) limit at n input is within short = absurd cc
+lacking_early (field label size wrong next) limit at n input is within short =
+    let same : size ≡ n = some_is size n is in
+    rw (le-ltb limit (at + size) (omega (arith, same, within)), lt-ltb (length input) size (omega (arith, same, short))) (ap (λ (m : ℕ). m - length input) same)
+
+-- what stops for another reason than an early end lacks nothing
+pub lacks_none : {A : Type 0} (g : Grammar A) (limit at : ℕ) (input : List ℕ) (offset : ℕ) (kind : FaultKind) → kind ≢ EndsEarly → read g limit at input ≡ stops offset kind → lacking g limit at input ≡ 0
+unfolding read lacking
+lacks_none (done x) limit at input offset kind other h = refl
+lacks_none {A = A} (field label size wrong next) limit at input offset kind other h =
+    elim (cases_lt limit (at + size)) [
+      | inl past ↦ rw (lt-ltb limit (at + size) past) refl
+      | inr within ↦ elim (cases_lt (length input) size) [
+        | inl short ↦ absurd (other (sym (kinds_same (outcomes_are_one (stops at EndsEarly) (stops offset kind) (rw (le-ltb limit (at + size) within, lt-ltb (length input) size short) at h)))))
+        | inr long ↦
+            rw (le-ltb limit (at + size) within, le-ltb (length input) size long)
+            (by_wrong (wrong (take size input)) (rw (le-ltb limit (at + size) within, le-ltb (length input) size long) at h))
+      ]
+    ]
+  where
+    kinds_same : (at ≡ offset) × (EndsEarly ≡ kind) → EndsEarly ≡ kind
+    kinds_same p = p.1
+
+    by_wrong : (w : Option Wrong) → unless_wrong w at (read (next (take size input)) limit (at + size) (drop size input)) ≡ stops offset kind → (if is_some w then 0 else lacking (next (take size input)) limit (at + size) (drop size input)) ≡ 0
+    by_wrong None e = lacks_none (next (take size input)) limit (at + size) (drop size input) offset kind other e
+    by_wrong (Some w) e = refl

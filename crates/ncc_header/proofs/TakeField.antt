@@ -1,33 +1,63 @@
 -- What a reading has still to read, once bytes were taken.
-use Rattle.std.proofs.Common.{◌≡◌, ℕ, ◌+◌, ◌≤◌, List, [], ◌++◌, length, Some, sym, ap, ap₂, subst₂, ◌∙◌, arith, Err}
+use Rattle.std.proofs.Common.{◌≡◌, ℕ, ◌+◌, ◌≤◌, List, [], ◌∷◌, ◌++◌, length, Some, Err, refl, sym, ap, ap₂, subst₂, ◌∙◌, append_assoc, append-nil, arith}
+use Rattle.std.specs.List.{flat_map}
 use Rattle.std.proofs.lemmas.List.{length-append}
 use Rattle.ncc_header.specs.declared.reading.Reading.{Reading}
+use Rattle.ncc_header.specs.declared.schema.Mark.{Mark}
 use Rattle.ncc_header.specs.declared.state.State.{State}
 use Rattle.ncc_header.specs.declared.state.StepError.{StepError}
 use Rattle.ncc_header.specs.declared.state.StepError.TheVariants as steps
-use Rattle.ncc_header.specs.declared.schema.Schema.{Schema}
-use Rattle.ncc_header.specs.Grammar.{Grammar, read}
-use Rattle.ncc_header.specs.States.{left_of, size_of, front_of, Advances, IsRefused, Steps}
-use Rattle.ncc_header.specs.Reading.{held_of, told_of, Takes, FailsBehind}
-use Rattle.ncc_header.proofs.OneField.{field_goes_on, field_is_refused}
+use Rattle.ncc_header.specs.Grammar.{Label, Plain, Padding, CountOfTagged, Begin, Grammar, Field, read, lacking, fields}
+use Rattle.ncc_header.specs.Marks.{mark_of, marks, begin_of, begins}
+use Rattle.ncc_header.specs.States.{Given, left_of, begins_of, size_of, label_of, front_of, with_begin, Advances, IsRefused, Steps}
+use Rattle.ncc_header.specs.Reading.{Course, course, onward, held_of, told_of, Takes, FailsBehind}
+use Rattle.ncc_header.proofs.OneField.{field_goes_on, lacking_goes_on, fields_go_on, field_is_refused}
 use Rattle.ncc_header.proofs.RefusedKinds.{refused_other}
 
+-- the offset of a begin field comes behind those of before
+begun_more : (label : Label) (at : ℕ) (ats : List ℕ) → ats ++ begin_of label at ≡ with_begin label at ats
+begun_more Plain at ats = append-nil ats
+begun_more Padding at ats = append-nil ats
+begun_more CountOfTagged at ats = append-nil ats
+begun_more Begin at ats = refl
+
+-- what a field shows stands behind what those before it showed
+shown_more : (shown : List Mark) (f : Field) (rest : List Field) → shown ++ marks (f ∷ rest) ≡ (shown ++ mark_of f.label f.at f.bytes) ++ marks rest
+shown_more shown f rest = sym (append_assoc shown (mark_of f.label f.at f.bytes) (marks rest))
+
+course_goes_on : (g h : Grammar Given) (limit at n : ℕ) (shown : List Mark) (begun : List ℕ) (held front more : List ℕ) → size_of g ≡ Some n → at + n ≤ limit → length (held ++ front) ≡ n → Advances g (held ++ front) h
+    → course g limit at shown begun (held ++ (front ++ more)) ≡ course h limit (at + n) (shown ++ mark_of (label_of g) at (held ++ front)) (with_begin (label_of g) at begun) more
+course_goes_on g h limit at n shown begun held front more is within long adv = λ i. record {
+  outcome = field_goes_on g h limit at n held front more is within long adv i;
+  lacks = lacking_goes_on g h limit at n held front more is within long adv i;
+  shown = (ap (λ fs. shown ++ marks fs) parts ∙ shown_more shown one (fields h (at + n) more)) i;
+  begun = (ap (λ fs. begun ++ begins fs) parts ∙ sym (append_assoc begun (begin_of (label_of g) at) (begins (fields h (at + n) more))) ∙ ap (λ ats. ats ++ begins (fields h (at + n) more)) (begun_more (label_of g) at begun)) i;
+}
+  where
+    one : Field
+    one = record { label = label_of g; at = at; bytes = held ++ front }
+
+    parts : fields g at (held ++ (front ++ more)) ≡ one ∷ fields h (at + n) more
+    parts = fields_go_on g h at n held front more is long adv
+
 -- the field's last bytes are taken
-pub takes_field : (old new : Reading) (n : ℕ) (front : List ℕ) → size_of (left_of old.state) ≡ Some n → old.at + n ≤ old.limit → length (held_of old) + length front ≡ n → Advances (left_of old.state) (held_of old ++ front) (left_of new.state) → held_of new ≡ [] → new.limit ≡ old.limit → new.at ≡ old.at + n → Takes old new front
-takes_field old new n front is within long adv none limit at = record {
+pub takes_field : (old new : Reading) (n : ℕ) (front : List ℕ) → size_of (left_of old.state) ≡ Some n → old.at + n ≤ old.limit → length (held_of old) + length front ≡ n → Advances (left_of old.state) (held_of old ++ front) (left_of new.state)
+    → new.marks.items ≡ old.marks.items ++ mark_of (label_of (left_of old.state)) old.at (held_of old ++ front) → begins_of new.state ≡ with_begin (label_of (left_of old.state)) old.at (begins_of old.state)
+    → held_of new ≡ [] → new.limit ≡ old.limit → new.at ≡ old.at + n → Takes old new front
+takes_field old new n front is within long adv shown begun none limit at = record {
   limit = limit;
   goes_on = λ more.
-      field_goes_on (left_of old.state) (left_of new.state) old.limit old.at n (held_of old) front more is within (length-append (held_of old) front ∙ long) adv
-      ∙ sym (ap₂ (λ (l a : ℕ). read (left_of new.state) l a (held_of new ++ more)) limit at ∙ ap (λ (h : List ℕ). read (left_of new.state) old.limit (old.at + n) (h ++ more)) none);
+      course_goes_on (left_of old.state) (left_of new.state) old.limit old.at n old.marks.items (begins_of old.state) (held_of old) front more is within (length-append (held_of old) front ∙ long) adv
+      ∙ (λ i. course (left_of new.state) (sym limit i) (sym at i) (sym shown i) (sym begun i) (sym none i ++ more));
   long = let empty : length (held_of new) ≡ 0 = ap length none in omega (arith, empty, long, at);
 }
 
 -- the field's last bytes are refused
-pub fails_field : (old : Reading) (n : ℕ) (front : List ℕ) (state : State) (held : List ℕ) (e : StepError) → size_of (left_of old.state) ≡ Some n → old.at + n ≤ old.limit → length (held_of old) + length front ≡ n → left_of state ≡ left_of old.state → front_of state held ≡ held_of old ++ front → Steps state (front_of state held) (Err e) → FailsBehind old front (told_of old.at e)
-fails_field old n front state held steps.Memory is within long left come s = tt
-fails_field old n front state held (steps.Wrong w) is within long left come s =
+pub fails_field : (old : Reading) (n : ℕ) (front : List ℕ) (state : State) (at : ℕ) (held : List ℕ) (e : StepError) → size_of (left_of old.state) ≡ Some n → old.at + n ≤ old.limit → length (held_of old) + length front ≡ n → left_of state ≡ left_of old.state → front_of state held ≡ held_of old ++ front → Steps state at (front_of state held) (Err e) → FailsBehind old front (told_of old.at e)
+fails_field old n front state at held steps.Memory is within long left come s = tt
+fails_field old n front state at held (steps.Wrong w) is within long left come s =
     record {
       stays = λ more. field_is_refused (left_of old.state) old.limit old.at n (held_of old) front more w is within (length-append (held_of old) front ∙ long)
-          (subst₂ (λ (g : Grammar Schema) (b : List ℕ). IsRefused g b w) left come s);
+          (subst₂ (λ (g : Grammar Given) (b : List ℕ). IsRefused g b w) left come s);
       other = refused_other state (front_of state held) w s;
     }

@@ -33,8 +33,8 @@ so_far_more old mid new piece rest front after s e t = record {
 pub so_far_stops : (old mid : Reading) (piece rest front after : List ℕ) (f : Fault) → SoFar old mid piece rest → rest ≡ front ++ after → StopsBehind mid front f → StopsBehind old piece f
 so_far_stops old mid piece rest front after f s e b = record {
   stays = λ more.
-      ap (onward old) (ap (λ (x : List ℕ). x ++ more) (s.joined ∙ ap (λ (x : List ℕ). s.front ++ x) e) ∙ append_assoc s.front (front ++ after) more ∙ ap (λ (x : List ℕ). s.front ++ x) (append_assoc front after more))
-      ∙ s.takes.goes_on (front ++ (after ++ more)) ∙ b.stays (after ++ more);
+      ap (λ (x : List ℕ). (onward old x).outcome) (ap (λ (x : List ℕ). x ++ more) (s.joined ∙ ap (λ (x : List ℕ). s.front ++ x) e) ∙ append_assoc s.front (front ++ after) more ∙ ap (λ (x : List ℕ). s.front ++ x) (append_assoc front after more))
+      ∙ ap (λ c. c.outcome) (s.takes.goes_on (front ++ (after ++ more))) ∙ b.stays (after ++ more);
   other = b.other;
 }
 

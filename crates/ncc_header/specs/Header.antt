@@ -14,7 +14,7 @@ use Rattle.ncc_header.specs.declared.schema.Dim.{Dim}
 use Rattle.ncc_header.specs.declared.schema.Attr.{Attr}
 use Rattle.ncc_header.specs.declared.schema.Var.{Var}
 use Rattle.ncc_header.specs.declared.schema.Schema.{Schema}
-use Rattle.ncc_header.specs.Schema.{mark, Place, Legal}
+use Rattle.ncc_header.specs.Schema.{mark, Place, Legal, IsTyped}
 
 -- ---- joining spellings
 
@@ -104,6 +104,7 @@ header s places =
 -- all of b is a header of s, whose variables are at these places
 pub record IsHeader (s : Schema) (places : List Place) (b : List ℕ) : Type 0 where
   pub legal : Legal s places
+  pub typed : IsTyped s
   pub spelled : header s places b
 
 -- ---- the canonical spelling: zero padding, and zero tags for empty lists

@@ -1,5 +1,5 @@
 -- Limits of a version, and legal schemas and placements.
-use Rattle.std.specs.Prelude.{◌≡◌, ℕ, suc, ◌-◌, ◌^◌, ◌<◌, ◌≤◌, List, [], ◌∷◌, length, map, zip, get_or, Option, Some, Bool, false, ◌==◌, if◌then◌else◌}
+use Rattle.std.specs.Prelude.{◌≡◌, ℕ, suc, ◌-◌, ◌^◌, ◌<◌, ◌≤◌, List, [], ◌∷◌, length, map, get_or, Some, Bool, false, ◌==◌, if◌then◌else◌}
 use Rattle.std.specs.List.{AllByRecursion}
 use Rattle.ncc_values.specs.Numbers.{IsBytes}
 use Rattle.ncc_values.specs.Values.{type_of, count_of, AreInRange}
@@ -71,9 +71,8 @@ is_record dims n = get_or (lengths dims) n 1 == 0
 
 -- ---- legal schemas
 
-pub record LegalName (v : Version) (name : List ℕ) : Type 0 where
-  pub long : length name < count_limit v
-  pub bytes : IsBytes name
+abbrev pub LegalName : Version → List ℕ → Type 0
+LegalName v name = length name < count_limit v
 
 pub record LegalDim (v : Version) (d : Dim) : Type 0 where
   pub name : LegalName v d.name
@@ -87,7 +86,6 @@ pub record LegalAttr (v : Version) (a : Attr) : Type 0 where
   pub name : LegalName v a.name
   pub xtype : IsTypeOf v (type_of a.values)
   pub number : count_of a.values < count_limit v
-  pub values : AreInRange a.values
 
 -- each is the number of a dimension, and the record dimension stands only first
 abbrev pub LegalDims : List Dim → List ℕ → Type 0
@@ -125,3 +123,19 @@ pub record Legal (s : Schema) (places : List Place) : Type 0 where
   pub sound : Sound s
   pub number : length places ≡ length s.vars
   pub placed : AllByRecursion (LegalPlace s.version) places
+
+-- ---- ranges
+
+pub record IsTypedAttr (a : Attr) : Type 0 where
+  pub name : IsBytes a.name
+  pub values : AreInRange a.values
+
+pub record IsTypedVar (x : Var) : Type 0 where
+  pub name : IsBytes x.name
+  pub attrs : AllByRecursion IsTypedAttr x.attrs
+
+-- names are of bytes, and values in the range of their type, as in each schema that a program holds
+pub record IsTyped (s : Schema) : Type 0 where
+  pub dims : AllByRecursion (λ d. IsBytes d.name) s.dims
+  pub gatts : AllByRecursion IsTypedAttr s.gatts
+  pub vars : AllByRecursion IsTypedVar s.vars

@@ -11,6 +11,14 @@ use crate::state::{Body, State};
 use arrayvec::ArrayVec;
 use std::alloc::AllocError;
 
+/// Adds bytes to those that are held.
+fn hold(held: &mut ArrayVec<u8, 8>, bytes: &[u8])
+    requires { length held.old.items + length bytes.now ≤ 8 }
+    ensures { held.new.items ≡ held.old.items ++ bytes.now }
+{
+    held.try_extend_from_slice(bytes).unwrap();
+}
+
 /// Adds the bytes of whole values.
 fn add_values(body: Body, bytes: &[u8]) -> Result<Body, AllocError>
     requires { length bytes.now % bytes_each (type_of body.values) ≡ 0 }
@@ -40,7 +48,7 @@ fn add_whole(body: Body, held: &mut ArrayVec<u8, 8>, bytes: &[u8]) -> Result<Bod
     let part = bytes.len() % body.values.xtype().size();
     let (whole, rest) = bytes.split_at(bytes.len() - part);
     let body = add_values(body, whole)?;
-    held.try_extend_from_slice(rest).unwrap();
+    hold(held, rest);
     Ok(body)
 }
 
@@ -57,11 +65,11 @@ fn gather_values(body: Body, held: &mut ArrayVec<u8, 8>, front: &[u8]) -> Result
     }
     let lacking = body.values.xtype().size() - held.len();
     if front.len() < lacking {
-        held.try_extend_from_slice(front).unwrap();
+        hold(held, front);
         return Ok(body);
     }
     let (first, rest) = front.split_at(lacking);
-    held.try_extend_from_slice(first).unwrap();
+    hold(held, first);
     let body = add_values(body, held.as_slice())?;
     held.clear();
     add_whole(body, held, rest)
@@ -70,29 +78,33 @@ fn gather_values(body: Body, held: &mut ArrayVec<u8, 8>, front: &[u8]) -> Result
 /// Adds bytes to those of the next field that have come.
 pub fn gather(
     state: State,
-    held: &mut ArrayVec<u8, 8>,
+    held: ArrayVec<u8, 8>,
     front: &[u8],
-) -> Result<State, AllocError>
-    requires room { held_length state held.old.items + length front.now ≤ next_size state }
-    requires part { length held.old.items < part_of state }
-    ensures state { IfOk result (λ new. left_of new ≡ left_of state) }
-    ensures begins { IfOk result (λ new. begins_of new ≡ begins_of state) }
-    ensures held { IfOk result (λ new. front_of new held.new.items ≡ front_of state held.old.items ++ front.now) }
-    ensures part { IfOk result (λ new. length held.new.items < part_of new) }
-    ensures idle { IfOk result (λ new. idle_of new ≡ idle_of state) }
-    ensures at { IfOk result (λ new. first_at new ≡ first_at state) }
+) -> Result<(State, ArrayVec<u8, 8>), AllocError>
+    requires room { held_length state held.items + length front.now ≤ next_size state }
+    requires part { length held.items < part_of state }
+    ensures state { IfOk result (λ new. left_of new.0 ≡ left_of state) }
+    ensures begins { IfOk result (λ new. begins_of new.0 ≡ begins_of state) }
+    ensures held { IfOk result (λ new. front_of new.0 new.1.items ≡ front_of state held.items ++ front.now) }
+    ensures part { IfOk result (λ new. length new.1.items < part_of new.0) }
+    ensures idle { IfOk result (λ new. idle_of new.0 ≡ idle_of state) }
+    ensures at { IfOk result (λ new. first_at new.0 ≡ first_at state) }
     ensures memory { IfErr result (λ _. 12 ≤ first_at state) }
 {
+    let mut all = held;
     match state {
         State::NameText(named, n, name) => {
-            let mut all = name;
-            all.extend_from_slice(front)?;
-            Ok(State::NameText(named, n, all))
+            let mut text = name;
+            text.extend_from_slice(front)?;
+            Ok((State::NameText(named, n, text), all))
         }
-        State::AttrValues(body) => Ok(State::AttrValues(gather_values(body, held, front)?)),
+        State::AttrValues(body) => {
+            let body = gather_values(body, &mut all, front)?;
+            Ok((State::AttrValues(body), all))
+        }
         other => {
-            held.try_extend_from_slice(front).unwrap();
-            Ok(other)
+            hold(&mut all, front);
+            Ok((other, all))
         }
     }
 }

@@ -6,7 +6,7 @@ ghost use Rattle.ncc_header.specs.declared.fault.Fault.{Fault};
 ghost use Rattle.ncc_header.specs.declared.fault.FaultKind.TheVariants.{EndsEarly};
 ghost use Rattle.ncc_header.specs.declared.schema.Schema.{Schema};
 ghost use Rattle.ncc_header.specs.declared.schema.Header.{Header};
-ghost use Rattle.ncc_header.specs.Schema.{Place, Legal};
+ghost use Rattle.ncc_header.specs.Schema.{Place, Legal, IsTyped};
 ghost use Rattle.ncc_header.specs.Header.{IsHeader, canon};
 ghost use Rattle.ncc_header.specs.Marks.{header_marks};
 ghost use Rattle.ncc_header.specs.Answers.{Begins, Stops};
@@ -36,7 +36,7 @@ pub fn limit_covers()
 
 /// The canonical spelling of a legal schema and placement is a header of them.
 pub fn canonical_header()
-    ensures { (s : Schema) (places : List Place) → Legal s places → IsHeader s places (canon s places) }
+    ensures { (s : Schema) (places : List Place) → Legal s places → IsTyped s → IsHeader s places (canon s places) }
 {}
 
 /// A header without marks is the canonical spelling of its schema and placement.

@@ -2,7 +2,7 @@
 
 ghost use Rattle.std.specs.Prelude.{◌≡◌, ◌≤◌, ◌++◌, IfOk, IfErr, OnOk};
 ghost use Rattle.ncc_header.specs.Marks.{all_zero, mark_of};
-ghost use Rattle.ncc_header.specs.States.{left_of, label_of, first_at};
+ghost use Rattle.ncc_header.specs.States.{left_of, label_of, front_of, first_at};
 
 use crate::schema::Mark;
 use crate::state::State;
@@ -27,7 +27,7 @@ pub fn push_mark(
     at: u64,
     held: &[u8],
 ) -> Result<(), AllocError>
-    ensures ok { OnOk result (marks.new.items ≡ marks.old.items ++ mark_of (label_of (left_of state.now)) at held.now) }
+    ensures ok { OnOk result (marks.new.items ≡ marks.old.items ++ mark_of (label_of (left_of state.now)) at (front_of state.now held.now)) }
     ensures memory { IfErr result (λ _. 12 ≤ first_at state.now) }
 {
     match state {

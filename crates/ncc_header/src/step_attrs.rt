@@ -1,11 +1,11 @@
 //! The fields of a list of attributes.
 
-ghost use Rattle.std.specs.Prelude.{◌≡◌, ◌≤◌, ◌<◌, ◌*◌, ◌^◌, ◌++◌, length};
+ghost use Rattle.std.specs.Prelude.{◌≡◌, ◌≤◌, ◌<◌, ◌*◌, ◌^◌, ◌++◌, length, IfOk};
 ghost use Rattle.ncc_values.specs.Values.{type_of, bytes_of};
 ghost use Rattle.ncc_values.specs.Version.{count_width_of};
 ghost use Rattle.ncc_values.specs.XType.{size_of as bytes_each};
 ghost use Rattle.ncc_header.specs.declared.state.State.TheVariants as states;
-ghost use Rattle.ncc_header.specs.States.{left_of, version_of_owner, from_attrs, begins_of, begins_of_owner, first_at, IsFresh, Steps};
+ghost use Rattle.ncc_header.specs.States.{left_of, version_of_owner, in_attr, from_values, from_attrs, begins_of, begins_of_owner, first_at, idle_of, IsFresh, Steps};
 
 use crate::judge;
 use crate::schema::Attr;
@@ -32,6 +32,7 @@ fn next_attr(owner: Owner, attrs: Vec<Attr>, left: u64) -> State
     ensures begins { begins_of result ≡ begins_of_owner owner }
     ensures fresh { IsFresh result }
     ensures at { first_at result ≤ 12 }
+    ensures idle { idle_of result ≡ 0 }
 {
     if left == 0 {
         let all = Seq::from_vec(attrs);
@@ -77,11 +78,9 @@ pub fn after_attr_type(
 
 /// An attribute of which no value has come.
 fn no_values(alloc: Global, attrs: Attrs, name: Seq<u8>, xtype: XType, number: u64) -> Body
-    ensures attrs { result.attrs ≡ attrs }
-    ensures name { result.name ≡ name }
-    ensures number { result.number ≡ number }
-    ensures xtype { type_of result.values ≡ xtype }
-    ensures none { length (bytes_of result.values) ≡ 0 }
+    ensures left { left_of (states.AttrValues result) ≡ in_attr attrs (from_values name xtype number) }
+    ensures begins { begins_of (states.AttrValues result) ≡ begins_of_owner attrs.owner }
+    ensures fresh { IsFresh (states.AttrValues result) }
 {
     Body {
         attrs,
@@ -125,7 +124,8 @@ pub fn after_attr_padding(
     at: u64,
     front: &[u8],
 ) -> Result<State, StepError>
-    ensures { Steps (states.AttrPadding attrs name size values) at front.now result }
+    ensures steps { Steps (states.AttrPadding attrs name size values) at front.now result }
+    ensures idle { IfOk result (λ new. idle_of new ≡ 0) }
 {
     let mut all = attrs.attrs;
     all.push(Attr { name, values })?;

@@ -5,12 +5,20 @@ ghost use Rattle.ncc_header.specs.declared.state.StepError.TheVariants.{Memory, 
 
 use crate::state::StepError;
 use crate::wrong::Wrong;
-use std::alloc::AllocFailed;
+use std::alloc::{AllocError, AllocFailed};
 
 impl<T: Drop> From<AllocFailed<T>> for StepError {
     ghost from_gives = { λ _ e. e ≡ Memory };
 
     fn from(_e: AllocFailed<T>) -> StepError {
+        StepError::Memory
+    }
+}
+
+impl From<AllocError> for StepError {
+    ghost from_gives = { λ _ e. e ≡ Memory };
+
+    fn from(_e: AllocError) -> StepError {
         StepError::Memory
     }
 }

@@ -1,9 +1,9 @@
 //! The fields of a name, whatever it is of.
 
-ghost use Rattle.std.specs.Prelude.{◌≡◌, length};
+ghost use Rattle.std.specs.Prelude.{◌≡◌, length, IfOk};
 ghost use Rattle.ncc_values.specs.Version.{count_width_of};
 ghost use Rattle.ncc_header.specs.declared.state.State.TheVariants as states;
-ghost use Rattle.ncc_header.specs.States.{version_of_owner, version_of_named, Steps};
+ghost use Rattle.ncc_header.specs.States.{version_of_owner, version_of_named, idle_of, Steps};
 
 use crate::judge;
 use crate::state::{Named, Owner, State, StepError};
@@ -49,7 +49,8 @@ pub fn after_name_padding(
     at: u64,
     front: &[u8],
 ) -> Result<State, StepError>
-    ensures { Steps (states.NamePadding named name) at front.now result }
+    ensures steps { Steps (states.NamePadding named name) at front.now result }
+    ensures idle { IfOk result (λ new. idle_of new ≡ 0) }
 {
     Ok(match named {
         Named::Dim(dims) => State::DimLength(dims, name),

@@ -1,7 +1,8 @@
 //! Taking the bytes of a piece, field by field.
 
-ghost use Rattle.std.specs.Prelude.{◌≡◌, ◌+◌, ◌≤◌, ◌<◌, ◌++◌, ℕ, length, take, Some, IfOk, IfErr};
-ghost use Rattle.ncc_header.specs.States.{left_of, size_of, idle_of, first_at};
+ghost use Rattle.std.specs.Prelude.{◌≡◌, ◌+◌, ◌≤◌, ◌<◌, ◌^◌, ◌++◌, ℕ, length, take, Some, Err, IfOk, IfErr};
+ghost use Rattle.ncc_header.specs.Marks.{mark_of};
+ghost use Rattle.ncc_header.specs.States.{left_of, label_of, size_of, front_of, part_of, idle_of, first_at, StepsTo, Steps};
 ghost use Rattle.ncc_header.specs.Held.{next_size, held_length};
 ghost use Rattle.ncc_header.specs.Reading.{held_of, told_of, Takes, FailsBehind, Waits};
 
@@ -9,6 +10,7 @@ use crate::fault::{Fault, FaultKind, HeaderError};
 use crate::gathering::gather;
 use crate::marking::push_mark;
 use crate::reading::Reading;
+use crate::schema::Mark;
 use crate::state::{State, StepError};
 use crate::step::{size, step};
 use arrayvec::ArrayVec;
@@ -41,6 +43,28 @@ fn told(at: u64, error: StepError) -> HeaderError
     }
 }
 
+/// The state behind the next field, and the marks with those that the field shows.
+fn stepped(
+    alloc: Global,
+    state: State,
+    marks: Vec<Mark>,
+    at: u64,
+    held: &[u8],
+) -> Result<(State, Vec<Mark>), StepError>
+    requires whole { size_of (left_of state) ≡ Some (length (front_of state held.now)) }
+    requires part { length held.now < part_of state }
+    requires small { length (front_of state held.now) < 2 ^ 64 }
+    ensures ok { IfOk result (λ new. StepsTo state at (front_of state held.now) new.0) }
+    ensures marks { IfOk result (λ new. new.1.items ≡ marks.items ++ mark_of (label_of (left_of state)) at (front_of state held.now)) }
+    ensures idle { size_of (left_of state) ≡ Some 0 → IfOk result (λ new. idle_of new.0 < idle_of state) }
+    ensures err { IfErr result (λ e. Steps state at (front_of state held.now) (Err e)) }
+{
+    let mut all = marks;
+    push_mark(&mut all, &state, at, held)?;
+    let new = step(alloc, state, at, held)?;
+    Ok((new, all))
+}
+
 /// Takes the last bytes of the next field, and so the field.
 fn take_field(
     alloc: Global,
@@ -56,19 +80,17 @@ fn take_field(
     ensures fails { IfErr result (FailsBehind reading front.now) }
     ensures memory { result ≡ Err HeaderError.Memory → 12 ≤ reading.at }
 {
-    let mut held = reading.held;
-    let state = gather(reading.state, &mut held, front)?;
-    let mut marks = reading.marks;
-    push_mark(&mut marks, &state, reading.at, held.as_slice())?;
-    match step(alloc, state, reading.at, held.as_slice()) {
-        Ok(state) => Ok(Reading {
-            limit: reading.limit,
-            at: reading.at + size,
+    let (limit, at) = (reading.limit, reading.at);
+    let (state, held) = gather(reading.state, reading.held, front)?;
+    match stepped(alloc, state, reading.marks, at, held.as_slice()) {
+        Ok((state, marks)) => Ok(Reading {
+            limit,
+            at: at + size,
             state,
             held: ArrayVec::new(),
             marks,
         }),
-        Err(error) => Err(told(reading.at, error)),
+        Err(error) => Err(told(at, error)),
     }
 }
 
@@ -81,11 +103,11 @@ fn hold(reading: Reading, front: &[u8]) -> Result<Reading, HeaderError>
     ensures held { IfOk result (λ new. held_of new ≡ held_of reading ++ front.now) }
     ensures memory { IfErr result (λ e. (e ≡ HeaderError.Memory) × (12 ≤ reading.at)) }
 {
-    let mut held = reading.held;
-    let state = gather(reading.state, &mut held, front)?;
+    let (limit, at) = (reading.limit, reading.at);
+    let (state, held) = gather(reading.state, reading.held, front)?;
     Ok(Reading {
-        limit: reading.limit,
-        at: reading.at,
+        limit,
+        at,
         state,
         held,
         marks: reading.marks,

@@ -1,4 +1,4 @@
-use Rattle.ncc_header.proofs.HeaderLaws.{canonical_header}
+use Rattle.ncc_header.proofs.Canonical.{canonical_header}
 use Rattle.ncc_header.proofs.laws.canonical_header.Goals as goal
 
 pub returns : goal.returns
