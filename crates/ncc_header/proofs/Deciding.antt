@@ -9,7 +9,7 @@ use Rattle.ncc_header.specs.declared.standing.Fed.{Fed}
 use Rattle.ncc_header.specs.declared.standing.Fed.TheVariants.{More, Done}
 use Rattle.ncc_header.specs.Answers.{Begins, Stops, Answers, OrMemory}
 use Rattle.ncc_header.specs.Standing.{IsWhole, FailedOn, Feeds, front_taken}
-use Rattle.ncc_header.proofs.HeaderLaws.{apart, one_begins, one_fault, header_limit_covers}
+use Rattle.ncc_header.proofs.HeaderLaws.{apart, one_begins, one_fault, header_limit_covers, whole_begins}
 
 abbrev answer : Result Header HeaderError → Result Header HeaderError
 answer r = r
@@ -33,17 +33,16 @@ begins_before first more limit h b = record {
   rest = b.rest ++ more;
   joined = ap (λ (x : List ℕ). x ++ more) b.joined ∙ append_assoc b.front b.rest more;
   is_header = b.is_header;
+  begins = b.begins;
+  marks = b.marks;
   long = b.long;
   within = b.within;
 }
 
-whole_begins : (bytes : List ℕ) (limit : ℕ) → IsWhole bytes limit → (h : Header) × Begins bytes limit h
-whole_begins bytes limit w = (record { schema = w.0; length = length bytes }, record { front = bytes; rest = []; joined = sym (append-nil bytes); is_header = w.1; long = refl; within = w.2 })
-
 -- what is answered of a whole header is answered of it and all that follows
 pub whole_answers : (whole more : List ℕ) (limit : ℕ) (result : Result Header HeaderError) → IsWhole whole limit → Answers whole limit result → Answers (whole ++ more) limit result
 whole_answers whole more limit (Ok h) w a = begins_before whole more limit h a
-whole_answers whole more limit (Err (errors.Fault f)) w a = let b = whole_begins whole limit w in absurd (apart whole limit b.0 f b.1 a)
+whole_answers whole more limit (Err (errors.Fault f)) w a = let b = whole_begins whole limit w.0 w.1 w.2 w.3 in absurd (apart whole limit b.0 f b.1 a)
 whole_answers whole more limit (Err errors.Device) w a = a
 whole_answers whole more limit (Err errors.Memory) w a = tt
 

@@ -2,7 +2,7 @@
 use Rattle.std.proofs.Common.{◌≡◌, ◌≢◌, ℕ, ◌+◌, ◌-◌, ◌<◌, ◌≤◌, List, [], ◌∷◌, ◌++◌, length, take, drop, Option, Some, None, refl, sym, ap, ◌∙◌, append_assoc, arith, inl, inr}
 use Rattle.std.specs.Prelude.{is_some, if◌then◌else◌}
 use Rattle.std.proofs.lemmas.Bool.{cases_lt, le-ltb, lt-ltb}
-use Rattle.std.proofs.lemmas.List.{length-append, take_at, drop_at}
+use Rattle.std.proofs.lemmas.List.{length-append, length-drop, take_at, drop_at, take-append-le, drop-append-le}
 use Rattle.ncc_header.specs.declared.fault.FaultKind.{FaultKind}
 use Rattle.ncc_header.specs.declared.fault.FaultKind.TheVariants.{HeaderTooLong, EndsEarly}
 use Rattle.ncc_header.specs.declared.wrong.Wrong.{Wrong}
@@ -85,6 +85,23 @@ lacking_early (field label size wrong next) limit at n input is within short =
     let same : size ≡ n = some_is size n is in
     rw (le-ltb limit (at + size) (omega (arith, same, within)), lt-ltb (length input) size (omega (arith, same, short))) (ap (λ (m : ℕ). m - length input) same)
 
+pub lacks_nothing : {A : Type 0} (x : A) (limit at : ℕ) (input : List ℕ) → lacking (done x) limit at input ≡ 0
+unfolding lacking
+lacks_nothing x limit at input = refl
+
+pub lacking_late : {A : Type 0} (g : Grammar A) (limit at n : ℕ) (input : List ℕ) → size_of g ≡ Some n → limit < at + n → lacking g limit at input ≡ 0
+unfolding lacking
+lacking_late (done x) limit at n input is past = absurd cc
+lacking_late (field label size wrong next) limit at n input is past = rw (lt-ltb limit (at + size) (omega (arith, some_is size n is, past))) refl
+
+-- a wrong field lacks nothing, and another lacks what the fields behind it lack
+lacks_if_wrong : {A : Type 0} (w : Option Wrong) (at offset l : ℕ) (kind : FaultKind) (o : Outcome A) → unless_wrong w at o ≡ stops offset kind → (o ≡ stops offset kind → l ≡ 0) → (if is_some w then 0 else l) ≡ 0
+lacks_if_wrong None at offset l kind o e h = h e
+lacks_if_wrong (Some w) at offset l kind o e h = refl
+
+same_kind : {A : Type 0} (a o : ℕ) (k l : FaultKind) (x : Outcome A) → x ≡ stops a k → x ≡ stops o l → k ≡ l
+same_kind a o k l x e f = (outcomes_are_one (stops a k) (stops o l) (sym e ∙ f)).1
+
 -- what stops for another reason than an early end lacks nothing
 pub lacks_none : {A : Type 0} (g : Grammar A) (limit at : ℕ) (input : List ℕ) (offset : ℕ) (kind : FaultKind) → kind ≢ EndsEarly → read g limit at input ≡ stops offset kind → lacking g limit at input ≡ 0
 unfolding read lacking
@@ -93,16 +110,55 @@ lacks_none {A = A} (field label size wrong next) limit at input offset kind othe
     elim (cases_lt limit (at + size)) [
       | inl past ↦ rw (lt-ltb limit (at + size) past) refl
       | inr within ↦ elim (cases_lt (length input) size) [
-        | inl short ↦ absurd (other (sym (kinds_same (outcomes_are_one (stops at EndsEarly) (stops offset kind) (rw (le-ltb limit (at + size) within, lt-ltb (length input) size short) at h)))))
+        | inl short ↦ absurd (other (sym (same_kind {A = A} at offset EndsEarly kind (stops at EndsEarly) refl (rw (le-ltb limit (at + size) within, lt-ltb (length input) size short) at h))))
         | inr long ↦
             rw (le-ltb limit (at + size) within, le-ltb (length input) size long)
-            (by_wrong (wrong (take size input)) (rw (le-ltb limit (at + size) within, le-ltb (length input) size long) at h))
+            (lacks_if_wrong (wrong (take size input)) at offset _ kind (read (next (take size input)) limit (at + size) (drop size input))
+            (rw (le-ltb limit (at + size) within, le-ltb (length input) size long) at h)
+            (lacks_none (next (take size input)) limit (at + size) (drop size input) offset kind other))
       ]
     ]
-  where
-    kinds_same : (at ≡ offset) × (EndsEarly ≡ kind) → EndsEarly ≡ kind
-    kinds_same p = p.1
 
-    by_wrong : (w : Option Wrong) → unless_wrong w at (read (next (take size input)) limit (at + size) (drop size input)) ≡ stops offset kind → (if is_some w then 0 else lacking (next (take size input)) limit (at + size) (drop size input)) ≡ 0
-    by_wrong None e = lacks_none (next (take size input)) limit (at + size) (drop size input) offset kind other e
-    by_wrong (Some w) e = refl
+not_wrong : (w : Option Wrong) (l k : ℕ) → (if is_some w then 0 else l) ≡ k → 0 < k → (w ≡ None) × (l ≡ k)
+not_wrong None l k e pos = (refl, e)
+not_wrong (Some w) l k e pos = absurd (omega (arith, e, pos))
+
+-- what lacks more bytes than come still ends early
+pub still_early : {A : Type 0} (g : Grammar A) (limit at : ℕ) (input more : List ℕ) → length more < lacking g limit at input → (offset : ℕ) × (read g limit at (input ++ more) ≡ stops offset EndsEarly)
+unfolding read lacking
+still_early (done x) limit at input more h = absurd (omega (arith, h))
+still_early {A = A} (field label size wrong next) limit at input more h =
+    elim (cases_lt limit (at + size)) [
+      | inl past ↦ absurd (let none : length more < 0 = rw (lt-ltb limit (at + size) past) at h in omega (arith, none))
+      | inr within ↦ elim (cases_lt (length input) size) [
+        | inl short ↦
+            let few : length more < size - length input = rw (le-ltb limit (at + size) within, lt-ltb (length input) size short) at h in
+            (at, rw (le-ltb limit (at + size) within, lt-ltb (length (input ++ more)) size (omega (arith, length-append input more, few))) refl)
+        | inr long ↦
+            let few : length more < (if is_some (wrong (take size input)) then 0 else lacking (next (take size input)) limit (at + size) (drop size input)) = rw (le-ltb limit (at + size) within, le-ltb (length input) size long) at h in
+            let onward = lacking (next (take size input)) limit (at + size) (drop size input) in
+            let fine = not_wrong (wrong (take size input)) onward (if is_some (wrong (take size input)) then 0 else onward) refl (omega (arith, few)) in
+            let rest = still_early (next (take size input)) limit (at + size) (drop size input) more (omega (arith, few, fine.1)) in
+            (rest.0, whole_front label size wrong next limit at (input ++ more) (omega (arith, length-append input more, long)) within
+                ∙ rw (take-append-le size input more long, drop-append-le size input more long)
+                (ap (λ (w : Option Wrong). unless_wrong w at (read (next (take size input)) limit (at + size) (drop size input ++ more))) fine.0 ∙ rest.1))
+      ]
+    ]
+
+-- what lacks bytes lacks none past the limit
+pub lacks_within : {A : Type 0} (g : Grammar A) (limit at : ℕ) (input : List ℕ) → 0 < lacking g limit at input → at + length input + lacking g limit at input ≤ limit
+unfolding lacking
+lacks_within (done x) limit at input h = absurd (omega (arith, h))
+lacks_within {A = A} (field label size wrong next) limit at input h =
+    elim (cases_lt limit (at + size)) [
+      | inl past ↦ absurd (let none : 0 < 0 = rw (lt-ltb limit (at + size) past) at h in omega (arith, none))
+      | inr within ↦ elim (cases_lt (length input) size) [
+        | inl short ↦ rw (le-ltb limit (at + size) within, lt-ltb (length input) size short) (omega (arith, within, short))
+        | inr long ↦
+            let some : 0 < (if is_some (wrong (take size input)) then 0 else lacking (next (take size input)) limit (at + size) (drop size input)) = rw (le-ltb limit (at + size) within, le-ltb (length input) size long) at h in
+            let onward = lacking (next (take size input)) limit (at + size) (drop size input) in
+            let fine = not_wrong (wrong (take size input)) onward (if is_some (wrong (take size input)) then 0 else onward) refl some in
+            let rest = lacks_within (next (take size input)) limit (at + size) (drop size input) (omega (arith, some, fine.1)) in
+            rw (le-ltb limit (at + size) within, le-ltb (length input) size long) (omega (arith, rest, fine.1, length-drop size input, long))
+      ]
+    ]

@@ -1,5 +1,5 @@
 -- Which header an input begins with, or where it stops.
-use Rattle.std.specs.Prelude.{◌≡◌, ℕ, ◌≤◌, ◌⊎◌, List, ◌++◌, length, map, Result, Ok, Err}
+use Rattle.std.specs.Prelude.{◌≡◌, ℕ, ◌≤◌, ◌⊎◌, List, ◌++◌, length, map, drop, Option, Some, Result, Ok, Err}
 use Rattle.ncc_header.specs.declared.fault.Fault.{Fault}
 use Rattle.ncc_header.specs.declared.fault.HeaderError.{HeaderError}
 use Rattle.ncc_header.specs.declared.fault.HeaderError.TheVariants as errors
@@ -37,6 +37,10 @@ Answers input limit (Err errors.Memory) = Unit {0}
 abbrev pub AnswersOf : (input : List ℕ) (limit : ℕ) → Result Header HeaderError → Type 0
 AnswersOf input limit (Err errors.Device) = Unit {0}
 AnswersOf input limit result = Answers input limit result
+
+-- what is left of a source that had the input, once exactly this header was read
+abbrev pub IsLeft : (left : Option (List ℕ)) (input : List ℕ) → Header → Type 0
+IsLeft left input h = left ≡ Some (drop h.length input)
 
 -- this answer, unless memory was refused
 abbrev pub OrMemory : Result Header HeaderError → Result Header HeaderError → Type 0

@@ -1,5 +1,5 @@
 -- What a decoder's standing says of the bytes that it has taken, and what its answers say.
-use Rattle.std.specs.Prelude.{◌≡◌, ◌≢◌, ℕ, ◌+◌, ◌≤◌, ◌<◌, List, ◌++◌, length, take, ltb, if◌then◌else◌, Option, Some, None, Result, Ok, Err}
+use Rattle.std.specs.Prelude.{◌≡◌, ◌≢◌, ◌⊎◌, ℕ, ◌+◌, ◌-◌, ◌≤◌, ◌<◌, List, ◌++◌, length, take, ltb, if◌then◌else◌, Option, Some, None, Result, Ok, Err}
 use Rattle.ncc_values.specs.Numbers.{IsBytes}
 use Rattle.ncc_header.specs.declared.fault.Fault.{Fault}
 use Rattle.ncc_header.specs.declared.fault.FaultKind.TheVariants.{HeaderTooLong, EndsEarly}
@@ -56,6 +56,15 @@ IsWhole bytes limit = (s : Schema) × (places : List Place) × IsHeader s places
 -- the input ends inside of a field, and has no other fault
 abbrev pub GoesOn : (input : List ℕ) (limit : ℕ) → Type 0
 GoesOn input limit = (f : Fault) × Stops input limit f × (f.kind ≡ EndsEarly)
+
+-- whatever follows, no byte more is taken: the bytes are a header within the limit, or have a fault that stays
+abbrev pub IsSettled : (input : List ℕ) (limit : ℕ) → Type 0
+IsSettled input limit = IsWhole input limit ⊎ ((f : Fault) × StopsForGood input limit f)
+
+-- the bytes that a field of this size lacks, of which so many have come; none where it ends past the limit
+abbrev pub lacks_of : Option ℕ → (limit at held : ℕ) → ℕ
+lacks_of None limit at held = 0
+lacks_of (Some n) limit at held = if ltb limit (at + n) then 0 else n - held
 
 -- the fault of an input that ends inside of a field
 abbrev pub cut_at : (limit at size : ℕ) → Fault

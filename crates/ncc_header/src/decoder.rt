@@ -1,20 +1,21 @@
 //! A decoder that takes a header in pieces.
 
-ghost use Rattle.std.specs.Prelude.{◌≡◌, ◌≢◌, ◌≤◌, ◌+◌, ◌++◌, ℕ, List, [], length, None, IfErr};
+ghost use Rattle.std.specs.Prelude.{◌≡◌, ◌≤◌, ◌+◌, ◌++◌, ℕ, List, [], length, IfOk};
 ghost use Rattle.ncc_header.specs.Answers.{Answers};
-ghost use Rattle.ncc_header.specs.Grammar.{done};
+ghost use Rattle.ncc_header.specs.Fields.{header};
+ghost use Rattle.ncc_header.specs.Grammar.{lacking};
 ghost use Rattle.ncc_header.specs.States.{left_of, size_of};
-ghost use Rattle.ncc_header.specs.Standing.{HasTaken, limit_at, TookAt, IsSpentAt, front_taken, fed_of, cut_at, Feeds};
+ghost use Rattle.ncc_header.specs.Standing.{IsSettled, limit_at, TookAt, IsSpentAt, front_taken, fed_of, Feeds};
 
-use crate::fault::{Fault, FaultKind, HeaderError};
+use crate::fault::HeaderError;
+use crate::finishing::{finished, lacks};
 use crate::reading::Reading;
-use crate::schema::{Header, Schema, VarPlace};
+use crate::schema::Header;
 use crate::standing::{Fed, Standing};
 use crate::state::State;
 use crate::step::size;
 use crate::taking::take;
 use arrayvec::ArrayVec;
-use ncc_values::Seq;
 use std::alloc::Global;
 use std::mem;
 
@@ -42,6 +43,7 @@ fn advance(alloc: Global, standing: Standing, piece: &[u8]) -> (Standing, Result
     ensures takes { (taken : List ℕ) → TookAt standing taken → TookAt result.0 (taken ++ front_taken result.1 piece.now) }
     ensures spent { IsSpentAt standing → result.1 ≡ Err HeaderError.Memory }
     ensures spends { result.1 ≡ Err HeaderError.Memory → IsSpentAt result.0 }
+    ensures fresh { IfOk result.1 (λ _. ¬ IsSpentAt result.0) }
     // Eight bytes fit a decoder without memory.
     ensures few { (taken : List ℕ) → TookAt standing taken → length taken + length piece.now ≤ 8 → result.1 ≡ Err HeaderError.Memory → IsSpentAt standing }
 {
@@ -58,48 +60,6 @@ fn advance(alloc: Global, standing: Standing, piece: &[u8]) -> (Standing, Result
             }
         }
     }
-}
-
-/// Why an input is refused that ends at this field.
-fn cut_short(limit: u64, at: u64, size: u128) -> Fault
-    requires { at ≤ limit }
-    ensures { result ≡ cut_at limit at size }
-{
-    let kind = if size > (limit - at) as u128 {
-        FaultKind::HeaderTooLong
-    } else {
-        FaultKind::EndsEarly
-    };
-    Fault { kind, offset: at }
-}
-
-/// What a header said that has no field left.
-fn whole(state: State) -> (Schema, Vec<VarPlace>)
-    requires { size_of (left_of state) ≡ None }
-    ensures { state ≡ State.Whole result.0 result.1 }
-{
-    match state {
-        State::Whole(schema, places) => (schema, places),
-        _ => unreachable!(),
-    }
-}
-
-/// The header of a reading behind which nothing comes.
-fn finished(reading: Reading) -> Result<Header, HeaderError>
-    ensures answers { (taken : List ℕ) → HasTaken reading taken → Answers taken reading.limit result }
-    ensures memory { IfErr result (λ e. e ≢ HeaderError.Memory) }
-{
-    let length = reading.at;
-    if let Some(size) = size(&reading.state) {
-        return Err(HeaderError::Fault(cut_short(reading.limit, length, size)));
-    }
-    let (schema, places) = whole(reading.state);
-    Ok(Header {
-        schema,
-        places: Seq::from_vec(places),
-        length,
-        marks: Seq::from_vec(reading.marks),
-    })
 }
 
 impl Decoder {
@@ -133,6 +93,7 @@ impl Decoder {
         // Memory is answered for good, and never as long as all bytes are 8 at most.
         ensures spent { IsSpent self.old → result ≡ Err HeaderError.Memory }
         ensures spends { result ≡ Err HeaderError.Memory → IsSpent self.new }
+        ensures fresh { IfOk result (λ _. ¬ IsSpent self.new) }
         ensures few { (taken : List ℕ) → Took self.old taken → length taken + length piece.now ≤ 8 → result ≡ Err HeaderError.Memory → IsSpent self.old }
     {
         let unused = Standing::Failed(0, HeaderError::Memory);
@@ -145,9 +106,23 @@ impl Decoder {
         answer
     }
 
+    /// How many bytes the field in which the input ends early still lacks. It is 0 where the header is
+    /// whole or has a fault that stays, and after want of memory.
+    pub fn wants(&self) -> u64
+        ensures lacks { (taken : List ℕ) → Took self.now taken → ¬ IsSpent self.now → result ≡ lacking header (limit_of self.now) 0 taken }
+        ensures settled { (taken : List ℕ) → Took self.now taken → ¬ IsSpent self.now → result ≡ 0 → IsSettled taken (limit_of self.now) }
+        ensures spent { IsSpent self.now → result ≡ 0 }
+    {
+        match &self.standing {
+            Standing::Reading(reading) => lacks(reading),
+            Standing::Failed(_, _) => 0,
+        }
+    }
+
     /// The header, where the input ends behind the pieces.
     pub fn finish(self) -> Result<Header, HeaderError>
         ensures answers { (taken : List ℕ) → Took self taken → Answers taken (limit_of self) result }
+        ensures whole { (taken : List ℕ) → Took self taken → IfOk result (λ h. h.length ≡ length taken) }
         ensures spent { IsSpent self → result ≡ Err HeaderError.Memory }
         ensures memory { result ≡ Err HeaderError.Memory → IsSpent self }
     {

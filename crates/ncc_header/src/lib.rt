@@ -5,6 +5,7 @@ mod decoder;
 mod decoding;
 mod failed;
 mod fault;
+mod finishing;
 mod from_source;
 mod gathering;
 mod judge;

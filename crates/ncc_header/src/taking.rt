@@ -17,7 +17,7 @@ use arrayvec::ArrayVec;
 use std::alloc::Global;
 
 /// How many bytes of the next field have come.
-fn held_len(reading: &Reading) -> u128
+pub fn held_len(reading: &Reading) -> u128
     ensures { result ≡ length (held_of reading.now) }
 {
     let held = reading.held.len() as u128;
