@@ -1,15 +1,16 @@
 -- The one answer about an input.
-use Rattle.std.proofs.Common.{◌≡◌, ℕ, ◌≤◌, List, [], ◌++◌, length, take, drop, Result, Ok, Err, refl, sym, ap, subst, ◌∙◌, append_assoc, append-nil, inl, inr}
+use Rattle.std.proofs.Common.{◌≡◌, ◌≢◌, ℕ, ◌≤◌, List, [], ◌++◌, length, take, drop, Result, Ok, Err, refl, sym, ap, subst, ◌∙◌, append_assoc, append-nil, inl, inr}
 use Rattle.std.proofs.lemmas.List.{take-append-drop}
 use Rattle.ncc_header.specs.declared.fault.Fault.{Fault}
+use Rattle.ncc_header.specs.declared.fault.FaultKind.TheVariants.{EndsEarly}
 use Rattle.ncc_header.specs.declared.fault.HeaderError.{HeaderError}
 use Rattle.ncc_header.specs.declared.fault.HeaderError.TheVariants as errors
 use Rattle.ncc_header.specs.declared.schema.Header.{Header}
 use Rattle.ncc_header.specs.declared.standing.Fed.{Fed}
 use Rattle.ncc_header.specs.declared.standing.Fed.TheVariants.{More, Done}
 use Rattle.ncc_header.specs.Answers.{Begins, Stops, Answers, OrMemory}
-use Rattle.ncc_header.specs.Standing.{IsWhole, FailedOn, Feeds, front_taken}
-use Rattle.ncc_header.proofs.HeaderLaws.{apart, one_begins, one_fault, header_limit_covers, whole_begins}
+use Rattle.ncc_header.specs.Standing.{IsWhole, IsSettled, FailedOn, Feeds, front_taken}
+use Rattle.ncc_header.proofs.HeaderLaws.{apart, one_begins, one_fault, header_stop_stays, whole_begins}
 
 abbrev answer : Result Header HeaderError → Result Header HeaderError
 answer r = r
@@ -46,27 +47,22 @@ whole_answers whole more limit (Err (errors.Fault f)) w a = let b = whole_begins
 whole_answers whole more limit (Err errors.Device) w a = a
 whole_answers whole more limit (Err errors.Memory) w a = tt
 
+-- what is answered of bytes that are settled is answered of them and all that follows
+pub settled_answers : (taken more : List ℕ) (limit : ℕ) (result : Result Header HeaderError) → IsSettled taken limit → Answers taken limit result → Answers (taken ++ more) limit result
+settled_answers taken more limit result (inl whole) a = whole_answers taken more limit result whole a
+settled_answers taken more limit (Ok h) (inr stop) a = absurd (apart taken limit h stop.0 a stop.1)
+settled_answers taken more limit (Err (errors.Fault f)) (inr stop) a =
+    let same : stop.0 ≡ f = one_fault taken limit stop.0 f stop.1 a in
+    header_stop_stays taken more limit f a (subst (λ (g : Fault). g.kind ≢ EndsEarly) same stop.2)
+settled_answers taken more limit (Err errors.Device) (inr stop) a = a
+settled_answers taken more limit (Err errors.Memory) (inr stop) a = tt
+
 -- what is answered of the bytes that were taken is answered of the whole piece
 pub fed_answers : (taken piece : List ℕ) (limit : ℕ) (fed : Fed) (result : Result Header HeaderError) → Feeds taken piece limit (Ok fed) → Answers (taken ++ front_taken (Ok fed) piece) limit result → Answers (taken ++ piece) limit result
 fed_answers taken piece limit More result f a = a
 fed_answers taken piece limit (Done used) result f a =
     subst (λ (input : List ℕ). Answers input limit result) (append_assoc taken (take used piece) (drop used piece) ∙ ap (λ (x : List ℕ). taken ++ x) (take-append-drop used piece))
     (whole_answers (taken ++ take used piece) (drop used piece) limit result f.1 a)
-
--- and where the header is whole, of all that follows
-pub done_answers : (taken piece more : List ℕ) (limit used : ℕ) (result : Result Header HeaderError) → Feeds taken piece limit (Ok (Done used)) → Answers (taken ++ take used piece) limit result → Answers ((taken ++ piece) ++ more) limit result
-done_answers taken piece more limit used result f a =
-    let all : (taken ++ take used piece) ++ (drop used piece ++ more) ≡ (taken ++ piece) ++ more =
-    sym (append_assoc (taken ++ take used piece) (drop used piece) more)
-    ∙ ap (λ (x : List ℕ). x ++ more) (append_assoc taken (take used piece) (drop used piece) ∙ ap (λ (x : List ℕ). taken ++ x) (take-append-drop used piece)) in
-    subst (λ (input : List ℕ). Answers input limit result) all (whole_answers (taken ++ take used piece) (drop used piece ++ more) limit result f.1 a)
-
--- what is answered of all bytes within the limit is answered of them and all that follows
-pub covered_answers : (taken more : List ℕ) (limit : ℕ) (result : Result Header HeaderError) → limit ≤ length taken → Answers taken limit result → Answers (taken ++ more) limit result
-covered_answers taken more limit (Ok h) covered a = begins_before taken more limit h a
-covered_answers taken more limit (Err (errors.Fault f)) covered a = header_limit_covers taken more limit f a covered
-covered_answers taken more limit (Err errors.Device) covered a = a
-covered_answers taken more limit (Err errors.Memory) covered a = tt
 
 pub failed_answers : (piece : List ℕ) (limit : ℕ) (e : HeaderError) → FailedOn piece limit e → Answers piece limit (Err e)
 failed_answers piece limit (errors.Fault f) h = h.0

@@ -1,20 +1,26 @@
 -- Reading a header from a source by turns.
-use Rattle.std.proofs.Common.{◌≡◌, ℕ, ◌+◌, ◌≤◌, List, [], ◌++◌, length, Option, Some, None, Result, Ok, Err, refl, sym, ap, subst, ◌∙◌, append_assoc, append-nil, arith}
-use Rattle.std.specs.Prelude.{IfSome}
+use Rattle.std.proofs.Common.{◌≡◌, ◌⊎◌, ℕ, ◌+◌, ◌≤◌, ◌<◌, List, [], ◌++◌, length, take, drop, Option, Some, None, Result, Ok, Err, refl, sym, ap, ap₂, subst, ◌∙◌, inl, inr, append_assoc, append-nil, arith}
+use Rattle.std.specs.Prelude.{IfSome, IfOk}
 use Rattle.std.specs.Io.KnownBytes.{IsAtEnd}
-use Rattle.std.proofs.lemmas.List.{length-append}
+use Rattle.std.proofs.lemmas.Bool.{cases_lt}
+use Rattle.std.proofs.lemmas.List.{length-append, length-take-le, take_all, drop_at}
+use Rattle.std.proofs.lemmas.Result.{IfOk-weaker}
 use Rattle.ncc_header.specs.declared.decoder.Decoder.{Decoder}
+use Rattle.ncc_header.specs.declared.fault.FaultKind.TheVariants.{EndsEarly}
 use Rattle.ncc_header.specs.declared.fault.HeaderError.{HeaderError}
 use Rattle.ncc_header.specs.declared.fault.HeaderError.TheVariants as errors
 use Rattle.ncc_header.specs.declared.schema.Header.{Header}
 use Rattle.ncc_header.specs.declared.standing.Fed.{Fed}
 use Rattle.ncc_header.specs.declared.standing.Fed.TheVariants.{More, Done}
 use Rattle.ncc_header.specs.Device.{Loses}
-use Rattle.ncc_header.specs.Answers.{Answers, AnswersOf}
+use Rattle.ncc_header.specs.Fields.{header}
+use Rattle.ncc_header.specs.Grammar.{lacking}
+use Rattle.ncc_header.specs.Answers.{Answers, AnswersOf, IsLeft}
 use Rattle.ncc_header.specs.Decoder.{Took, limit_of}
-use Rattle.ncc_header.specs.Standing.{FailedOn, Feeds, front_taken}
-use Rattle.ncc_header.proofs.Deciding.{done_answers, covered_answers}
-use Rattle.ncc_header.proofs.HeaderLaws.{header_stop_stays}
+use Rattle.ncc_header.specs.Standing.{FailedOn, Feeds, IsSettled, front_taken}
+use Rattle.ncc_header.proofs.Deciding.{settled_answers}
+use Rattle.ncc_header.proofs.HeaderLaws.{header_stop_stays, apart, whole_begins}
+use Rattle.ncc_header.proofs.OneField.{still_early, lacks_within}
 
 -- ---- bytes that are lost by turns
 
@@ -69,27 +75,49 @@ failed_source old mid new d limit taken piece e r lost failed =
     let h : FailedOn (r.bytes ++ piece) limit e = subst (λ (l : ℕ). FailedOn (r.bytes ++ piece) l e) r.limit_is (failed r.bytes r.took) in
     answers_lost old new limit (r.bytes ++ piece) (Err e) (loses_both old mid new r.bytes piece r.lost lost) (λ rest is. failed_more (r.bytes ++ piece) rest limit e h)
 
--- all bytes within the limit were read
-pub covered_source : (old now : Option (List ℕ)) (d : Decoder) (limit taken : ℕ) (result : Result Header HeaderError) → HasRead old now d limit taken → limit ≤ taken → ((bytes : List ℕ) → Took d bytes → Answers bytes (limit_of d) result) → AnswersSource old limit result
-covered_source old now d limit taken result r covered answers =
-    let a : Answers r.bytes limit result = subst (λ (l : ℕ). Answers r.bytes l result) r.limit_is (answers r.bytes r.took) in
-    answers_lost old now limit r.bytes result r.lost (λ rest is. covered_answers r.bytes rest limit result (omega (arith, covered, r.long)) a)
+-- ---- what is wanted
+
+-- a piece that isn't longer than what lacks is taken whole
+pub all_used : (bytes piece : List ℕ) (limit : ℕ) (fed : Fed) → Feeds bytes piece limit (Ok fed) → length piece ≤ lacking header limit 0 bytes → front_taken (Ok fed) piece ≡ piece
+all_used bytes piece limit More f few = refl
+all_used bytes piece limit (Done used) f few =
+    elim (cases_lt used (length piece)) [
+      | inl short ↦
+          let early = still_early header limit 0 bytes (take used piece) (omega (arith, short, few, length-take-le used piece f.0)) in
+          let whole = whole_begins (bytes ++ take used piece) limit f.1.0 f.1.1 f.1.2 f.1.3 in
+          absurd (apart (bytes ++ take used piece) limit whole.0 (record { kind = EndsEarly; offset = early.0 }) whole.1 early.1)
+      | inr all ↦ take_all used piece all
+    ]
+
+-- the source is at its end, or no byte more is wanted
+abbrev pub IsOver : Option (List ℕ) → Decoder → (limit : ℕ) → Type 0
+IsOver now d limit = IsAtEnd now ⊎ ((bytes : List ℕ) → Took d bytes → IsSettled bytes limit)
 
 some_nil : (rest : List ℕ) (now : Option (List ℕ)) → now ≡ Some rest → IsAtEnd now → rest ≡ []
 some_nil rest now is end = let e : IsAtEnd (Some rest) = subst IsAtEnd is end in e
 
--- the source is at its end, or the header is whole
-pub last_source : (old mid new : Option (List ℕ)) (d e : Decoder) (limit taken : ℕ) (piece : List ℕ) (fed : Fed) (result : Result Header HeaderError) → HasRead old mid d limit taken → Loses mid new piece
-    → ((bytes : List ℕ) → Took d bytes → Feeds bytes piece (limit_of d) (Ok fed))
-    → ((bytes : List ℕ) → Took d bytes → Took e (bytes ++ front_taken (Ok fed) piece))
-    → limit_of e ≡ limit_of d
-    → ((bytes : List ℕ) → Took e bytes → Answers bytes (limit_of e) result)
-    → (fed ≡ More → IsAtEnd new) → AnswersSource old limit result
-last_source old mid new d e limit taken piece fed result r lost feeds takes same answers end =
-    let f : Feeds r.bytes piece limit (Ok fed) = subst (λ (l : ℕ). Feeds r.bytes piece l (Ok fed)) r.limit_is (feeds r.bytes r.took) in
-    let a : Answers (r.bytes ++ front_taken (Ok fed) piece) limit result = subst (λ (l : ℕ). Answers (r.bytes ++ front_taken (Ok fed) piece) l result) (same ∙ r.limit_is) (answers (r.bytes ++ front_taken (Ok fed) piece) (takes r.bytes r.took)) in
-    answers_lost old new limit (r.bytes ++ piece) result (loses_both old mid new r.bytes piece r.lost lost) (go fed f a end)
+pub final_source : (old now : Option (List ℕ)) (d : Decoder) (limit taken : ℕ) (result : Result Header HeaderError) → HasRead old now d limit taken → IsOver now d limit → ((bytes : List ℕ) → Took d bytes → Answers bytes (limit_of d) result) → AnswersSource old limit result
+final_source old now d limit taken result r over answers = answers_lost old now limit r.bytes result r.lost (go over)
   where
-    go : (fed : Fed) → Feeds r.bytes piece limit (Ok fed) → Answers (r.bytes ++ front_taken (Ok fed) piece) limit result → (fed ≡ More → IsAtEnd new) → (rest : List ℕ) → new ≡ Some rest → Answers ((r.bytes ++ piece) ++ rest) limit result
-    go More f a end rest is = subst (λ (x : List ℕ). Answers x limit result) (sym (ap (λ (x : List ℕ). (r.bytes ++ piece) ++ x) (some_nil rest new is (end refl)) ∙ append-nil (r.bytes ++ piece))) a
-    go (Done used) f a end rest is = done_answers r.bytes piece rest limit used result f a
+    a : Answers r.bytes limit result
+    a = subst (λ (l : ℕ). Answers r.bytes l result) r.limit_is (answers r.bytes r.took)
+
+    go : IsOver now d limit → (rest : List ℕ) → now ≡ Some rest → Answers (r.bytes ++ rest) limit result
+    go (inl end) rest is = subst (λ (x : List ℕ). Answers x limit result) (sym (ap (λ (x : List ℕ). r.bytes ++ x) (some_nil rest now is end) ∙ append-nil r.bytes)) a
+    go (inr settled) rest is = settled_answers r.bytes rest limit result (settled r.bytes r.took) a
+
+-- what is left of the source where the header is all that was read
+left_behind : (old now : Option (List ℕ)) (bytes : List ℕ) (result : Result Header HeaderError) → Loses old now bytes → IfOk result (λ h. h.length ≡ length bytes) → IfSome old (λ input. IfOk result (λ h. IsLeft now input h))
+left_behind None now bytes result lost whole = tt
+left_behind (Some input) now bytes result lost whole =
+    IfOk-weaker result (λ h. h.length ≡ length bytes) (λ h. IsLeft now input h)
+    (λ h long. lost.1 ∙ ap (λ (x : List ℕ). Some x) (sym (ap₂ (λ (n : ℕ) (x : List ℕ). drop n x) long lost.2 ∙ drop_at bytes lost.0 (length bytes) refl))) whole
+
+pub final_left : (old now : Option (List ℕ)) (d : Decoder) (limit taken : ℕ) (result : Result Header HeaderError) → HasRead old now d limit taken → ((bytes : List ℕ) → Took d bytes → IfOk result (λ h. h.length ≡ length bytes)) → IfSome old (λ input. IfOk result (λ h. IsLeft now input h))
+final_left old now d limit taken result r whole = left_behind old now r.bytes result r.lost (whole r.bytes r.took)
+
+-- what is wanted lies within the limit
+pub wanted_within : (d : Decoder) (old now : Option (List ℕ)) (limit taken wanted : ℕ) → HasRead old now d limit taken → ((bytes : List ℕ) → Took d bytes → wanted ≡ lacking header (limit_of d) 0 bytes) → 0 < wanted → taken + wanted ≤ limit
+wanted_within d old now limit taken wanted r lacks some =
+    let is : wanted ≡ lacking header limit 0 r.bytes = lacks r.bytes r.took ∙ ap (λ (l : ℕ). lacking header l 0 r.bytes) r.limit_is in
+    omega (arith, is, r.long, lacks_within header limit 0 r.bytes (omega (arith, is, some)))

@@ -2,7 +2,7 @@
 use Rattle.std.proofs.Common.{◌≡◌, ◌≢◌, ℕ, ◌+◌, ◌-◌, ◌<◌, ◌≤◌, List, [], ◌∷◌, ◌++◌, length, take, drop, Option, Some, None, refl, sym, ap, ◌∙◌, append_assoc, arith, inl, inr}
 use Rattle.std.specs.Prelude.{is_some, if◌then◌else◌}
 use Rattle.std.proofs.lemmas.Bool.{cases_lt, le-ltb, lt-ltb}
-use Rattle.std.proofs.lemmas.List.{length-append, length-drop, take_at, drop_at, take-append-le, drop-append-le}
+use Rattle.std.proofs.lemmas.List.{length-append, length-drop, length-take-le, take_at, drop_at, take-append-drop}
 use Rattle.ncc_header.specs.declared.fault.FaultKind.{FaultKind}
 use Rattle.ncc_header.specs.declared.fault.FaultKind.TheVariants.{HeaderTooLong, EndsEarly}
 use Rattle.ncc_header.specs.declared.wrong.Wrong.{Wrong}
@@ -123,6 +123,17 @@ not_wrong : (w : Option Wrong) (l k : ℕ) → (if is_some w then 0 else l) ≡ 
 not_wrong None l k e pos = (refl, e)
 not_wrong (Some w) l k e pos = absurd (omega (arith, e, pos))
 
+-- past a whole field, whatever follows
+goes_by : {A : Type 0} (label : Label) (size : ℕ) (wrong : List ℕ → Option Wrong) (next : List ℕ → Grammar A) (limit at : ℕ) (input more : List ℕ) → size ≤ length input → at + size ≤ limit → wrong (take size input) ≡ None
+    → read (field label size wrong next) limit at (input ++ more) ≡ read (next (take size input)) limit (at + size) (drop size input ++ more)
+goes_by label size wrong next limit at input more long within fine =
+    let parts : input ++ more ≡ take size input ++ (drop size input ++ more) = ap (λ (x : List ℕ). x ++ more) (sym (take-append-drop size input)) ∙ append_assoc (take size input) (drop size input) more in
+    ap (read (field label size wrong next) limit at) parts
+    ∙ read_field label size wrong next limit at (take size input) (drop size input ++ more) (length-take-le size input long) within fine
+
+early_behind : {A : Type 0} (o p : Outcome A) → o ≡ p → (offset : ℕ) × (p ≡ stops offset EndsEarly) → (offset : ℕ) × (o ≡ stops offset EndsEarly)
+early_behind o p e r = (r.0, e ∙ r.1)
+
 -- what lacks more bytes than come still ends early
 pub still_early : {A : Type 0} (g : Grammar A) (limit at : ℕ) (input more : List ℕ) → length more < lacking g limit at input → (offset : ℕ) × (read g limit at (input ++ more) ≡ stops offset EndsEarly)
 unfolding read lacking
@@ -138,10 +149,8 @@ still_early {A = A} (field label size wrong next) limit at input more h =
             let few : length more < (if is_some (wrong (take size input)) then 0 else lacking (next (take size input)) limit (at + size) (drop size input)) = rw (le-ltb limit (at + size) within, le-ltb (length input) size long) at h in
             let onward = lacking (next (take size input)) limit (at + size) (drop size input) in
             let fine = not_wrong (wrong (take size input)) onward (if is_some (wrong (take size input)) then 0 else onward) refl (omega (arith, few)) in
-            let rest = still_early (next (take size input)) limit (at + size) (drop size input) more (omega (arith, few, fine.1)) in
-            (rest.0, whole_front label size wrong next limit at (input ++ more) (omega (arith, length-append input more, long)) within
-                ∙ rw (take-append-le size input more long, drop-append-le size input more long)
-                (ap (λ (w : Option Wrong). unless_wrong w at (read (next (take size input)) limit (at + size) (drop size input ++ more))) fine.0 ∙ rest.1))
+            early_behind (read (field label size wrong next) limit at (input ++ more)) (read (next (take size input)) limit (at + size) (drop size input ++ more)) (goes_by label size wrong next limit at input more long within fine.0)
+            (still_early (next (take size input)) limit (at + size) (drop size input) more (omega (arith, few, fine.1)))
       ]
     ]
 

@@ -1,51 +1,79 @@
 -- Taking a piece by turns.
-use Rattle.std.proofs.Common.{◌≡◌, ℕ, ◌+◌, ◌<◌, List, [], ◌++◌, Some, refl, sym, ap, ◌∙◌, append_assoc, arith}
-use Rattle.std.proofs.lemmas.List.{length-append}
+use Rattle.std.proofs.Common.{◌≡◌, ℕ, ◌+◌, ◌<◌, ◌≤◌, List, [], ◌++◌, length, take, drop, Some, refl, sym, ap, subst, ◌∙◌, append_assoc, arith}
+use Rattle.std.proofs.lemmas.List.{length-append, length-drop, length-take-le, take-append-drop}
+use Rattle.std.proofs.Math.Seq.{take-append-add}
 use Rattle.ncc_header.specs.declared.fault.Fault.{Fault}
 use Rattle.ncc_header.specs.declared.fault.FaultKind.TheVariants.{HeaderTooLong}
 use Rattle.ncc_header.specs.declared.fault.HeaderError.{HeaderError}
 use Rattle.ncc_header.specs.declared.fault.HeaderError.TheVariants as errors
 use Rattle.ncc_header.specs.declared.reading.Reading.{Reading}
+use Rattle.ncc_header.specs.declared.turn.Turn.{Turn}
+use Rattle.ncc_header.specs.declared.turn.Turn.TheVariants as turns
 use Rattle.ncc_header.specs.States.{left_of, size_of}
-use Rattle.ncc_header.specs.Reading.{held_of, onward, Takes, StopsBehind, FailsBehind}
+use Rattle.ncc_header.specs.Reading.{held_of, onward, Takes, StopsBehind, FailsBehind, Waits}
+use Rattle.ncc_header.specs.Turns.{Went, Turns, behind_of}
 use Rattle.ncc_header.proofs.OneField.{field_too_long}
 
-pub takes_both : (old mid new : Reading) (a b : List ℕ) → Takes old mid a → Takes mid new b → Takes old new (a ++ b)
+-- ---- bytes that are taken
+
+takes_none : (r : Reading) → Takes r r []
+takes_none r = record { limit = refl; goes_on = λ more. refl; long = omega arith }
+
+takes_both : (old mid new : Reading) (a b : List ℕ) → Takes old mid a → Takes mid new b → Takes old new (a ++ b)
 takes_both old mid new a b p q = record {
   limit = q.limit ∙ p.limit;
   goes_on = λ more. ap (onward old) (append_assoc a b more) ∙ p.goes_on (b ++ more) ∙ q.goes_on more;
   long = omega (arith, p.long, q.long, length-append a b);
 }
 
--- a front of the piece was taken, and the rest is to be
-pub record SoFar (old now : Reading) (piece rest : List ℕ) : Type 0 where
-  pub front : List ℕ
-  pub joined : piece ≡ front ++ rest
-  pub takes : Takes old now front
+pub went_nowhere : (r : Reading) (piece : List ℕ) → Went r r piece 0
+went_nowhere r piece = record { within = omega arith; takes = takes_none r }
 
-pub so_far_more : (old mid new : Reading) (piece rest front after : List ℕ) → SoFar old mid piece rest → rest ≡ front ++ after → Takes mid new front → SoFar old new piece after
-so_far_more old mid new piece rest front after s e t = record {
-  front = s.front ++ front;
-  joined = s.joined ∙ ap (λ (x : List ℕ). s.front ++ x) e ∙ sym (append_assoc s.front front after);
-  takes = takes_both old mid new s.front front s.takes t;
+-- used bytes, and then n more
+take_more : (used n : ℕ) (piece : List ℕ) → used ≤ length piece → take used piece ++ take n (drop used piece) ≡ take (used + n) piece
+take_more used n piece within =
+    sym (take-append-add (take used piece) (drop used piece) n)
+    ∙ ap (λ (x : List ℕ). take (length (take used piece) + n) x) (take-append-drop used piece)
+    ∙ ap (λ (m : ℕ). take (m + n) piece) (length-take-le used piece within)
+
+went_more : (old mid new : Reading) (piece : List ℕ) (used n : ℕ) → Went old mid piece used → Went mid new (drop used piece) n → Went old new piece (used + n)
+went_more old mid new piece used n w v = record {
+  within = omega (arith, w.within, v.within, length-drop used piece);
+  takes = subst (Takes old new) (take_more used n piece w.within) (takes_both old mid new (take used piece) (take n (drop used piece)) w.takes v.takes);
 }
 
-pub so_far_stops : (old mid : Reading) (piece rest front after : List ℕ) (f : Fault) → SoFar old mid piece rest → rest ≡ front ++ after → StopsBehind mid front f → StopsBehind old piece f
-so_far_stops old mid piece rest front after f s e b = record {
-  stays = λ more.
-      ap (λ (x : List ℕ). (onward old x).outcome) (ap (λ (x : List ℕ). x ++ more) (s.joined ∙ ap (λ (x : List ℕ). s.front ++ x) e) ∙ append_assoc s.front (front ++ after) more ∙ ap (λ (x : List ℕ). s.front ++ x) (append_assoc front after more))
-      ∙ ap (λ c. c.outcome) (s.takes.goes_on (front ++ (after ++ more))) ∙ b.stays (after ++ more);
-  other = b.other;
-}
-
-pub so_far_fails : (old mid : Reading) (piece rest front after : List ℕ) (e : HeaderError) → SoFar old mid piece rest → rest ≡ front ++ after → FailsBehind mid front e → FailsBehind old piece e
-so_far_fails old mid piece rest front after (errors.Fault f) s e b = so_far_stops old mid piece rest front after f s e b
-so_far_fails old mid piece rest front after errors.Device s e b = b
-so_far_fails old mid piece rest front after errors.Memory s e b = tt
+-- ---- faults
 
 -- the next field ends past the limit
-pub too_long : (r : Reading) (n : ℕ) (f : Fault) → size_of (left_of r.state) ≡ Some n → r.limit < r.at + n → f.kind ≡ HeaderTooLong → f.offset ≡ r.at → StopsBehind r [] f
-too_long r n f is past kind offset = record {
-  stays = λ more. field_too_long (left_of r.state) r.limit r.at n (held_of r ++ more) is past ∙ rw (kind, offset) refl;
+pub too_long : (r : Reading) (n : ℕ) (rest : List ℕ) → size_of (left_of r.state) ≡ Some n → r.limit < r.at + n → StopsBehind r rest (record { kind = HeaderTooLong; offset = r.at })
+too_long r n rest is past = record {
+  stays = λ more. field_too_long (left_of r.state) r.limit r.at n (held_of r ++ (rest ++ more)) is past;
   other = λ h. cc;
 }
+
+pub fails_more : (old : Reading) (front after : List ℕ) (e : HeaderError) → FailsBehind old front e → FailsBehind old (front ++ after) e
+fails_more old front after (errors.Fault f) b = record {
+  stays = λ more. ap (λ (x : List ℕ). (onward old x).outcome) (append_assoc front after more) ∙ b.stays (after ++ more);
+  other = b.other;
+}
+fails_more old front after errors.Device b = b
+fails_more old front after errors.Memory b = tt
+
+fails_behind : (old mid : Reading) (front rest : List ℕ) (e : HeaderError) → Takes old mid front → FailsBehind mid rest e → FailsBehind old (front ++ rest) e
+fails_behind old mid front rest (errors.Fault f) t b = record {
+  stays = λ more. ap (λ (x : List ℕ). (onward old x).outcome) (append_assoc front rest more) ∙ ap (λ c. c.outcome) (t.goes_on (rest ++ more)) ∙ b.stays more;
+  other = b.other;
+}
+fails_behind old mid front rest errors.Device t b = b
+fails_behind old mid front rest errors.Memory t b = tt
+
+-- ---- turns
+
+pub turns_more : (old mid : Reading) (piece : List ℕ) (used : ℕ) (t : Turn) → Went old mid piece used → Turns mid (drop used piece) t → Turns old piece (behind_of used t)
+turns_more old mid piece used (turns.GoesOn new n) w v = went_more old mid new piece used n w v
+turns_more old mid piece used (turns.Waits new n) w v =
+    (went_more old mid new piece used n w v.0, v.1, λ k is. omega (arith, v.2 k is, length-drop used piece, w.within))
+turns_more old mid piece used (turns.Fails e) w v = (
+  subst (λ (x : List ℕ). FailsBehind old x e) (take-append-drop used piece) (fails_behind old mid (take used piece) (drop used piece) e w.takes v.0),
+  λ is. omega (arith, v.1 is, w.takes.long, length-take-le used piece w.within, length-drop used piece, w.within),
+)

@@ -10,5 +10,6 @@ pub mod Sink
 pub mod States
 pub mod Held
 pub mod Reading
+pub mod Turns
 pub mod Standing
 pub mod Decoder

@@ -14,7 +14,7 @@ use crate::schema::Header;
 use crate::standing::{Fed, Standing};
 use crate::state::State;
 use crate::step::size;
-use crate::taking::take;
+use crate::turning::take;
 use arrayvec::ArrayVec;
 use std::alloc::Global;
 use std::mem;

@@ -25,6 +25,8 @@ mod step_name;
 mod step_start;
 mod step_vars;
 mod taking;
+mod turn;
+mod turning;
 #[cfg(test)]
 mod tests;
 mod wrong;

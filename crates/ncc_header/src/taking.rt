@@ -1,4 +1,4 @@
-//! Taking the bytes of a piece, field by field.
+//! Taking the bytes of one field.
 
 ghost use Rattle.std.specs.Prelude.{◌≡◌, ◌+◌, ◌≤◌, ◌<◌, ◌^◌, ◌++◌, ℕ, length, take, Some, Err, IfOk, IfErr};
 ghost use Rattle.ncc_header.specs.Marks.{mark_of};
@@ -6,13 +6,13 @@ ghost use Rattle.ncc_header.specs.States.{left_of, label_of, size_of, front_of, 
 ghost use Rattle.ncc_header.specs.Held.{next_size, held_length};
 ghost use Rattle.ncc_header.specs.Reading.{held_of, told_of, Takes, FailsBehind, Waits};
 
-use crate::fault::{Fault, FaultKind, HeaderError};
+use crate::fault::{Fault, HeaderError};
 use crate::gathering::gather;
 use crate::marking::push_mark;
 use crate::reading::Reading;
 use crate::schema::Mark;
 use crate::state::{State, StepError};
-use crate::step::{size, step};
+use crate::step::step;
 use arrayvec::ArrayVec;
 use std::alloc::Global;
 
@@ -66,7 +66,7 @@ fn stepped(
 }
 
 /// Takes the last bytes of the next field, and so the field.
-fn take_field(
+pub fn take_field(
     alloc: Global,
     reading: Reading,
     size: u64,
@@ -95,7 +95,7 @@ fn take_field(
 }
 
 /// Takes bytes that don't make the next field whole.
-fn hold(reading: Reading, front: &[u8]) -> Result<Reading, HeaderError>
+pub fn hold(reading: Reading, front: &[u8]) -> Result<Reading, HeaderError>
     requires { length (held_of reading) + length front.now < next_size reading.state }
     ensures takes { IfOk result (λ new. Takes reading new front.now) }
     ensures left { IfOk result (λ new. left_of new.state ≡ left_of reading.state) }
@@ -112,33 +112,4 @@ fn hold(reading: Reading, front: &[u8]) -> Result<Reading, HeaderError>
         held,
         marks: reading.marks,
     })
-}
-
-/// Takes the bytes of a piece as far as the header goes, and tells how many.
-pub fn take(alloc: Global, reading: Reading, piece: &[u8]) -> Result<(Reading, usize), HeaderError>
-    ensures within { IfOk result (λ x. x.1 ≤ length piece.now) }
-    ensures takes { IfOk result (λ x. Takes reading x.0 (take x.1 piece.now)) }
-    ensures waits { IfOk result (λ x. Waits x.0) }
-    ensures all { IfOk result (λ x. (n : ℕ) → size_of (left_of x.0.state) ≡ Some n → x.1 ≡ length piece.now) }
-    ensures fails { IfErr result (FailsBehind reading piece.now) }
-    ensures memory { result ≡ Err HeaderError.Memory → 12 ≤ reading.at + length (held_of reading) + length piece.now }
-{
-    let mut reading = reading;
-    let mut rest = piece;
-    while let Some(size) = size(&reading.state) {
-        if size > (reading.limit - reading.at) as u128 {
-            return Err(HeaderError::Fault(Fault {
-                kind: FaultKind::HeaderTooLong,
-                offset: reading.at,
-            }));
-        }
-        let lacking = size - held_len(&reading);
-        if (rest.len() as u128) < lacking {
-            return Ok((hold(reading, rest)?, piece.len()));
-        }
-        let (front, after) = rest.split_at(lacking as usize);
-        reading = take_field(alloc, reading, size as u64, front)?;
-        rest = after;
-    }
-    Ok((reading, piece.len() - rest.len()))
 }

@@ -1,12 +1,19 @@
-use Rattle.std.proofs.Common.{◌≡◌, ◌-◌}
-use Rattle.ncc_header.proofs.FromSource.{HasRead}
+use Rattle.std.proofs.Common.{◌≡◌, ◌+◌, ◌-◌, ◌≤◌, ◌<◌, List, ℕ}
+use Rattle.ncc_header.specs.Decoder.{Took, IsSpent, limit_of}
+use Rattle.ncc_header.specs.Fields.{header}
+use Rattle.ncc_header.specs.Grammar.{lacking}
+use Rattle.ncc_header.proofs.FromSource.{HasRead, IsOver}
 use Rattle.ncc_header.proofs.from_source.read_header.Given as goal
 
-abbrev pub invariant-loop-taken : goal.invariant-loop-taken
-invariant-loop-taken g l = record {
+abbrev pub invariant-loop-wanted : goal.invariant-loop-wanted
+invariant-loop-wanted g l = record {
   read : HasRead (g.R.Source.left l.fn.source) (g.R.Source.left l.source) l.decoder l.limit l.taken;
+  fresh : ¬ IsSpent l.decoder;
+  lacks : 0 < l.wanted → (bytes : List ℕ) → Took l.decoder bytes → l.wanted ≡ lacking header (limit_of l.decoder) 0 bytes;
+  within : 0 < l.wanted → l.taken + l.wanted ≤ l.limit;
+  over : l.wanted ≡ 0 → IsOver (g.R.Source.left l.source) l.decoder l.limit;
   count : g.R.Source.failures l.source ≡ g.R.Source.failures l.fn.source;
 }
 
-abbrev pub decreases-loop-taken : goal.decreases-loop-taken
-decreases-loop-taken g l = l.limit - l.taken
+abbrev pub decreases-loop-wanted : goal.decreases-loop-wanted
+decreases-loop-wanted g l = l.limit + 1 - l.taken

@@ -1,0 +1,10 @@
+use Rattle.std.proofs.Common.{sym, subst, ◌∙◌, arith}
+use Rattle.ncc_header.specs.declared.turn.Turn.{Turn}
+use Rattle.ncc_header.specs.Turns.{Turns}
+use Rattle.ncc_header.proofs.TakePiece.{too_long}
+use Rattle.ncc_header.proofs.turning.one_turn.Goals as goal
+
+pub returns-in-Some-clause-turns : goal.returns-in-Some-clause-turns
+returns-in-Some-clause-turns c =
+    subst (λ (t : Turn). Turns c.args.reading c.args.rest.now t) (sym c.too_long.ensures)
+    (too_long c.args.reading c.in-Some.size c.args.rest.now (sym c.size.ensures ∙ c.in-Some.is) (omega arith), λ h. cc)
