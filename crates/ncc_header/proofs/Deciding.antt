@@ -50,10 +50,10 @@ whole_answers whole more limit (Err errors.Memory) w a = tt
 -- what is answered of bytes that are settled is answered of them and all that follows
 pub settled_answers : (taken more : List ℕ) (limit : ℕ) (result : Result Header HeaderError) → IsSettled taken limit → Answers taken limit result → Answers (taken ++ more) limit result
 settled_answers taken more limit result (inl whole) a = whole_answers taken more limit result whole a
-settled_answers taken more limit (Ok h) (inr stop) a = absurd (apart taken limit h stop.0 a stop.1)
+settled_answers taken more limit (Ok h) (inr stop) a = absurd (apart taken limit h stop.0 a stop.1.0)
 settled_answers taken more limit (Err (errors.Fault f)) (inr stop) a =
-    let same : stop.0 ≡ f = one_fault taken limit stop.0 f stop.1 a in
-    header_stop_stays taken more limit f a (subst (λ (g : Fault). g.kind ≢ EndsEarly) same stop.2)
+    let same : stop.0 ≡ f = one_fault taken limit stop.0 f stop.1.0 a in
+    header_stop_stays taken more limit f a (subst (λ (g : Fault). g.kind ≢ EndsEarly) same stop.1.1)
 settled_answers taken more limit (Err errors.Device) (inr stop) a = a
 settled_answers taken more limit (Err errors.Memory) (inr stop) a = tt
 

@@ -15,8 +15,9 @@ use Rattle.ncc_header.specs.declared.standing.Fed.TheVariants.{More, Done}
 use Rattle.ncc_header.specs.Device.{Loses}
 use Rattle.ncc_header.specs.Fields.{header}
 use Rattle.ncc_header.specs.Grammar.{lacking}
-use Rattle.ncc_header.specs.Answers.{Answers, AnswersOf, IsLeft}
+use Rattle.ncc_header.specs.Answers.{Answers, AnswersOf, CountsAs, IsLeft}
 use Rattle.ncc_header.specs.Decoder.{Took, limit_of}
+use Rattle.ncc_header.specs.FromSource.{HasFed, FailsFeeding, HasRead, IsOver}
 use Rattle.ncc_header.specs.Standing.{FailedOn, Feeds, IsSettled, front_taken}
 use Rattle.ncc_header.proofs.Deciding.{settled_answers}
 use Rattle.ncc_header.proofs.HeaderLaws.{header_stop_stays, apart, whole_begins}
@@ -32,22 +33,33 @@ loses_both (Some xs) mid new a b p q =
 
 -- ---- so far
 
--- the decoder has taken all bytes that the source lost
-pub record HasRead (old now : Option (List ℕ)) (decoder : Decoder) (limit taken : ℕ) : Type 0 where
-  pub bytes : List ℕ
-  pub lost : Loses old now bytes
-  pub took : Took decoder bytes
-  pub limit_is : limit_of decoder ≡ limit
-  pub long : length bytes ≡ taken
+-- a piece that isn't longer than what lacks is taken whole
+pub all_used : (bytes piece : List ℕ) (limit : ℕ) (fed : Fed) → Feeds bytes piece limit (Ok fed) → length piece ≤ lacking header limit 0 bytes → front_taken (Ok fed) piece ≡ piece
+all_used bytes piece limit More f few = refl
+all_used bytes piece limit (Done used) f few =
+    elim (cases_lt used (length piece)) [
+      | inl short ↦
+          let early = still_early header limit 0 bytes (take used piece) (omega (arith, short, few, length-take-le used piece f.0)) in
+          let whole = whole_begins (bytes ++ take used piece) limit f.1.0 f.1.1 f.1.2 f.1.3 in
+          absurd (apart (bytes ++ take used piece) limit whole.0 (record { kind = EndsEarly; offset = early.0 }) whole.1 early.1)
+      | inr all ↦ take_all used piece all
+    ]
 
-pub has_read_more : (old mid new : Option (List ℕ)) (d e : Decoder) (limit taken : ℕ) (piece : List ℕ) (n : ℕ) → HasRead old mid d limit taken → Loses mid new piece → ((bytes : List ℕ) → Took d bytes → Took e (bytes ++ piece)) → limit_of e ≡ limit_of d → length piece ≡ n → HasRead old new e limit (taken + n)
-has_read_more old mid new d e limit taken piece n r lost took is long = record {
-  bytes = r.bytes ++ piece;
-  lost = loses_both old mid new r.bytes piece r.lost lost;
-  took = took r.bytes r.took;
-  limit_is = is ∙ r.limit_is;
-  long = omega (arith, length-append r.bytes piece, r.long, long);
-}
+pub has_read_none : (old : Option (List ℕ)) (d : Decoder) (limit : ℕ) → Took d [] → limit_of d ≡ limit → HasRead old old d limit 0
+has_read_none None d limit took is = record { bytes = []; lost = tt; took = took; limit_is = is; long = refl }
+has_read_none (Some xs) d limit took is = record { bytes = []; lost = (xs, refl, refl); took = took; limit_is = is; long = refl }
+
+-- where no more came than lacked, all of it was taken
+pub has_read_more : (old mid new : Option (List ℕ)) (d e : Decoder) (limit taken room n : ℕ) → HasRead old mid d limit taken → HasFed mid new d e room n → ((bytes : List ℕ) → Took d bytes → room ≤ lacking header (limit_of d) 0 bytes) → HasRead old new e limit (taken + n)
+has_read_more old mid new d e limit taken room n r f wanted =
+    let all : front_taken (Ok f.fed) f.piece ≡ f.piece = all_used r.bytes f.piece (limit_of d) f.fed (f.feeds r.bytes r.took) (omega (arith, f.long, f.few, wanted r.bytes r.took)) in
+    record {
+      bytes = r.bytes ++ f.piece;
+      lost = loses_both old mid new r.bytes f.piece r.lost f.lost;
+      took = subst (λ (x : List ℕ). Took e (r.bytes ++ x)) all (f.takes r.bytes r.took);
+      limit_is = f.limit ∙ r.limit_is;
+      long = omega (arith, length-append r.bytes f.piece, r.long, f.long);
+    }
 
 -- ---- answers
 
@@ -70,28 +82,14 @@ failed_more taken more limit (errors.Fault f) h = header_stop_stays taken more l
 failed_more taken more limit errors.Device h = h
 failed_more taken more limit errors.Memory h = tt
 
-pub failed_source : (old mid new : Option (List ℕ)) (d : Decoder) (limit taken : ℕ) (piece : List ℕ) (e : HeaderError) → HasRead old mid d limit taken → Loses mid new piece → ((bytes : List ℕ) → Took d bytes → FailedOn (bytes ++ piece) (limit_of d) e) → AnswersSource old limit (Err e)
-failed_source old mid new d limit taken piece e r lost failed =
-    let h : FailedOn (r.bytes ++ piece) limit e = subst (λ (l : ℕ). FailedOn (r.bytes ++ piece) l e) r.limit_is (failed r.bytes r.took) in
-    answers_lost old new limit (r.bytes ++ piece) (Err e) (loses_both old mid new r.bytes piece r.lost lost) (λ rest is. failed_more (r.bytes ++ piece) rest limit e h)
+pub failed_source : (old mid new : Option (List ℕ)) (d : Decoder) (limit taken : ℕ) (e : HeaderError) → HasRead old mid d limit taken → FailsFeeding mid new d e → AnswersSource old limit (Err e)
+failed_source None mid new d limit taken e r f = tt
+failed_source (Some input) mid new d limit taken e r (inl is) = subst (λ (x : HeaderError). AnswersOf input limit (Err x)) (sym is) tt
+failed_source (Some input) mid new d limit taken e r (inr f) =
+    let h : FailedOn (r.bytes ++ f.0) limit e = subst (λ (l : ℕ). FailedOn (r.bytes ++ f.0) l e) r.limit_is (f.2 r.bytes r.took) in
+    answers_lost (Some input) new limit (r.bytes ++ f.0) (Err e) (loses_both (Some input) mid new r.bytes f.0 r.lost f.1) (λ rest is. failed_more (r.bytes ++ f.0) rest limit e h)
 
 -- ---- what is wanted
-
--- a piece that isn't longer than what lacks is taken whole
-pub all_used : (bytes piece : List ℕ) (limit : ℕ) (fed : Fed) → Feeds bytes piece limit (Ok fed) → length piece ≤ lacking header limit 0 bytes → front_taken (Ok fed) piece ≡ piece
-all_used bytes piece limit More f few = refl
-all_used bytes piece limit (Done used) f few =
-    elim (cases_lt used (length piece)) [
-      | inl short ↦
-          let early = still_early header limit 0 bytes (take used piece) (omega (arith, short, few, length-take-le used piece f.0)) in
-          let whole = whole_begins (bytes ++ take used piece) limit f.1.0 f.1.1 f.1.2 f.1.3 in
-          absurd (apart (bytes ++ take used piece) limit whole.0 (record { kind = EndsEarly; offset = early.0 }) whole.1 early.1)
-      | inr all ↦ take_all used piece all
-    ]
-
--- the source is at its end, or no byte more is wanted
-abbrev pub IsOver : Option (List ℕ) → Decoder → (limit : ℕ) → Type 0
-IsOver now d limit = IsAtEnd now ⊎ ((bytes : List ℕ) → Took d bytes → IsSettled bytes limit)
 
 some_nil : (rest : List ℕ) (now : Option (List ℕ)) → now ≡ Some rest → IsAtEnd now → rest ≡ []
 some_nil rest now is end = let e : IsAtEnd (Some rest) = subst IsAtEnd is end in e
@@ -121,3 +119,16 @@ pub wanted_within : (d : Decoder) (old now : Option (List ℕ)) (limit taken wan
 wanted_within d old now limit taken wanted r lacks some =
     let is : wanted ≡ lacking header limit 0 r.bytes = lacks r.bytes r.took ∙ ap (λ (l : ℕ). lacking header l 0 r.bytes) r.limit_is in
     omega (arith, is, r.long, lacks_within header limit 0 r.bytes (omega (arith, is, some)))
+
+-- ---- failures
+
+-- a fault of the bytes is none of the source
+pub counts_failed : (T : Type 0) (old new : ℕ) (bytes : List ℕ) (limit : ℕ) (e : HeaderError) → FailedOn bytes limit e → new ≡ old → CountsAs {T = T} old new (Err e)
+counts_failed T old new bytes limit (errors.Fault f) h same = same
+counts_failed T old new bytes limit errors.Device h same = absurd h
+counts_failed T old new bytes limit errors.Memory h same = same
+
+-- an error says nothing of what is left
+pub nothing_left : (old now : Option (List ℕ)) (e : HeaderError) → IfSome old (λ input. IfOk {T = Header} (Err e) (λ h. IsLeft now input h))
+nothing_left None now e = tt
+nothing_left (Some input) now e = tt

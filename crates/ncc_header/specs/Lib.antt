@@ -13,3 +13,4 @@ pub mod Reading
 pub mod Turns
 pub mod Standing
 pub mod Decoder
+pub mod FromSource

@@ -1,7 +1,9 @@
 //! Reading a header from a source.
 
-ghost use Rattle.std.specs.Prelude.{IfSome, IfOk};
+ghost use Rattle.std.specs.Prelude.{◌≡◌, ◌≤◌, ℕ, List, [], length, Err, IfSome, IfOk, IfErr};
 ghost use Rattle.ncc_header.specs.Answers.{AnswersOf, CountsAs, IsLeft};
+ghost use Rattle.ncc_header.specs.Decoder.{Took, IsSpent, limit_of};
+ghost use Rattle.ncc_header.specs.FromSource.{HasFed, FailsFeeding, HasRead, IsOver};
 
 use crate::decoder::Decoder;
 use crate::fault::HeaderError;
@@ -11,6 +13,50 @@ use std::alloc::Global;
 
 /// How many bytes are read at once.
 const PIECE: u64 = 4096;
+
+/// Reads once, and feeds what was read to the decoder.
+fn read_piece<R: Source>(
+    source: &mut R,
+    decoder: &mut Decoder,
+    room: &mut [u8],
+) -> Result<usize, HeaderError>
+    requires { (bytes : List ℕ) × Took decoder.old bytes }
+    ensures ok { IfOk result (λ n. HasFed (R.left source.old) (R.left source.new) decoder.old decoder.new (length room.old) n) }
+    ensures err { IfErr result (FailsFeeding (R.left source.old) (R.left source.new) decoder.old) }
+    ensures count { CountsAs (R.failures source.old) (R.failures source.new) result }
+{
+    let n = source.read(room)?;
+    let (front, _unused) = room.split_at(n);
+    match decoder.feed(front) {
+        Ok(_fed) => Ok(n),
+        Err(error) => Err(error),
+    }
+}
+
+/// Reads until the decoder wants no byte more, or the source is at its end.
+fn read_wanted<R: Source>(
+    source: &mut R,
+    decoder: &mut Decoder,
+    limit: u64,
+) -> Result<(), HeaderError>
+    requires took { Took decoder.old [] }
+    requires fresh { ¬ IsSpent decoder.old }
+    requires limit { limit_of decoder.old ≡ limit }
+    ensures ok { IfOk result (λ _. (taken : ℕ) × HasRead (R.left source.old) (R.left source.new) decoder.new limit taken × IsOver (R.left source.new) decoder.new limit) }
+    ensures err { IfErr result (λ e. IfSome (R.left source.old) (λ input. AnswersOf input limit (Err e))) }
+    ensures count { CountsAs (R.failures source.old) (R.failures source.new) result }
+{
+    let mut piece = [0; PIECE as usize];
+    let mut taken = 0;
+    let mut wanted = decoder.wants();
+    while wanted > 0 {
+        let room = &mut piece[..wanted.min(PIECE) as usize];
+        let n = read_piece(source, decoder, room)?;
+        taken += n as u64;
+        wanted = if n > 0 { decoder.wants() } else { 0 };
+    }
+    Ok(())
+}
 
 /// Reads the header at the front of a source, of at most `limit` bytes. Where there is one, exactly
 /// its bytes are read: a source is asked for no byte more than the next field lacks.
@@ -23,17 +69,9 @@ pub fn read_header<R: Source>(
     ensures exactly { IfSome (R.left source.old) (λ input. IfOk result (λ h. IsLeft (R.left source.new) input h)) }
     ensures count { CountsAs (R.failures source.old) (R.failures source.new) result }
 {
-    let mut piece = [0; PIECE as usize];
     let mut decoder = Decoder::new(alloc, limit);
-    let mut taken = 0;
-    let mut wanted = decoder.wants();
-    while wanted > 0 {
-        let room = &mut piece[..wanted.min(PIECE) as usize];
-        let n = source.read(room)?;
-        let (front, _unused) = room.split_at(n);
-        let _fed = decoder.feed(front)?;
-        taken += n as u64;
-        wanted = if n > 0 { decoder.wants() } else { 0 };
+    match read_wanted(source, &mut decoder, limit) {
+        Ok(()) => decoder.finish(),
+        Err(error) => Err(error),
     }
-    decoder.finish()
 }

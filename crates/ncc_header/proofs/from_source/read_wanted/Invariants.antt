@@ -1,9 +1,10 @@
-use Rattle.std.proofs.Common.{◌≡◌, ◌+◌, ◌-◌, ◌≤◌, ◌<◌, List, ℕ}
+use Rattle.std.proofs.Common.{◌≡◌, ◌+◌, ◌-◌, ◌≤◌, ◌<◌, List, ℕ, if◌then◌else◌}
+use Rattle.std.specs.Prelude.{◌==◌}
 use Rattle.ncc_header.specs.Decoder.{Took, IsSpent, limit_of}
 use Rattle.ncc_header.specs.Fields.{header}
+use Rattle.ncc_header.specs.FromSource.{HasRead, IsOver}
 use Rattle.ncc_header.specs.Grammar.{lacking}
-use Rattle.ncc_header.proofs.FromSource.{HasRead, IsOver}
-use Rattle.ncc_header.proofs.from_source.read_header.Given as goal
+use Rattle.ncc_header.proofs.from_source.read_wanted.Given as goal
 
 abbrev pub invariant-loop-wanted : goal.invariant-loop-wanted
 invariant-loop-wanted g l = record {
@@ -16,4 +17,4 @@ invariant-loop-wanted g l = record {
 }
 
 abbrev pub decreases-loop-wanted : goal.decreases-loop-wanted
-decreases-loop-wanted g l = l.limit + 1 - l.taken
+decreases-loop-wanted g l = if l.wanted == 0 then 0 else l.limit + 1 - l.taken

@@ -1,0 +1,65 @@
+use Rattle.std.proofs.Common.{◌≡◌, ◌≤◌, ◌+◌, ℕ, List, length, take, refl, sym, ap, subst, ◌∙◌, inl, inr, arith}
+use Rattle.std.proofs.lemmas.List.{length-take}
+use Rattle.std.proofs.lemmas.Result.{err_from_is_err_and}
+use Rattle.ncc_header.specs.Decoder.{Took, limit_of}
+use Rattle.ncc_header.specs.Fields.{header}
+use Rattle.ncc_header.specs.FromSource.{HasFed, HasRead}
+use Rattle.ncc_header.specs.Grammar.{lacking}
+use Rattle.ncc_header.specs.Standing.{IsSettled}
+use Rattle.ncc_header.proofs.FromSource.{has_read_none, has_read_more, failed_source, wanted_within}
+use Rattle.ncc_header.proofs.from_source.read_wanted.Goals as goal
+
+pub loop-wanted-init : goal.loop-wanted-init
+loop-wanted-init g c =
+    let left = g.R.Source.left c.args.source.now in
+    let d = c.args.decoder.now in
+    let read : HasRead left left d c.args.limit 0 = has_read_none left d c.args.limit c.requires.took c.requires.limit in
+    record {
+      read = read;
+      fresh = c.requires.fresh;
+      lacks = λ some bytes took. c.wants-wanted.ensures.lacks bytes took c.requires.fresh;
+      within = λ some. wanted_within d left left c.args.limit 0 c.wants-wanted.result read (λ bytes took. c.wants-wanted.ensures.lacks bytes took c.requires.fresh) some;
+      over = λ none. inr (λ bytes took. subst (IsSettled bytes) c.requires.limit (c.wants-wanted.ensures.settled bytes took c.requires.fresh none));
+      count = refl;
+    }
+
+pub returns-in_err-n-clause-err : goal.returns-in_err-n-clause-err
+returns-in_err-n-clause-err g c =
+    let left = g.R.Source.left in
+    let p = err_from_is_err_and c.from_residual.result c.from_residual.ensures.1 in
+    rw (p.1, p.2) (failed_source (left c.args.source.now) (left c.loop-wanted.source) (left c.read_piece.new.source) c.loop-wanted.decoder c.args.limit c.loop-wanted.taken c.in_err-n.field-0.0 c.loop-wanted.invariant.read c.in_err-n.ensures.err)
+
+pub loop-wanted-preserved-then-n-gt0 : goal.loop-wanted-preserved-then-n-gt0
+loop-wanted-preserved-then-n-gt0 g c =
+    let left = g.R.Source.left in
+    let old = left c.args.source.now in
+    let now = left c.read_piece.new.source in
+    let d = c.loop-wanted.decoder in
+    let e = c.read_piece.new.decoder in
+    let f = c.in_ok-n.ensures.ok in
+    let wants = c.wants-wanted-then-n-gt0 in
+    let read : HasRead old now e c.args.limit (c.loop-wanted.taken + c.in_ok-n.n) =
+    has_read_more old (left c.loop-wanted.source) now d e c.args.limit c.loop-wanted.taken _ c.in_ok-n.n c.loop-wanted.invariant.read f
+    (λ bytes took. omega (arith, c.loop-wanted.invariant.lacks c.loop-wanted-test.true bytes took, length-take c.min.result c.loop-wanted.piece, c.min.ensures)) in
+    record {
+      read = read;
+      fresh = f.fresh;
+      lacks = λ some bytes took. wants.ensures.lacks bytes took f.fresh;
+      within = λ some. wanted_within e old now c.args.limit (c.loop-wanted.taken + c.in_ok-n.n) wants.result read (λ bytes took. wants.ensures.lacks bytes took f.fresh) some;
+      over = λ none. inr (λ bytes took. subst (IsSettled bytes) read.limit_is (wants.ensures.settled bytes took f.fresh none));
+      count = c.in_ok-n.ensures.count ∙ c.loop-wanted.invariant.count;
+    }
+
+pub loop-wanted-preserved : goal.loop-wanted-preserved
+loop-wanted-preserved g c =
+    let left = g.R.Source.left in
+    let f = c.in_ok-n.ensures.ok in
+    record {
+      read = has_read_more (left c.args.source.now) (left c.loop-wanted.source) (left c.read_piece.new.source) c.loop-wanted.decoder c.read_piece.new.decoder c.args.limit c.loop-wanted.taken _ c.in_ok-n.n c.loop-wanted.invariant.read f
+          (λ bytes took. omega (arith, c.loop-wanted.invariant.lacks c.loop-wanted-test.true bytes took, length-take c.min.result c.loop-wanted.piece, c.min.ensures));
+      fresh = f.fresh;
+      lacks = λ some. absurd (omega (arith, some));
+      within = λ some. absurd (omega (arith, some));
+      over = λ none. inl (f.end (omega (arith, c.if-n-gt0.false)) (omega (arith, length-take c.min.result c.loop-wanted.piece, c.min.ensures, c.min.array_long, c.loop-wanted-test.true)));
+      count = c.in_ok-n.ensures.count ∙ c.loop-wanted.invariant.count;
+    }

@@ -1,0 +1,39 @@
+-- What a decoder has taken of a source.
+use Rattle.std.specs.Prelude.{◌≡◌, ◌⊎◌, ℕ, ◌≤◌, ◌<◌, List, ◌++◌, length, Option, Ok}
+use Rattle.std.specs.Io.KnownBytes.{IsAtEnd}
+use Rattle.ncc_header.specs.declared.decoder.Decoder.{Decoder}
+use Rattle.ncc_header.specs.declared.fault.HeaderError.{HeaderError}
+use Rattle.ncc_header.specs.declared.fault.HeaderError.TheVariants as errors
+use Rattle.ncc_header.specs.declared.standing.Fed.{Fed}
+use Rattle.ncc_header.specs.Decoder.{Took, IsSpent, limit_of}
+use Rattle.ncc_header.specs.Device.{Loses}
+use Rattle.ncc_header.specs.Standing.{FailedOn, Feeds, IsSettled, front_taken}
+
+-- the decoder was fed n bytes that the source has lost, with room for so many
+pub record HasFed (old now : Option (List ℕ)) (d e : Decoder) (room n : ℕ) : Type 0 where
+  pub piece : List ℕ
+  pub lost : Loses old now piece
+  pub long : length piece ≡ n
+  pub few : n ≤ room
+  pub fed : Fed
+  pub feeds : (bytes : List ℕ) → Took d bytes → Feeds bytes piece (limit_of d) (Ok fed)
+  pub takes : (bytes : List ℕ) → Took d bytes → Took e (bytes ++ front_taken (Ok fed) piece)
+  pub limit : limit_of e ≡ limit_of d
+  pub fresh : ¬ IsSpent e
+  pub end : n ≡ 0 → 0 < room → IsAtEnd now
+
+-- the source failed, or the decoder did on bytes that the source has lost
+abbrev pub FailsFeeding : (old now : Option (List ℕ)) → Decoder → HeaderError → Type 0
+FailsFeeding old now d e = (e ≡ errors.Device) ⊎ ((piece : List ℕ) × Loses old now piece × ((bytes : List ℕ) → Took d bytes → FailedOn (bytes ++ piece) (limit_of d) e))
+
+-- the decoder has taken all bytes that the source has lost
+pub record HasRead (old now : Option (List ℕ)) (d : Decoder) (limit taken : ℕ) : Type 0 where
+  pub bytes : List ℕ
+  pub lost : Loses old now bytes
+  pub took : Took d bytes
+  pub limit_is : limit_of d ≡ limit
+  pub long : length bytes ≡ taken
+
+-- the source is at its end, or no byte more is wanted
+abbrev pub IsOver : Option (List ℕ) → Decoder → (limit : ℕ) → Type 0
+IsOver now d limit = IsAtEnd now ⊎ ((bytes : List ℕ) → Took d bytes → IsSettled bytes limit)
