@@ -19,4 +19,5 @@ mod TakePiece
 mod Feeding
 mod Deciding
 mod FromSource
+mod Encoding
 pub mod Writing

@@ -3,6 +3,7 @@
 
 mod decoder;
 mod decoding;
+mod encoder;
 mod failed;
 mod fault;
 mod finishing;
@@ -35,6 +36,7 @@ mod wrong;
 
 pub use decoder::Decoder;
 pub use decoding::decode;
+pub use encoder::encode;
 pub use failed::Failed;
 pub use fault::{Fault, FaultKind, HeaderError};
 pub use from_source::read_header;
