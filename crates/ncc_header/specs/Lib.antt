@@ -3,6 +3,7 @@ pub mod Schema
 pub mod Header
 pub mod Fields
 pub mod Marks
+pub mod Names
 pub mod Device
 pub mod Answers
 pub mod Source
