@@ -14,3 +14,5 @@ pub mod Reading
 pub mod Turns
 pub mod Standing
 pub mod Decoder
+pub mod FuseSource
+pub mod FuseSink
