@@ -1,6 +1,6 @@
 use Rattle.std.proofs.Common.{◌∙◌}
 use Rattle.ncc_header.specs.Schema.{LegalAttr}
-use Rattle.ncc_header.specs.Header.{canon_attr}
+use Rattle.ncc_header.specs.Header.{canon_list, canon_attr}
 use Rattle.ncc_header.proofs.Encoding.{next_all, item_sent, item_fails}
 use Rattle.ncc_header.proofs.Writing.{fails_at}
 use Rattle.ncc_header.proofs.encoder.put_attrs.Goals as goal
@@ -15,11 +15,9 @@ returns-in_err-put_attr-clause-bytes g c =
 
 pub loop-attr-preserved : goal.loop-attr-preserved
 loop-attr-preserved g c =
-    let xs = c.args.attrs.now in
-    let i = c.loop-attr.attr-index in
-    let x = c.attr-item.result in
     record {
-      so_far = item_sent (canon_attr c.args.version) xs i x x _ _ _ _ c.loop-attr-test.true c.attr-item.is c.loop-attr.invariant.so_far c.in_ok-put_attr.ensures.bytes;
+      so_far = item_sent (canon_attr c.args.version) c.args.attrs.now c.loop-attr.attr-index c.attr-item.result c.attr-item.result _ _ _ (canon_list c.args.version 12 (canon_attr c.args.version) c.args.attrs.now) c.loop-attr-test.true c.attr-item.is
+          c.loop-attr.invariant.so_far c.in_ok-put_attr.ensures.bytes;
       count = c.in_ok-put_attr.ensures.count ∙ c.loop-attr.invariant.count;
-      each = (next_all (LegalAttr c.args.version) xs i x x c.loop-attr-test.true c.attr-item.is c.loop-attr.invariant.each).1;
+      each = (next_all (LegalAttr c.args.version) c.args.attrs.now c.loop-attr.attr-index c.attr-item.result c.attr-item.result c.loop-attr-test.true c.attr-item.is c.loop-attr.invariant.each).1;
     }

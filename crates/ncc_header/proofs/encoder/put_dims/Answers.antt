@@ -1,6 +1,6 @@
 use Rattle.std.proofs.Common.{◌∙◌}
 use Rattle.ncc_header.specs.Schema.{LegalDim}
-use Rattle.ncc_header.specs.Header.{canon_dim}
+use Rattle.ncc_header.specs.Header.{canon_list, canon_dim}
 use Rattle.ncc_header.proofs.Encoding.{next_all, item_sent, item_fails}
 use Rattle.ncc_header.proofs.Writing.{fails_at}
 use Rattle.ncc_header.proofs.encoder.put_dims.Goals as goal
@@ -15,11 +15,9 @@ returns-in_err-put_dim-clause-bytes g c =
 
 pub loop-dim-preserved : goal.loop-dim-preserved
 loop-dim-preserved g c =
-    let xs = c.args.dims.now in
-    let i = c.loop-dim.dim-index in
-    let x = c.dim-item.result in
     record {
-      so_far = item_sent (canon_dim c.args.version) xs i x x _ _ _ _ c.loop-dim-test.true c.dim-item.is c.loop-dim.invariant.so_far c.in_ok-put_dim.ensures.bytes;
+      so_far = item_sent (canon_dim c.args.version) c.args.dims.now c.loop-dim.dim-index c.dim-item.result c.dim-item.result _ _ _ (canon_list c.args.version 10 (canon_dim c.args.version) c.args.dims.now) c.loop-dim-test.true c.dim-item.is
+          c.loop-dim.invariant.so_far c.in_ok-put_dim.ensures.bytes;
       count = c.in_ok-put_dim.ensures.count ∙ c.loop-dim.invariant.count;
-      each = (next_all (LegalDim c.args.version) xs i x x c.loop-dim-test.true c.dim-item.is c.loop-dim.invariant.each).1;
+      each = (next_all (LegalDim c.args.version) c.args.dims.now c.loop-dim.dim-index c.dim-item.result c.dim-item.result c.loop-dim-test.true c.dim-item.is c.loop-dim.invariant.each).1;
     }
