@@ -19,4 +19,7 @@ mod TakePiece
 mod Feeding
 mod Deciding
 mod FromSource
+mod Sizes
+mod NamesThere
+mod Encoding
 pub mod Writing

@@ -9,7 +9,7 @@ use Rattle.ncc_values.specs.declared.version.Version.{Version}
 use Rattle.ncc_header.specs.declared.fault.FaultKind.TheVariants.{NegativeCount, TwoRecordDims, BadDimId, RecordDimNotFirst}
 use Rattle.ncc_header.specs.declared.schema.Dim.{Dim}
 use Rattle.ncc_header.specs.Grammar.{Plain}
-use Rattle.ncc_header.specs.Schema.{count_limit, length_limit, record_dims, is_record, LegalDim, LegalDims}
+use Rattle.ncc_header.specs.Schema.{count_limit, length_limit, record_dims, is_record, IsFixed, LegalDim, LegalDims}
 use Rattle.ncc_header.specs.Header as spelled
 use Rattle.ncc_header.specs.Fields.{length_wrong, dimid_wrong, dim, dimid, dimids}
 use Rattle.ncc_header.proofs.Exact.{Exact, exact_then, exact_into, exact_fits, exact_counted, AllAfter, exact_number}
@@ -70,9 +70,6 @@ exact_dimid v dims few before = exact_fits (exact_number Plain (count_width_of v
     (λ n f. let j = first-none _ _ f.1 in (below-none n (length dims) BadDimId j.0, not-true _ (unless-none _ RecordDimNotFirst j.1)))
     (λ n f. (omega (arith, f.0, few, count_limit-fits v), rw (lt-ltb n (length dims) f.0, f.1) refl))
 
-abbrev Later : List Dim → ℕ → Type 0
-Later dims m = (m < length dims) × (is_record dims m ≡ false)
-
 and-true : (b : Bool) → (b && true) ≡ false → b ≡ false
 and-true true h = h
 and-true false h = h
@@ -81,12 +78,12 @@ and-false : (b : Bool) → (b && false) ≡ false
 and-false true = refl
 and-false false = refl
 
-later_to : (dims : List Dim) (before ids : List ℕ) → 0 < length before → AllAfter (AfterId dims) before ids → AllByRecursion (Later dims) ids
+later_to : (dims : List Dim) (before ids : List ℕ) → 0 < length before → AllAfter (AfterId dims) before ids → AllByRecursion (IsFixed dims) ids
 later_to dims before [] pos h = tt
 later_to dims before (n ∷ ids) pos h =
     ((h.0.0, and-true (is_record dims n) (rw (lt-ltb 0 (length before) pos) at h.0.1)), later_to dims (before ++ n ∷ []) ids (omega (arith, length-append before (n ∷ []), pos)) h.1)
 
-later_from : (dims : List Dim) (before ids : List ℕ) → AllByRecursion (Later dims) ids → AllAfter (AfterId dims) before ids
+later_from : (dims : List Dim) (before ids : List ℕ) → AllByRecursion (IsFixed dims) ids → AllAfter (AfterId dims) before ids
 later_from dims before [] h = tt
 later_from dims before (n ∷ ids) h = ((h.0.0, rw h.0.1 refl), later_from dims (before ++ n ∷ []) ids h.1)
 

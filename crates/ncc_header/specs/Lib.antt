@@ -3,6 +3,7 @@ pub mod Schema
 pub mod Header
 pub mod Fields
 pub mod Marks
+pub mod Names
 pub mod Device
 pub mod Answers
 pub mod Source
@@ -14,3 +15,5 @@ pub mod Turns
 pub mod Standing
 pub mod Decoder
 pub mod FromSource
+pub mod FuseSource
+pub mod FuseSink

@@ -87,10 +87,14 @@ pub record LegalAttr (v : Version) (a : Attr) : Type 0 where
   pub xtype : IsTypeOf v (type_of a.values)
   pub number : count_of a.values < count_limit v
 
+-- the number of a dimension, other than the record dimension
+abbrev pub IsFixed : List Dim → ℕ → Type 0
+IsFixed dims n = (n < length dims) × (is_record dims n ≡ false)
+
 -- each is the number of a dimension, and the record dimension stands only first
 abbrev pub LegalDims : List Dim → List ℕ → Type 0
 LegalDims dims [] = Unit {0}
-LegalDims dims (n ∷ ns) = (n < length dims) × AllByRecursion (λ m. (m < length dims) × (is_record dims m ≡ false)) ns
+LegalDims dims (n ∷ ns) = (n < length dims) × AllByRecursion (IsFixed dims) ns
 
 pub record LegalVar (v : Version) (dims : List Dim) (x : Var) : Type 0 where
   pub name : LegalName v x.name

@@ -6,8 +6,10 @@ ghost use Rattle.ncc_header.specs.declared.fault.Fault.{Fault};
 ghost use Rattle.ncc_header.specs.declared.fault.FaultKind.TheVariants.{EndsEarly};
 ghost use Rattle.ncc_header.specs.declared.schema.Schema.{Schema};
 ghost use Rattle.ncc_header.specs.declared.schema.Header.{Header};
+ghost use Rattle.ncc_header.specs.declared.names.NameOf.{NameOf};
 ghost use Rattle.ncc_header.specs.Schema.{Place, Legal, IsTyped};
-ghost use Rattle.ncc_header.specs.Header.{IsHeader, canon};
+ghost use Rattle.ncc_header.specs.Header.{IsHeader, canon_name, canon};
+ghost use Rattle.ncc_header.specs.Names.{HasName, name_of, name_at, StandsAt};
 ghost use Rattle.ncc_header.specs.Marks.{header_marks};
 ghost use Rattle.ncc_header.specs.Answers.{Begins, Stops};
 
@@ -42,4 +44,9 @@ pub fn canonical_header()
 /// A header without marks is the canonical spelling of its schema and placement.
 pub fn unmarked_is_canonical()
     ensures { (s : Schema) (places : List Place) (b : List ℕ) → IsHeader s places b → header_marks b ≡ [] → b ≡ canon s places }
+{}
+
+/// Where a name of a canonical header is told to stand, it stands with its length and its padding.
+pub fn name_is_there()
+    ensures { (s : Schema) (places : List Place) (of : NameOf) → Legal s places → HasName s of → StandsAt (canon s places) (canon_name s.version (name_of s of)) (name_at s places of) }
 {}

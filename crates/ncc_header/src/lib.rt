@@ -3,14 +3,20 @@
 
 mod decoder;
 mod decoding;
+mod encoder;
 mod failed;
 mod fault;
 mod finishing;
 mod from_source;
+mod fuse_sink;
+mod fuse_source;
 mod gathering;
 mod judge;
 pub mod laws;
+mod legality;
+mod limits;
 mod marking;
+mod names;
 mod reading;
 mod schema;
 mod sink;
@@ -25,17 +31,22 @@ mod step_name;
 mod step_start;
 mod step_vars;
 mod taking;
-mod turn;
-mod turning;
 #[cfg(test)]
 mod tests;
+mod turn;
+mod turning;
 mod wrong;
 
 pub use decoder::Decoder;
 pub use decoding::decode;
+pub use encoder::encode;
 pub use failed::Failed;
 pub use fault::{Fault, FaultKind, HeaderError};
 pub use from_source::read_header;
+pub use fuse_sink::FuseSink;
+pub use fuse_source::FuseSource;
+pub use legality::{legal, sound};
+pub use names::{NameOf, name_at};
 pub use ncc_values::{Seq, Values, Version, XType, pad};
 pub use schema::{Attr, Count, Dim, Header, Mark, Schema, Var, VarPlace};
 pub use sink::{Sink, WriteSink, write_all};

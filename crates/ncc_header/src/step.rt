@@ -37,9 +37,7 @@ pub fn step(alloc: Global, state: State, at: u64, held: &[u8]) -> Result<State, 
             after_dims_count(alloc, version, count, tag, at, held)
         }
         State::NameLength(named) => after_name_length(alloc, named, at, held),
-        State::NameText(named, _, name) => {
-            Ok(State::NamePadding(named, Seq::from_vec(name)))
-        }
+        State::NameText(named, _, name) => { Ok(State::NamePadding(named, Seq::from_vec(name))) }
         State::NamePadding(named, name) => after_name_padding(named, name, at, held),
         State::DimLength(dims, name) => after_dim_length(dims, name, at, held),
         State::AttrsTag(owner) => after_attrs_tag(owner, at, held),
