@@ -1,5 +1,5 @@
 -- One more call in a log: what a stop may leave, and the moments.
-use Rattle.std.proofs.Common.{◌≡◌, ◌⊎◌, inl, inr, ⊎_elim, ℕ, suc, ◌+◌, ◌-◌, ◌≤◌, List, [], ◌∷◌, ◌++◌, length, take, drop, reverse, Vec, refl, sym, ◌∙◌, ap, subst, arith, length-append, append_assoc, take-append-drop}
+use Rattle.std.proofs.Common.{◌≡◌, ◌⊎◌, inl, inr, ⊎_elim, ℕ, suc, ◌+◌, ◌-◌, ◌≤◌, List, [], ◌∷◌, ◌++◌, length, take, drop, reverse, Vec, sym, ◌∙◌, ap, subst, arith, length-append, append_assoc, take-append-drop}
 use Rattle.std.proofs.lemmas.List.{reverse-append, drop-drop}
 use Rattle.std.specs.declared.alloc.Global.{Global}
 use Rattle.ncc_store.specs.declared.log.Call.{Call}

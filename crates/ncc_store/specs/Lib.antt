@@ -1,5 +1,6 @@
 pub mod File
 pub mod Fuse
+pub mod Growing
 pub mod Log
 pub mod LogLaws
 pub mod Long

@@ -1,5 +1,5 @@
 -- The laws of `Store` for a log. An implementation can cite them only in specs/.
-use Rattle.std.proofs.Common.{◌≡◌, inl, ℕ, zero, suc, ◌-◌, List, [], ◌∷◌, length, Vec, refl, subst, arith}
+use Rattle.std.proofs.Common.{◌≡◌, inl, ℕ, zero, suc, ◌-◌, List, [], ◌∷◌, Vec, refl, subst, arith}
 use Rattle.std.specs.declared.alloc.Global.{Global}
 use Rattle.ncc_store.specs.declared.log.Call.{Call}
 use Rattle.ncc_store.specs.declared.log.Call.TheVariants.{Write, Sync}

@@ -1,5 +1,5 @@
 -- Laws of `Store` that several stores cite. An implementation can cite them only in specs/.
-use Rattle.std.proofs.Common.{◌≡◌, ◌≤◌, ℕ, min, arith, rules}
+use Rattle.std.proofs.Common.{◌≤◌, ℕ, min, arith, rules}
 use Rattle.std.specs.Prelude.{IsTrue, false}
 
 -- what doesn't tell needs no law

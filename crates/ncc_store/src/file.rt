@@ -119,3 +119,6 @@ impl Store for FileStore {
         Ok(())
     }
 }
+
+#[cfg(test)]
+mod tests;

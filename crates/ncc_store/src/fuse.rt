@@ -174,3 +174,6 @@ impl<S: Store> Store for FuseStore<S> {
         self.inner.sync()
     }
 }
+
+#[cfg(test)]
+mod tests;

@@ -154,3 +154,6 @@ impl Store for LogStore {
         }
     }
 }
+
+#[cfg(test)]
+mod tests;

@@ -17,7 +17,7 @@ pub struct LongStore {
 }
 
 impl LongStore {
-    ghost use Rattle.ncc_store.specs.Long.{long_front, long_length};
+    ghost use Rattle.ncc_store.specs.Long.{long_front, long_length, long_failures};
 
     /// A store of that many bytes, which begin with the front.
     pub fn new(front: Vec<u8>, size: u64) -> LongStore
@@ -30,6 +30,16 @@ impl LongStore {
             length: size,
             failures: 0,
         }
+    }
+
+    /// Fails and counts it.
+    fn refused(&mut self) -> Result<(), Device>
+        ensures err { IsErr result }
+        ensures front { long_front self.new ≡ long_front self.old }
+        ensures length { long_length self.new ≡ long_length self.old }
+        ensures count { Counts (long_failures self.old) (long_failures self.new) result }
+    {
+        Err(fail(&mut self.failures))
     }
 }
 
@@ -88,7 +98,7 @@ impl Store for LongStore {
         ensures count { Counts (long_failures self.old) (long_failures self.new) result }
     {
         if place > self.length || out.len() as u64 > self.length - place {
-            return Err(fail(&mut self.failures));
+            return self.refused();
         }
         fill_from(&self.front, place, out);
         Ok(())
@@ -100,7 +110,7 @@ impl Store for LongStore {
         ensures length { long_length self.new ≡ long_length self.old }
         ensures count { Counts (long_failures self.old) (long_failures self.new) result }
     {
-        Err(fail(&mut self.failures))
+        self.refused()
     }
 
     fn sync(&mut self) -> Result<(), Device>
@@ -109,6 +119,9 @@ impl Store for LongStore {
         ensures length { long_length self.new ≡ long_length self.old }
         ensures count { Counts (long_failures self.old) (long_failures self.new) result }
     {
-        Err(fail(&mut self.failures))
+        self.refused()
     }
 }
+
+#[cfg(test)]
+mod tests;

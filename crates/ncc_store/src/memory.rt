@@ -104,3 +104,6 @@ impl Store for MemStore {
         Ok(())
     }
 }
+
+#[cfg(test)]
+mod tests;

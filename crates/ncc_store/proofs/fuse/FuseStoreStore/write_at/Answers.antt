@@ -1,4 +1,4 @@
-use Rattle.std.proofs.Common.{rules, arith, ◌≡◌, ◌<◌, inl, inr, ⊎_elim, length}
+use Rattle.std.proofs.Common.{arith, ◌<◌, inl, inr, ⊎_elim, length}
 use Rattle.std.proofs.lemmas.Bool.Decides.{nat_tests}
 use Rattle.ncc_store.proofs.Pieces.{front_done, unsynced_done}
 use Rattle.ncc_store.proofs.fuse.FuseStoreStore.write_at.Goals as goal

@@ -1,4 +1,4 @@
-use Rattle.std.proofs.Common.{◌≡◌, inl, inr, ⊎_elim, refl, sym, ap, ◌∙◌, subst, List, ℕ, length, take, drop}
+use Rattle.std.proofs.Common.{inl, inr, ⊎_elim, sym, ap, ◌∙◌, subst, List, ℕ, length, take, drop}
 use Rattle.ncc_store.specs.Store.{written, AfterWrite}
 use Rattle.ncc_store.specs.Log.{images_after}
 use Rattle.ncc_store.proofs.Replay.{write_moments, write_images}
