@@ -20,13 +20,14 @@ pub struct FuseStore<S: Store> {
 }
 
 impl<S: Store> FuseStore<S> {
-    ghost use Rattle.ncc_store.specs.Fuse.{fuse_inner, fuse_left, fuse_front, failed_front};
+    ghost use Rattle.ncc_store.specs.Fuse.{fuse_inner, fuse_left, fuse_front, fuse_failures, failed_front};
 
     /// Passes `left` calls. A write that fails then does nothing.
     pub fn new(inner: S, left: u64) -> FuseStore<S>
         ensures inner { fuse_inner result ≡ inner }
         ensures left { fuse_left result ≡ left }
         ensures front { fuse_front result ≡ 0 }
+        ensures count { fuse_failures S.failures result ≡ S.failures inner }
     {
         FuseStore::with_front(inner, left, 0)
     }
@@ -37,6 +38,7 @@ impl<S: Store> FuseStore<S> {
         ensures inner { fuse_inner result ≡ inner }
         ensures left { fuse_left result ≡ left }
         ensures front { fuse_front result ≡ front }
+        ensures count { fuse_failures S.failures result ≡ S.failures inner }
     {
         FuseStore {
             inner,

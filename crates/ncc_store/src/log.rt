@@ -31,12 +31,13 @@ pub struct LogStore {
 }
 
 impl LogStore {
-    ghost use Rattle.ncc_store.specs.Log.{log_bytes, log_calls};
+    ghost use Rattle.ncc_store.specs.Log.{log_bytes, log_calls, log_failures};
 
     /// A store of these bytes, in their memory. Nothing is pending.
     pub fn new(alloc: Global, bytes: Vec<u8>) -> LogStore
         ensures bytes { log_bytes result ≡ bytes.items }
         ensures calls { log_calls result ≡ [] }
+        ensures count { log_failures result ≡ 0 }
         ensures settled { Only (⟦<LogStore as Store>⟧.bytes result) (⟦<LogStore as Store>⟧.images result) }
     {
         LogStore {

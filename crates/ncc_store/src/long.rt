@@ -24,6 +24,7 @@ impl LongStore {
         requires { length front.items ≤ size }
         ensures front { long_front result ≡ front.items }
         ensures length { long_length result ≡ size }
+        ensures count { long_failures result ≡ 0 }
     {
         LongStore {
             front,

@@ -18,11 +18,12 @@ pub struct MemStore {
 }
 
 impl MemStore {
-    ghost use Rattle.ncc_store.specs.Memory.{memory_bytes};
+    ghost use Rattle.ncc_store.specs.Memory.{memory_bytes, memory_failures};
 
     /// A store of these bytes, in their memory.
     pub fn new(bytes: Vec<u8>) -> MemStore
-        ensures { memory_bytes result ≡ bytes.items }
+        ensures bytes { memory_bytes result ≡ bytes.items }
+        ensures count { memory_failures result ≡ 0 }
     {
         MemStore { bytes, failures: 0 }
     }
