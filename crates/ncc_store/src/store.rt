@@ -8,6 +8,14 @@ use crate::device::Device;
 
 /// Bytes that are read and written at a place, counted in bytes from 0. A write is pending until a
 /// `sync` succeeded: a stop may leave any part of it. A call that fails answers `Device` and is counted.
+///
+/// | Store | Tells its bytes | Tells its images | Fails |
+/// |---|---|---|---|
+/// | `MemStore` | yes | no | where it grows and finds no memory |
+/// | `LogStore` | yes | yes | where it finds no memory to grow, or for its log |
+/// | `FuseStore<S>` | as `S` | as `S` | as `S` does, and after so many calls |
+/// | `LongStore` | no | no | past its end, and at each write and sync |
+/// | `FileStore` | no | no | where the system does, past the end, and at a write if opened for reading |
 pub trait Store {
     /// Whether it tells its bytes. Where it doesn't, nothing is said of them.
     ghost tells_bytes: { Bool };

@@ -5,7 +5,7 @@ ghost use Rattle.ncc_values.specs.Failures.{Counts};
 ghost use Rattle.ncc_store.specs.Store.{written, Only, LeavesOnly};
 ghost use Rattle.ncc_store.specs.Growing.{Stands, IsOldOrWritten, IsOldOrGrown};
 
-use crate::{Device, FuseStore, LogStore, Store};
+use crate::{Device, FuseStore, LogStore, Store, laws};
 use std::alloc::Global;
 use std::process::Abort;
 use std::test::Fail;
@@ -120,5 +120,17 @@ fn grows_or_stands(rt: HostRuntime) -> Result<(), Fail> {
         grows(&rt, alloc, 4, front, Err(Device), 2, &all)?;
         grows(&rt, alloc, 5, front, Ok(()), 2, &all)?;
     }
+    Ok(())
+}
+
+#[test]
+fn device_has_a_text(rt: HostRuntime) -> Result<(), Fail> {
+    laws::short_write_is_whole();
+    laws::short_write_at_any_moment::<LogStore>();
+    laws::settled_store_leaves_its_bytes::<LogStore>();
+    laws::write_goes_on::<LogStore>();
+    laws::unmoved_calls_join::<LogStore>();
+    let text = format!(in rt.alloc(); "{Device}")?;
+    assert_eq!(rt; text.as_str(), "Device");
     Ok(())
 }
