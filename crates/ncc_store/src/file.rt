@@ -38,7 +38,8 @@ impl FileStore {
         }
     }
 
-    /// Whether `out` was filled from `place` on. The system reads no byte anywhere, so such a read asks for the length.
+    /// Whether `out` was filled from `place` on. The system lets nothing be read anywhere, also past the
+    /// end, so an empty read asks for the length.
     fn fill(&self, place: u64, out: &mut [u8]) -> bool {
         if out.is_empty() {
             return self

@@ -55,6 +55,7 @@ impl<S: Store> FuseStore<S> {
         self.left
     }
 
+    /// The store below, with all that was done to it.
     pub fn into_inner(self) -> S
         ensures { result ≡ fuse_inner self }
     {

@@ -20,7 +20,7 @@ pub trait Store {
     /// Whether it tells its bytes. Where it doesn't, nothing is said of them.
     ghost tells_bytes: { Bool };
 
-    /// Whether it tells what a stop may leave. Where it doesn't, it names no image.
+    /// Whether it tells what a stop may leave. Where it doesn't, a stop may leave more than its images.
     ghost tells_images: { Bool };
 
     ghost bytes: { Self → List ℕ };
@@ -37,7 +37,7 @@ pub trait Store {
     /// How often it failed. The count stays at 2^64 - 1.
     ghost failures: { Self → ℕ };
 
-    /// A number that grows by at most one at each call.
+    /// A number that grows by at most one at each call, so that a caller can bound its calls.
     ghost calls: { Self → ℕ };
 
     /// The number of bytes.
@@ -86,5 +86,6 @@ pub trait Store {
     /// Since this moment there is no other.
     ghost only_now: { (store : Self) (c : List ℕ) → images_since store (moment store) c → images store c };
 
+    /// The count has an end.
     ghost at_most_last: { (store : Self) → failures store ≤ last_count };
 }
