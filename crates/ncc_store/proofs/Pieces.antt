@@ -39,15 +39,6 @@ front_either old place n piece new (Err e) long ok err = front_of_front old plac
 
 -- ---- a write that isn't synced
 
-pub unsynced_same : (place : ℕ) (piece d : List ℕ) → Unsynced place piece d d
-unsynced_same place piece d = record {
-  before = take_min place d;
-  after = refl;
-  no_shorter = omega arith;
-  no_longer = omega arith;
-  whole = λ short inside. inl refl;
-}
-
 -- what the front of a long piece may leave
 pub unsynced_front : (place n : ℕ) (piece d c : List ℕ) → 8 < length piece → Unsynced place (take n piece) d c → Unsynced place piece d c
 unsynced_front place n piece d c long front =
