@@ -1,0 +1,10 @@
+pub mod File
+pub mod Fuse
+pub mod Growing
+pub mod Log
+pub mod LogLaws
+pub mod Long
+pub mod Memory
+pub mod Store
+pub mod StoreLaws
+pub mod Zeros

@@ -1,0 +1,20 @@
+//! What a store says of a call that failed, and how it counts it.
+
+ghost use Rattle.std.specs.Prelude.{◌≤◌};
+ghost use Rattle.ncc_values.specs.Failures.{last_count, Rose};
+
+use thiserror::Error;
+
+/// A call of a store that failed.
+#[derive(Clone, Copy, Debug, PartialEq, Eq, Error)]
+#[error("Device")]
+pub struct Device;
+
+/// Counts a failure.
+pub(crate) fn fail(failures: &mut u64) -> Device
+    ensures rose { Rose failures.old failures.new }
+    ensures end { failures.new ≤ last_count }
+{
+    *failures = failures.saturating_add(1);
+    Device
+}

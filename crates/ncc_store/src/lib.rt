@@ -1,0 +1,24 @@
+//! Stores: bytes that are read and written at a place, and what a stop at any moment may leave of them.
+#![tactic(auto)]
+
+mod device;
+mod file;
+mod fuse;
+pub mod laws;
+mod log;
+mod logging;
+mod long;
+mod memory;
+mod putting;
+mod store;
+
+pub use device::Device;
+pub use file::FileStore;
+pub use fuse::FuseStore;
+pub use log::{Call, LogStore};
+pub use long::LongStore;
+pub use memory::MemStore;
+pub use store::Store;
+
+#[cfg(test)]
+mod tests;
