@@ -17,6 +17,8 @@ pub fn decode(alloc: Global, input: &[u8], limit: u64) -> Result<Header, HeaderE
     ensures fault { (f : TheFault) → Stops input.now limit f → OrMemory result (Err (HeaderError.Fault f)) }
 {
     let mut decoder = Decoder::new(alloc, limit);
-    let _fed = decoder.feed(input)?;
-    decoder.finish()
+    match decoder.feed(input) {
+        Ok(_fed) => decoder.finish(),
+        Err(error) => Err(error),
+    }
 }
