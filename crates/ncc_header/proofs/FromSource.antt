@@ -1,5 +1,5 @@
 -- Reading a header from a source by turns.
-use Rattle.std.proofs.Common.{◌≡◌, ◌⊎◌, ℕ, ◌+◌, ◌≤◌, ◌<◌, List, [], ◌++◌, length, take, drop, Option, Some, None, Result, Ok, Err, refl, sym, ap, ap₂, subst, ◌∙◌, inl, inr, append_assoc, append-nil, arith}
+use Rattle.std.proofs.Common.{◌≡◌, ℕ, ◌+◌, ◌≤◌, ◌<◌, List, [], ◌++◌, length, take, drop, Option, Some, None, Result, Ok, Err, refl, sym, ap, ap₂, subst, ◌∙◌, inl, inr, append_assoc, append-nil, arith}
 use Rattle.std.specs.Prelude.{IfSome, IfOk}
 use Rattle.std.specs.Io.KnownBytes.{IsAtEnd}
 use Rattle.std.proofs.lemmas.Bool.{cases_lt}
@@ -18,7 +18,7 @@ use Rattle.ncc_header.specs.Grammar.{lacking}
 use Rattle.ncc_header.specs.Answers.{Answers, AnswersOf, CountsAs, IsLeft}
 use Rattle.ncc_header.specs.Decoder.{Took, limit_of}
 use Rattle.ncc_header.specs.FromSource.{HasFed, FailsFeeding, HasRead, IsOver}
-use Rattle.ncc_header.specs.Standing.{FailedOn, Feeds, IsSettled, front_taken}
+use Rattle.ncc_header.specs.Standing.{FailedOn, Feeds, front_taken}
 use Rattle.ncc_header.proofs.Deciding.{settled_answers}
 use Rattle.ncc_header.proofs.HeaderLaws.{header_stop_stays, apart, whole_begins}
 use Rattle.ncc_header.proofs.OneField.{still_early, lacks_within}

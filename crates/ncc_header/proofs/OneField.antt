@@ -1,12 +1,12 @@
 -- One field more, or one that stops.
-use Rattle.std.proofs.Common.{◌≡◌, ◌≢◌, ℕ, ◌+◌, ◌-◌, ◌<◌, ◌≤◌, List, [], ◌∷◌, ◌++◌, length, take, drop, Option, Some, None, refl, sym, ap, ◌∙◌, append_assoc, arith, inl, inr}
+use Rattle.std.proofs.Common.{◌≡◌, ◌≢◌, ℕ, ◌+◌, ◌-◌, ◌<◌, ◌≤◌, List, ◌∷◌, ◌++◌, length, take, drop, Option, Some, None, refl, sym, ap, ◌∙◌, append_assoc, arith, inl, inr}
 use Rattle.std.specs.Prelude.{is_some, if◌then◌else◌}
 use Rattle.std.proofs.lemmas.Bool.{cases_lt, le-ltb, lt-ltb}
 use Rattle.std.proofs.lemmas.List.{length-append, length-drop, length-take-le, take_at, drop_at, take-append-drop}
 use Rattle.ncc_header.specs.declared.fault.FaultKind.{FaultKind}
 use Rattle.ncc_header.specs.declared.fault.FaultKind.TheVariants.{HeaderTooLong, EndsEarly}
 use Rattle.ncc_header.specs.declared.wrong.Wrong.{Wrong}
-use Rattle.ncc_header.specs.Grammar.{Label, Grammar, done, field, Outcome, reads, stops, read, unless_wrong, lacking, Field, fields}
+use Rattle.ncc_header.specs.Grammar.{Label, Grammar, done, field, Outcome, stops, read, unless_wrong, lacking, Field, fields}
 use Rattle.ncc_header.specs.States.{size_of, label_of, Advances, IsRefused}
 use Rattle.ncc_header.proofs.FieldsLaws.{fields_first}
 use Rattle.ncc_header.proofs.GrammarLaws.{read_field, whole_front, outcomes_are_one}

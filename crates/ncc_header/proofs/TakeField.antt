@@ -1,16 +1,15 @@
 -- What a reading has still to read, once bytes were taken.
-use Rattle.std.proofs.Common.{◌≡◌, ℕ, ◌+◌, ◌≤◌, List, [], ◌∷◌, ◌++◌, length, Some, Err, refl, sym, ap, ap₂, subst₂, ◌∙◌, append_assoc, append-nil, arith}
-use Rattle.std.specs.List.{flat_map}
+use Rattle.std.proofs.Common.{◌≡◌, ℕ, ◌+◌, ◌≤◌, List, [], ◌∷◌, ◌++◌, length, Some, Err, refl, sym, ap, subst₂, ◌∙◌, append_assoc, append-nil, arith}
 use Rattle.std.proofs.lemmas.List.{length-append}
 use Rattle.ncc_header.specs.declared.reading.Reading.{Reading}
 use Rattle.ncc_header.specs.declared.schema.Mark.{Mark}
 use Rattle.ncc_header.specs.declared.state.State.{State}
 use Rattle.ncc_header.specs.declared.state.StepError.{StepError}
 use Rattle.ncc_header.specs.declared.state.StepError.TheVariants as steps
-use Rattle.ncc_header.specs.Grammar.{Label, Plain, Padding, CountOfTagged, Begin, Grammar, Field, read, lacking, fields}
+use Rattle.ncc_header.specs.Grammar.{Label, Plain, Padding, CountOfTagged, Begin, Grammar, Field, fields}
 use Rattle.ncc_header.specs.Marks.{mark_of, marks, begin_of, begins}
 use Rattle.ncc_header.specs.States.{Given, left_of, begins_of, size_of, label_of, front_of, with_begin, Advances, IsRefused, Steps}
-use Rattle.ncc_header.specs.Reading.{Course, course, onward, held_of, told_of, Takes, FailsBehind}
+use Rattle.ncc_header.specs.Reading.{course, held_of, told_of, Takes, FailsBehind}
 use Rattle.ncc_header.proofs.OneField.{field_goes_on, lacking_goes_on, fields_go_on, field_is_refused}
 use Rattle.ncc_header.proofs.RefusedKinds.{refused_other}
 

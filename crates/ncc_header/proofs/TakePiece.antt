@@ -2,7 +2,6 @@
 use Rattle.std.proofs.Common.{◌≡◌, ℕ, ◌+◌, ◌<◌, ◌≤◌, List, [], ◌++◌, length, take, drop, Some, refl, sym, ap, subst, ◌∙◌, append_assoc, arith}
 use Rattle.std.proofs.lemmas.List.{length-append, length-drop, length-take-le, take-append-drop}
 use Rattle.std.proofs.Math.Seq.{take-append-add}
-use Rattle.ncc_header.specs.declared.fault.Fault.{Fault}
 use Rattle.ncc_header.specs.declared.fault.FaultKind.TheVariants.{HeaderTooLong}
 use Rattle.ncc_header.specs.declared.fault.HeaderError.{HeaderError}
 use Rattle.ncc_header.specs.declared.fault.HeaderError.TheVariants as errors
@@ -10,7 +9,7 @@ use Rattle.ncc_header.specs.declared.reading.Reading.{Reading}
 use Rattle.ncc_header.specs.declared.turn.Turn.{Turn}
 use Rattle.ncc_header.specs.declared.turn.Turn.TheVariants as turns
 use Rattle.ncc_header.specs.States.{left_of, size_of}
-use Rattle.ncc_header.specs.Reading.{held_of, onward, Takes, StopsBehind, FailsBehind, Waits}
+use Rattle.ncc_header.specs.Reading.{held_of, onward, Takes, StopsBehind, FailsBehind}
 use Rattle.ncc_header.specs.Turns.{Went, Turns, behind_of}
 use Rattle.ncc_header.proofs.OneField.{field_too_long}
 

@@ -4,7 +4,7 @@ use Rattle.ncc_header.specs.declared.fault.Fault.{Fault}
 use Rattle.ncc_header.specs.declared.fault.HeaderError.{HeaderError}
 use Rattle.ncc_header.specs.declared.fault.HeaderError.TheVariants as errors
 use Rattle.ncc_header.specs.declared.schema.Header.{Header}
-use Rattle.ncc_header.specs.Device.{Rose}
+use Rattle.ncc_values.specs.Failures.{Rose}
 use Rattle.ncc_header.specs.Grammar.{read, stops}
 use Rattle.ncc_header.specs.Header.{IsHeader}
 use Rattle.ncc_header.specs.Marks.{header_marks, header_begins}

@@ -1,24 +1,7 @@
--- What reads and writes do to the bytes that are told, and to the count of failures.
-use Rattle.std.specs.Prelude.{◌≡◌, ℕ, ◌-◌, ◌<◌, ◌≤◌, ◌^◌, List, [], ◌++◌, length, take, ◌⊎◌, Option, Some, None, Result, Ok, Err}
+-- What reads and writes do to the bytes that are told.
+use Rattle.std.specs.Prelude.{◌≡◌, ℕ, ◌<◌, ◌≤◌, List, [], ◌++◌, length, take, Option, Some, None, Result, Ok, Err}
 use Rattle.std.specs.Io.KnownBytes.{IsAtEnd}
 use Rattle.ncc_header.specs.declared.failed.Failed.{Failed}
-
--- ---- failures
-
--- where a count of failures stays
-abbrev pub last_count : ℕ
-last_count = 2 ^ 64 - 1
-
--- the count rose, or stands at its last value
-abbrev pub Rose : (old new : ℕ) → Type 0
-Rose old new = (old < new) ⊎ (new ≡ last_count)
-
--- what an answer says of the count
-abbrev pub Counts : {T : Type 0} → (old new : ℕ) → Result T Failed → Type 0
-Counts old new (Ok x) = new ≡ old
-Counts old new (Err e) = Rose old new
-
--- ---- bytes
 
 -- told bytes are still told, and begin with these no more
 abbrev pub Loses : (old new : Option (List ℕ)) → (bytes : List ℕ) → Type 0

@@ -17,7 +17,6 @@ use Rattle.ncc_header.specs.declared.state.Vars.{Vars}
 use Rattle.ncc_header.specs.declared.state.Owner.{Owner}
 use Rattle.ncc_header.specs.declared.state.Owner.TheVariants as owners
 use Rattle.ncc_header.specs.declared.state.Attrs.{Attrs}
-use Rattle.ncc_header.specs.declared.state.Body.{Body}
 use Rattle.ncc_header.specs.declared.state.Named.{Named}
 use Rattle.ncc_header.specs.declared.state.Named.TheVariants as named
 use Rattle.ncc_header.specs.declared.state.State.{State}

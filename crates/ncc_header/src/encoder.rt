@@ -8,7 +8,8 @@ ghost use Rattle.ncc_values.specs.Values.{type_of, count_of, bytes_of};
 ghost use Rattle.ncc_values.specs.Version.{byte_of, count_width_of, offset_width_of};
 ghost use Rattle.ncc_values.specs.XType.{size_of};
 ghost use Rattle.ncc_header.specs.declared.schema.Dim.{Dim as DimOf};
-ghost use Rattle.ncc_header.specs.Device.{Counts, WritesAll};
+ghost use Rattle.ncc_values.specs.Failures.{Counts};
+ghost use Rattle.ncc_header.specs.Device.{WritesAll};
 ghost use Rattle.ncc_header.specs.Schema.{count_limit, place_of, places_of, LegalName, LegalDim, LegalAttr, LegalVar, LegalCount, LegalPlace, Legal};
 ghost use Rattle.ncc_header.specs.Header.{counted, zeros, canon_name, canon_head, canon_list, canon_dim, canon_attr, canon_dimids, canon_var, canon};
 

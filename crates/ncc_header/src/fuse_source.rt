@@ -1,7 +1,8 @@
 //! A source that fails from some call on.
 
 ghost use Rattle.std.specs.Prelude.{◌≡◌, ◌+◌, ◌<◌, ◌≤◌, min, IsErr, IfOk};
-ghost use Rattle.ncc_header.specs.Device.{last_count, Counts, Reads};
+ghost use Rattle.ncc_values.specs.Failures.{last_count, Counts};
+ghost use Rattle.ncc_header.specs.Device.{Reads};
 
 use crate::failed::Failed;
 use crate::source::Source;

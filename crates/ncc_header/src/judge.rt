@@ -4,11 +4,12 @@ ghost use Rattle.std.specs.Prelude.{◌≡◌, nat_lt, Some, unwrap_or, IfOk};
 ghost use Rattle.ncc_values.specs.Version.{version_of};
 ghost use Rattle.ncc_values.specs.XType.{type_of_code};
 ghost use Rattle.ncc_values.specs.declared.version.Version.TheVariants.{V1};
-ghost use Rattle.ncc_header.specs.Schema.{count_limit, record_dims};
+ghost use Rattle.ncc_header.specs.Schema.{record_dims};
 ghost use Rattle.ncc_header.specs.Fields.{magic_wrong, version_wrong, count_wrong, tag_wrong, list_count_wrong, length_wrong, type_wrong, dimid_wrong, begin_wrong, count_of};
 ghost use Rattle.ncc_header.specs.States.{Judges};
 
 use crate::fault::FaultKind;
+use crate::limits::{limit_of_counts, limit_of_lengths, limit_of_offsets, streaming_mark};
 use crate::schema::{Count, Dim};
 use crate::wrong::Wrong;
 use ncc_values::{Version, XType};
@@ -58,24 +59,10 @@ pub fn version(n: u64) -> Result<Version, Wrong>
 pub fn record_count(version: Version, n: u64) -> Count
     ensures { result ≡ count_of version n }
 {
-    let mark = match version {
-        Version::V1 | Version::V2 => 0xffff_ffff,
-        Version::V5 => 0xffff_ffff_ffff_ffff,
-    };
-    if n == mark {
+    if n == streaming_mark(version) {
         return Count::Streaming;
     }
     Count::Known(n)
-}
-
-/// What a number of items stays below.
-fn limit_of_counts(version: Version) -> u64
-    ensures { result ≡ count_limit version }
-{
-    match version {
-        Version::V1 | Version::V2 => 1 << 31,
-        Version::V5 => 1 << 63,
-    }
 }
 
 pub fn count(version: Version, n: u64) -> Result<(), Wrong>
@@ -123,11 +110,7 @@ fn has_record_dim(dims: &[Dim]) -> bool
 pub fn dim_length(version: Version, before: &[Dim], n: u64) -> Result<(), Wrong>
     ensures { Judges (length_wrong version before.now n) result }
 {
-    let limit = match version {
-        Version::V1 | Version::V2 => 1 << 32,
-        Version::V5 => 1 << 63,
-    };
-    if n >= limit {
+    if n >= limit_of_lengths(version) {
         return refused(FaultKind::NegativeCount);
     }
     if n == 0 && has_record_dim(before) {
@@ -169,11 +152,7 @@ pub fn dimid(dims: &[Dim], before: &[usize], n: u64) -> Result<usize, Wrong>
 pub fn begin(version: Version, n: u64) -> Result<(), Wrong>
     ensures { Judges (begin_wrong version n) result }
 {
-    let limit = match version {
-        Version::V1 => 1 << 31,
-        Version::V2 | Version::V5 => 1 << 63,
-    };
-    if n >= limit {
+    if n >= limit_of_offsets(version) {
         return refused(FaultKind::NegativeOffset);
     }
     Ok(())

@@ -1,7 +1,8 @@
 //! Sinks of bytes.
 
 ghost use Rattle.std.specs.Prelude.{◌≡◌, ℕ, List, Option};
-ghost use Rattle.ncc_header.specs.Device.{Counts, Writes, WritesAll};
+ghost use Rattle.ncc_values.specs.Failures.{Counts};
+ghost use Rattle.ncc_header.specs.Device.{Writes, WritesAll};
 
 use crate::failed::Failed;
 use std::io::Write;

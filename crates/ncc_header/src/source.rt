@@ -1,7 +1,8 @@
 //! Sources of bytes.
 
 ghost use Rattle.std.specs.Prelude.{◌≡◌, ℕ, List, Option};
-ghost use Rattle.ncc_header.specs.Device.{Counts, Reads};
+ghost use Rattle.ncc_values.specs.Failures.{Counts};
+ghost use Rattle.ncc_header.specs.Device.{Reads};
 
 use crate::failed::Failed;
 use std::io::Read;

@@ -1,10 +1,7 @@
-use Rattle.std.proofs.Common.{◌≡◌, ◌≤◌, ◌+◌, ℕ, List, length, take, refl, sym, ap, subst, ◌∙◌, inl, inr, arith}
+use Rattle.std.proofs.Common.{◌+◌, refl, subst, ◌∙◌, inl, inr, arith}
 use Rattle.std.proofs.lemmas.List.{length-take}
 use Rattle.std.proofs.lemmas.Result.{err_from_is_err_and}
-use Rattle.ncc_header.specs.Decoder.{Took, limit_of}
-use Rattle.ncc_header.specs.Fields.{header}
-use Rattle.ncc_header.specs.FromSource.{HasFed, HasRead}
-use Rattle.ncc_header.specs.Grammar.{lacking}
+use Rattle.ncc_header.specs.FromSource.{HasRead}
 use Rattle.ncc_header.specs.Standing.{IsSettled}
 use Rattle.ncc_header.proofs.FromSource.{has_read_none, has_read_more, failed_source, wanted_within}
 use Rattle.ncc_header.proofs.from_source.read_wanted.Goals as goal

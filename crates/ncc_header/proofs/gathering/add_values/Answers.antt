@@ -1,4 +1,4 @@
-use Rattle.std.proofs.Common.{◌≡◌, ap, subst, sym, ◌∙◌, arith}
+use Rattle.std.proofs.Common.{ap, subst, sym, ◌∙◌, arith}
 use Rattle.ncc_values.specs.BigEndian.{bytes-by_index}
 use Rattle.ncc_values.specs.Values.{type_of, bytes_of}
 use Rattle.ncc_values.proofs.ValuesLemmas.{type_of-with_bytes}

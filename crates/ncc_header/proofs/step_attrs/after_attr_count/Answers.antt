@@ -1,4 +1,4 @@
-use Rattle.std.proofs.Common.{◌≡◌, ℕ, None, refl, sym, ap, subst, ◌∙◌, arith}
+use Rattle.std.proofs.Common.{◌≡◌, ℕ, None, sym, ap, subst, ◌∙◌, arith}
 use Rattle.ncc_header.specs.Fields.{count_wrong}
 use Rattle.ncc_header.specs.States.{in_attr, from_values, version_of_owner}
 use Rattle.ncc_header.proofs.step_attrs.after_attr_count.Goals as goal

@@ -1,4 +1,4 @@
-use Rattle.std.proofs.Common.{◌≡◌, ℕ, ◌*◌, refl, sym, ap, ap₂, ◌∙◌, arith}
+use Rattle.std.proofs.Common.{ℕ, ◌*◌, refl, sym, ap, ap₂, ◌∙◌, arith}
 use Rattle.ncc_values.specs.declared.values.Values.{Values}
 use Rattle.ncc_values.specs.XType.{size_of}
 use Rattle.ncc_header.specs.States.{in_attr, from_attr_padding}

@@ -1,4 +1,4 @@
-use Rattle.std.proofs.Common.{ap, ◌∙◌}
+use Rattle.std.proofs.Common.{◌∙◌}
 use Rattle.ncc_header.specs.Grammar.{done}
 use Rattle.ncc_header.specs.Schema.{places_of}
 use Rattle.ncc_header.proofs.Turns.{vars_end}

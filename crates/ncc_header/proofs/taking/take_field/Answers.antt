@@ -1,4 +1,4 @@
-use Rattle.std.proofs.Common.{◌≡◌, List, ℕ, ◌++◌, refl, sym, ap, ap₂, subst₂, ◌∙◌}
+use Rattle.std.proofs.Common.{◌≡◌, List, ℕ, ◌++◌, refl, ap, ap₂, subst₂, ◌∙◌}
 use Rattle.ncc_header.specs.Grammar.{Grammar}
 use Rattle.ncc_header.specs.Marks.{mark_of}
 use Rattle.ncc_header.specs.States.{Given, left_of, label_of, front_of, with_begin, Advances}
