@@ -2,11 +2,26 @@
 #![tactic(auto)]
 
 mod answer;
+mod escape;
+mod heads;
 mod listing;
+mod printed;
 mod run;
-#[cfg(test)]
-mod tests;
+mod sections;
+mod sending;
 mod texts;
+#[cfg(test)]
+mod failure_tests;
+#[cfg(test)]
+mod fault_tests;
+#[cfg(test)]
+mod fixtures;
+#[cfg(test)]
+mod list_tests;
+#[cfg(test)]
+mod run_tests;
+#[cfg(test)]
+mod value_tests;
 
 use answer::Answer;
 use std::io::ErrorKind;
