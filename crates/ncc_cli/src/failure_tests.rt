@@ -59,7 +59,10 @@ fn failing_sources(rt: HostRuntime) -> Result<(), Fail> {
     let alloc = rt.alloc();
     let input = bytes_of(alloc, &ATTRIBUTES)?;
     for left in 0..input.len() {
-        let mut source = ReadSource::new(FailingReader { bytes: &input, left });
+        let mut source = ReadSource::new(FailingReader {
+            bytes: &input,
+            left,
+        });
         let mut sink = WriteSink::new(Vec::new(alloc));
         assert!(rt; list_engine(alloc, &mut source, LIMIT, &mut sink) == Answer::Device);
         assert!(rt; sink.into_inner().is_empty());

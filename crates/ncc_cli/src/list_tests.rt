@@ -47,7 +47,8 @@ fn fixed_variables(rt: HostRuntime) -> Result<(), Fail> {
 fn record_variables(rt: HostRuntime) -> Result<(), Fail> {
     let alloc = rt.alloc();
     let mut records = bytes_of(alloc, &RECORDS)?;
-    let text = "format CDF-1\nrecords 3\ndimension 0 t unlimited\nvariable 0 v short record begin 80 dims 1 t\n";
+    let text =
+        "format CDF-1\nrecords 3\ndimension 0 t unlimited\nvariable 0 v short record begin 80 dims 1 t\n";
     expect_list(&rt, &records, text);
     records.extend_from_slice(&RECORDS_DATA)?;
     expect_list(&rt, &records, text);
@@ -78,8 +79,7 @@ fn record_variable_over_two_dimensions(rt: HostRuntime) -> Result<(), Fail> {
 #[test]
 fn counts_of_records(rt: HostRuntime) -> Result<(), Fail> {
     let alloc = rt.alloc();
-    let lines =
-        "\ndimension 0 x 3\nvariable 0 v short fixed begin 128 dims 1 x\n";
+    let lines = "\ndimension 0 x 3\nvariable 0 v short fixed begin 128 dims 1 x\n";
     let mut words = FIXED_IN_CDF_5;
     words[2] = 0xffffffff;
     let known = bytes_of(alloc, &words)?;

@@ -3,23 +3,23 @@
 
 mod answer;
 mod escape;
-mod heads;
-mod listing;
-mod printed;
-mod run;
-mod sections;
-mod sending;
-mod texts;
 #[cfg(test)]
 mod failure_tests;
 #[cfg(test)]
 mod fault_tests;
 #[cfg(test)]
 mod fixtures;
+mod heads;
 #[cfg(test)]
 mod list_tests;
+mod listing;
+mod printed;
+mod run;
 #[cfg(test)]
 mod run_tests;
+mod sections;
+mod sending;
+mod texts;
 #[cfg(test)]
 mod value_tests;
 

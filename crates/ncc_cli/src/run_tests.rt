@@ -28,7 +28,10 @@ fn statuses(rt: HostRuntime) -> Result<(), Fail> {
     let (refused, line, _) = outcome(&rt, "ncc list ncc_test_one.nc")?;
     fs::remove_file(&rt, "ncc_test_one.nc")?;
     assert_eq!(rt; status, 0);
-    assert!(rt; out.as_slice() == b"format CDF-1\nrecords 0\nattribute global title char 5 hello\n".as_slice());
+    assert!(rt;
+        out.as_slice()
+            == b"format CDF-1\nrecords 0\nattribute global title char 5 hello\n".as_slice()
+    );
     assert!(rt; err.is_empty());
     assert_eq!(rt; refused, 1);
     assert!(rt; line.as_slice() == b"fault EndsEarly at 3\n".as_slice());

@@ -1,4 +1,4 @@
-use Rattle.std.proofs.Common.{◌≡◌, ◌++◌, List, [], ◌∷◌, ℕ, refl, sym, ap}
+use Rattle.std.proofs.Common.{◌≡◌, ◌++◌, List, [], ◌∷◌, ℕ, sym, ap}
 use Rattle.ncc_cli.specs.Words.{values_text}
 use Rattle.ncc_cli.specs.Texts.{attr_head}
 use Rattle.ncc_cli.proofs.SendingText.{pushed, fails, first_fails, second_fails, sends_third}

@@ -1,4 +1,4 @@
-use Rattle.std.proofs.Common.{◌≡◌, ◌++◌, List, ℕ, refl, sym, ap, ◌∙◌}
+use Rattle.std.proofs.Common.{◌++◌, List, refl, sym, ap, ◌∙◌}
 use Rattle.ncc_header.specs.declared.schema.Dim.{Dim}
 use Rattle.ncc_header.specs.declared.schema.Var.{Var}
 use Rattle.ncc_header.specs.declared.schema.VarPlace.{VarPlace}
@@ -17,6 +17,6 @@ returns-clause-sent g c =
     let s = h.schema in
     let lines = schema_lines s in
     let parts = ap (λ (dims : List Dim). lines ++ var_texts dims h.places 0 s.vars) (sym c.as_slice-dims.ensures)
-        ∙ ap (λ (places : List VarPlace). lines ++ var_texts c.as_slice-dims.result.now places 0 s.vars) (sym c.as_slice.ensures)
-        ∙ ap (λ (vars : List Var). lines ++ var_texts c.as_slice-dims.result.now c.as_slice.result.now 0 vars) (sym c.as_slice-vars.ensures) in
+    ∙ ap (λ (places : List VarPlace). lines ++ var_texts c.as_slice-dims.result.now places 0 s.vars) (sym c.as_slice.ensures)
+    ∙ ap (λ (vars : List Var). lines ++ var_texts c.as_slice-dims.result.now c.as_slice.result.now 0 vars) (sym c.as_slice-vars.ensures) in
     sends_second _ (g.W.Sink.put c.send_schema.new.sink) _ _ lines (var_texts c.as_slice-dims.result.now c.as_slice.result.now 0 c.as_slice-vars.result.now) _ parts c.in_ok-send_schema.ensures.sent c.send_vars.ensures.sent

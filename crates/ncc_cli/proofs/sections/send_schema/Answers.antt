@@ -1,4 +1,4 @@
-use Rattle.std.proofs.Common.{◌≡◌, ◌++◌, List, ℕ, None, refl, sym, ap, ◌∙◌}
+use Rattle.std.proofs.Common.{◌≡◌, ◌++◌, List, ℕ, None, sym, ap, ◌∙◌}
 use Rattle.ncc_header.specs.declared.schema.Attr.{Attr}
 use Rattle.ncc_header.specs.declared.schema.Dim.{Dim}
 use Rattle.ncc_cli.specs.Texts.{head_lines, dim_lines, attr_lines}
@@ -25,6 +25,6 @@ returns-clause-sent g c =
     let s = c.args.schema.now in
     let head : c.deref.result.now ≡ head_lines s = pushed c.deref.result.now _ _ (head_lines s) c.deref.ensures.value c.in_ok-push_head.ensures c.new-head.ensures.items in
     let parts = ap (λ (t : List ℕ). t ++ (dim_lines 0 s.dims ++ attr_lines None s.gatts)) (sym head)
-        ∙ ap (λ (dims : List Dim). c.deref.result.now ++ (dim_lines 0 dims ++ attr_lines None s.gatts)) (sym c.as_slice.ensures)
-        ∙ ap (λ (attrs : List Attr). c.deref.result.now ++ (dim_lines 0 c.as_slice.result.now ++ attr_lines None attrs)) (sym c.as_slice-2.ensures) in
+    ∙ ap (λ (dims : List Dim). c.deref.result.now ++ (dim_lines 0 dims ++ attr_lines None s.gatts)) (sym c.as_slice.ensures)
+    ∙ ap (λ (attrs : List Attr). c.deref.result.now ++ (dim_lines 0 c.as_slice.result.now ++ attr_lines None attrs)) (sym c.as_slice-2.ensures) in
     sends_third _ (g.W.Sink.put c.send.new.sink) (g.W.Sink.put c.send_dims.new.sink) _ _ c.deref.result.now (dim_lines 0 c.as_slice.result.now) (attr_lines None c.as_slice-2.result.now) _ parts c.in_ok-send.ensures.sent c.in_ok-send_dims.ensures.sent c.send_attrs.ensures.sent

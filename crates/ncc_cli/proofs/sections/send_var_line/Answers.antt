@@ -1,4 +1,4 @@
-use Rattle.std.proofs.Common.{◌≡◌, ◌++◌, List, [], ◌∷◌, ℕ, refl, sym, ap, ◌∙◌}
+use Rattle.std.proofs.Common.{◌≡◌, ◌++◌, List, [], ◌∷◌, ℕ, sym, ap, ◌∙◌}
 use Rattle.std.specs.List.{flat_map}
 use Rattle.ncc_cli.specs.Texts.{var_head, dim_word}
 use Rattle.ncc_cli.proofs.SendingText.{pushed, fails, first_fails, second_fails, sends_third}

@@ -1,4 +1,4 @@
-use Rattle.std.proofs.Common.{◌≡◌, ◌++◌, List, [], ◌∷◌, ℕ, Bool, false, length, refl}
+use Rattle.std.proofs.Common.{◌≡◌, List, [], ◌∷◌, Bool, false, length, refl}
 use Rattle.std.specs.Prelude.{◌==◌}
 use Rattle.std.specs.List.{flat_map}
 use Rattle.ncc_values.specs.declared.raw.Char.{Char}
