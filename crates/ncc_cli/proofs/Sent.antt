@@ -21,7 +21,7 @@ pub record Laws : Type 0 where
   pub one_stop : (input : List ℕ) (limit : ℕ) (f g : Fault) → Stops input limit f → Stops input limit g → f ≡ g
 
 one_text : Laws → (input : List ℕ) (limit : ℕ) (t u : List ℕ) → IsListOf input limit t ⊎ IsFaultOf input limit t → IsListOf input limit u ⊎ IsFaultOf input limit u → t ≡ u
-one_text laws input limit t u (inl a) (inl b) = a.2 ∙ ap (λ (h : Header). list_text h.schema) (laws.one_header input limit a.0 b.0 a.1 b.1) ∙ sym b.2
+one_text laws input limit t u (inl a) (inl b) = a.2 ∙ ap list_text (laws.one_header input limit a.0 b.0 a.1 b.1) ∙ sym b.2
 one_text laws input limit t u (inl a) (inr b) = absurd (laws.apart input limit a.0 b.0 a.1 b.1)
 one_text laws input limit t u (inr a) (inl b) = absurd (laws.apart input limit b.0 a.0 b.1 a.1)
 one_text laws input limit t u (inr a) (inr b) = a.2 ∙ ap fault_line (laws.one_stop input limit a.0 b.0 a.1 b.1) ∙ sym b.2
@@ -38,11 +38,11 @@ sent laws input limit old new text answer (Err halts.Memory) l any s = (s.0, s.3
 gone_of : (left : Option (List ℕ)) (limit : ℕ) (old new : Option (List ℕ)) (answer result : Answer) → result ≡ answer → IfSome left (λ input. Gone input limit old new answer) → IfSome left (λ input. Gone input limit old new result)
 gone_of left limit old new answer result e g = subst (λ (a : Answer). IfSome left (λ input. Gone input limit old new a)) (sym e) g
 
-list_gone : Laws → (left : Option (List ℕ)) (limit : ℕ) (old new : Option (List ℕ)) (h : Header) (result : Result (Unit {0}) Halt) → IfSome left (λ input. AnswersOf input limit (Ok h)) → Sends old new (list_text h.schema) result → IfSome left (λ input. Gone input limit old new (answer_of result answers.Passed))
+list_gone : Laws → (left : Option (List ℕ)) (limit : ℕ) (old new : Option (List ℕ)) (h : Header) (result : Result (Unit {0}) Halt) → IfSome left (λ input. AnswersOf input limit (Ok h)) → Sends old new (list_text h) result → IfSome left (λ input. Gone input limit old new (answer_of result answers.Passed))
 list_gone laws None limit old new h result a s = tt
-list_gone laws (Some input) limit old new h result a s = sent laws input limit old new (list_text h.schema) answers.Passed result (h, a, refl) (inl (h, a, refl)) s
+list_gone laws (Some input) limit old new h result a s = sent laws input limit old new (list_text h) answers.Passed result (h, a, refl) (inl (h, a, refl)) s
 
-pub sent_list : Laws → (left : Option (List ℕ)) (limit : ℕ) (old new : Option (List ℕ)) (h : Header) (result : Result (Unit {0}) Halt) (answer : Answer) → IfSome left (λ input. AnswersOf input limit (Ok h)) → Sends old new (list_text h.schema) result → answer ≡ answer_of result answers.Passed → IfSome left (λ input. Gone input limit old new answer)
+pub sent_list : Laws → (left : Option (List ℕ)) (limit : ℕ) (old new : Option (List ℕ)) (h : Header) (result : Result (Unit {0}) Halt) (answer : Answer) → IfSome left (λ input. AnswersOf input limit (Ok h)) → Sends old new (list_text h) result → answer ≡ answer_of result answers.Passed → IfSome left (λ input. Gone input limit old new answer)
 sent_list laws left limit old new h result answer a s e = gone_of left limit old new (answer_of result answers.Passed) answer e (list_gone laws left limit old new h result a s)
 
 fault_gone : Laws → (left : Option (List ℕ)) (limit : ℕ) (old new : Option (List ℕ)) (f : Fault) (result : Result (Unit {0}) Halt) → IfSome left (λ input. AnswersOf input limit (Err (errors.Fault f))) → Sends old new (fault_line f) result → IfSome left (λ input. Gone input limit old new (answer_of result answers.Refused))

@@ -14,7 +14,7 @@ use Rattle.ncc_cli.specs.Texts.{list_text, fault_line}
 
 -- the lines of the header that begins the input
 abbrev pub IsListOf : (input : List ℕ) (limit : ℕ) → (text : List ℕ) → Type 0
-IsListOf input limit text = (h : Header) × Begins input limit h × (text ≡ list_text h.schema)
+IsListOf input limit text = (h : Header) × Begins input limit h × (text ≡ list_text h)
 
 -- the line of the input's fault
 abbrev pub IsFaultOf : (input : List ℕ) (limit : ℕ) → (text : List ℕ) → Type 0
@@ -33,10 +33,14 @@ Lists input limit Memory out = IsFrontOf input limit out
 
 -- ---- sending a text
 
+-- a front of the text went out
+abbrev pub PutsFront : (old new : Option (List ℕ)) → (text : List ℕ) → Type 0
+PutsFront old new text = (front : List ℕ) × (rest : List ℕ) × (text ≡ front ++ rest) × Puts old new front
+
 -- all of the text went out, or a front of it
 abbrev pub Sends : (old new : Option (List ℕ)) → (text : List ℕ) → Result (Unit {0}) Halt → Type 0
 Sends old new text (Ok x) = Puts old new text
-Sends old new text (Err e) = (front : List ℕ) × (rest : List ℕ) × (text ≡ front ++ rest) × Puts old new front
+Sends old new text (Err e) = PutsFront old new text
 
 -- the device is blamed only where it failed
 abbrev pub Blames : (old new : ℕ) → Result (Unit {0}) Halt → Type 0

@@ -1,33 +1,25 @@
--- What `ncc list` prints.
-use Rattle.std.specs.Prelude.{ℕ, Bool, ◌+◌, ◌/◌, ◌%◌, List, [], ◌∷◌, ◌++◌, nat_lt, ◌==◌, ◌&&◌, if◌then◌else◌, not, codes, decimal}
+-- What `ncc list` prints, line by line.
+use Rattle.std.specs.Prelude.{ℕ, ◌+◌, Bool, false, List, [], ◌∷◌, ◌++◌, length, map, get_or, Option, Some, None, ◌==◌, if◌then◌else◌, codes, decimal}
 use Rattle.std.specs.List.{flat_map}
+use Rattle.ncc_values.specs.Values.{type_of, count_of}
+use Rattle.ncc_values.specs.XType.{word_of}
 use Rattle.ncc_values.specs.declared.version.Version.{Version}
 use Rattle.ncc_values.specs.declared.version.Version.TheVariants.{V1, V2, V5}
 use Rattle.ncc_header.specs.declared.fault.Fault.{Fault}
 use Rattle.ncc_header.specs.declared.fault.FaultKind.{FaultKind}
 use Rattle.ncc_header.specs.declared.fault.FaultKind.TheVariants as kinds
+use Rattle.ncc_header.specs.declared.schema.Attr.{Attr}
 use Rattle.ncc_header.specs.declared.schema.Count.{Count}
 use Rattle.ncc_header.specs.declared.schema.Count.TheVariants.{Known, Streaming}
 use Rattle.ncc_header.specs.declared.schema.Dim.{Dim}
+use Rattle.ncc_header.specs.declared.schema.Header.{Header}
 use Rattle.ncc_header.specs.declared.schema.Schema.{Schema}
+use Rattle.ncc_header.specs.declared.schema.Var.{Var}
+use Rattle.ncc_header.specs.declared.schema.VarPlace.{VarPlace}
+use Rattle.ncc_header.specs.Schema.{is_record}
+use Rattle.ncc_cli.specs.Words.{name_text, values_text}
 
--- ---- bytes of names
-
-abbrev pub hex_digit : ℕ → ℕ
-hex_digit n = if nat_lt n 10 then 48 + n else 87 + n
-
--- the bytes 21 to 7e but the backslash print as they are
-abbrev pub is_plain : ℕ → Bool
-is_plain b = nat_lt 32 b && nat_lt b 127 && not (b == 92)
-
--- others as \x and two hexadecimal digits
-abbrev pub escaped : ℕ → List ℕ
-escaped b = if is_plain b then b ∷ [] else 92 ∷ 120 ∷ hex_digit (b / 16) ∷ hex_digit (b % 16) ∷ []
-
-abbrev pub name_text : List ℕ → List ℕ
-name_text name = flat_map escaped name
-
--- ---- lines
+-- ---- the format and the number of records
 
 abbrev pub format_line : Version → List ℕ
 format_line V1 = codes "format CDF-1\n"
@@ -37,6 +29,11 @@ format_line V5 = codes "format CDF-5\n"
 abbrev pub records_line : Count → List ℕ
 records_line (Known n) = codes "records " ++ decimal n ++ codes "\n"
 records_line Streaming = codes "records streaming\n"
+
+abbrev pub head_lines : Schema → List ℕ
+head_lines s = format_line s.version ++ records_line s.count
+
+-- ---- dimensions
 
 abbrev pub length_text : ℕ → List ℕ
 length_text n = if n == 0 then codes "unlimited" else decimal n
@@ -49,23 +46,85 @@ abbrev pub dim_lines : (number : ℕ) → List Dim → List ℕ
 dim_lines number [] = []
 dim_lines number (d ∷ dims) = dim_line number d ++ dim_lines (number + 1) dims
 
-abbrev pub head_lines : Schema → List ℕ
-head_lines s = format_line s.version ++ records_line s.count
+-- ---- attributes
 
--- all lines of a header
-abbrev pub list_text : Schema → List ℕ
-list_text s = head_lines s ++ dim_lines 0 s.dims
+-- whose it is: the number of a variable, or none for the whole file
+abbrev pub owner_text : (owner : Option ℕ) → List ℕ
+owner_text (Some number) = decimal number
+owner_text None = codes "global"
 
-abbrev pub kind_text : FaultKind → List ℕ
-kind_text kinds.Unsupported = codes "Unsupported"
-kind_text kinds.BadMagic = codes "BadMagic"
-kind_text kinds.BadVersion = codes "BadVersion"
-kind_text kinds.NegativeCount = codes "NegativeCount"
-kind_text kinds.BadTag = codes "BadTag"
-kind_text kinds.TwoRecordDims = codes "TwoRecordDims"
-kind_text kinds.HeaderTooLong = codes "HeaderTooLong"
-kind_text kinds.EndsEarly = codes "EndsEarly"
+unfoldable pub attr_head : (owner : Option ℕ) → Attr → List ℕ
+attr_head owner a = codes "attribute " ++ owner_text owner ++ codes " " ++ name_text a.name ++ codes " " ++ word_of (type_of a.values) ++ codes " " ++ decimal (count_of a.values)
+
+abbrev pub attr_line : (owner : Option ℕ) → Attr → List ℕ
+attr_line owner a = attr_head owner a ++ (values_text a.values ++ codes "\n")
+
+abbrev pub attr_lines : (owner : Option ℕ) → List Attr → List ℕ
+attr_lines owner attrs = flat_map (attr_line owner) attrs
+
+-- ---- variables
+
+-- A header's dimension numbers are below the number of its dimensions, and it has a place for each
+-- variable: where it hasn't, a name is empty, a variable is fixed and begins at 0.
+
+abbrev pub name_of : List Dim → (number : ℕ) → List ℕ
+name_of dims number = get_or (map (λ d. d.name) dims) number []
+
+abbrev pub begin_of : List VarPlace → (number : ℕ) → ℕ
+begin_of places number = get_or (map (λ p. p.begin) places) number 0
+
+-- whether the first of these dimensions is the record dimension
+abbrev pub has_records : List Dim → (numbers : List ℕ) → Bool
+has_records dims [] = false
+has_records dims (number ∷ numbers) = is_record dims number
+
+abbrev pub kind_of : List Dim → Var → List ℕ
+kind_of dims x = if has_records dims x.dims then codes "record" else codes "fixed"
+
+unfoldable pub var_head : List Dim → (number begin : ℕ) → Var → List ℕ
+var_head dims number begin x =
+    codes "variable " ++ decimal number ++ codes " " ++ name_text x.name ++ codes " " ++ word_of x.xtype ++ codes " " ++ kind_of dims x
+    ++ codes " begin " ++ decimal begin ++ codes " dims " ++ decimal (length x.dims)
+
+-- the name of a dimension, behind a space
+abbrev pub dim_word : List Dim → (number : ℕ) → List ℕ
+dim_word dims number = codes " " ++ name_text (name_of dims number)
+
+abbrev pub var_line : List Dim → (number begin : ℕ) → Var → List ℕ
+var_line dims number begin x = var_head dims number begin x ++ (flat_map (dim_word dims) x.dims ++ codes "\n")
+
+-- the line of a variable and those of its attributes
+abbrev pub var_text : List Dim → (number begin : ℕ) → Var → List ℕ
+var_text dims number begin x = var_line dims number begin x ++ attr_lines (Some number) x.attrs
+
+-- the texts of variables that are numbered from here on
+abbrev pub var_texts : List Dim → List VarPlace → (number : ℕ) → List Var → List ℕ
+var_texts dims places number [] = []
+var_texts dims places number (x ∷ vars) = var_text dims number (begin_of places number) x ++ var_texts dims places (number + 1) vars
+
+-- ---- all lines of a header
+
+abbrev pub schema_lines : Schema → List ℕ
+schema_lines s = head_lines s ++ (dim_lines 0 s.dims ++ attr_lines None s.gatts)
+
+abbrev pub list_text : Header → List ℕ
+list_text h = schema_lines h.schema ++ var_texts h.schema.dims h.places 0 h.schema.vars
+
+-- ---- faults
+
+abbrev pub fault_word : FaultKind → List ℕ
+fault_word kinds.BadMagic = codes "BadMagic"
+fault_word kinds.BadVersion = codes "BadVersion"
+fault_word kinds.NegativeCount = codes "NegativeCount"
+fault_word kinds.BadTag = codes "BadTag"
+fault_word kinds.BadType = codes "BadType"
+fault_word kinds.TwoRecordDims = codes "TwoRecordDims"
+fault_word kinds.BadDimId = codes "BadDimId"
+fault_word kinds.RecordDimNotFirst = codes "RecordDimNotFirst"
+fault_word kinds.NegativeOffset = codes "NegativeOffset"
+fault_word kinds.HeaderTooLong = codes "HeaderTooLong"
+fault_word kinds.EndsEarly = codes "EndsEarly"
 
 -- the line of a fault
 unfoldable pub fault_line : Fault → List ℕ
-fault_line f = codes "fault " ++ kind_text f.kind ++ codes " at " ++ decimal f.offset ++ codes "\n"
+fault_line f = codes "fault " ++ fault_word f.kind ++ codes " at " ++ decimal f.offset ++ codes "\n"

@@ -2,37 +2,14 @@
 
 ghost use Rattle.std.specs.Prelude.{◌≡◌, ◌⊎◌, ℕ, List, IfSome};
 ghost use Rattle.ncc_header.specs.Device.{Puts, Rose};
-ghost use Rattle.ncc_cli.specs.Texts.{dim_lines, list_text, fault_line};
+ghost use Rattle.ncc_cli.specs.Texts.{fault_line};
 ghost use Rattle.ncc_cli.specs.Listing.{Lists, Sends, Blames, answer_of};
 
 use crate::answer::{Answer, Halt};
-use crate::texts::{push_dim, push_fault, push_head};
-use ncc_header::{Dim, Fault, HeaderError, Schema, Sink, Source, laws, read_header, write_all};
+use crate::sections::send_list;
+use crate::texts::push_fault;
+use ncc_header::{Fault, HeaderError, Sink, Source, laws, read_header, write_all};
 use std::alloc::Global;
-
-/// Sends a line for each dimension.
-fn send_dims<W: Sink>(alloc: Global, dims: &[Dim], sink: &mut W) -> Result<(), Halt>
-    ensures sent { Sends (W.put sink.old) (W.put sink.new) (dim_lines 0 dims.now) result }
-    ensures count { Blames (W.failures sink.old) (W.failures sink.new) result }
-{
-    for (number, dim) in dims.iter().enumerate() {
-        let mut line = Vec::new(alloc);
-        push_dim(&mut line, number, dim)?;
-        write_all(sink, &line)?;
-    }
-    Ok(())
-}
-
-/// Sends the lines of a header.
-fn send_list<W: Sink>(alloc: Global, schema: &Schema, sink: &mut W) -> Result<(), Halt>
-    ensures sent { Sends (W.put sink.old) (W.put sink.new) (list_text schema.now) result }
-    ensures count { Blames (W.failures sink.old) (W.failures sink.new) result }
-{
-    let mut head = Vec::new(alloc);
-    push_head(&mut head, schema)?;
-    write_all(sink, &head)?;
-    send_dims(alloc, schema.dims.as_slice(), sink)
-}
 
 /// Sends the line of a fault.
 fn send_fault<W: Sink>(alloc: Global, fault: Fault, sink: &mut W) -> Result<(), Halt>
@@ -69,7 +46,7 @@ pub fn list_engine<R: Source, W: Sink>(
 {
     laws::header_or_stop();
     match read_header(alloc, source, limit) {
-        Ok(header) => answered(send_list(alloc, &header.schema, sink), Answer::Passed),
+        Ok(header) => answered(send_list(alloc, &header, sink), Answer::Passed),
         Err(HeaderError::Fault(fault)) => answered(send_fault(alloc, fault, sink), Answer::Refused),
         Err(HeaderError::Device) => Answer::Device,
         Err(HeaderError::Memory) => Answer::Memory,

@@ -2,11 +2,26 @@
 #![tactic(auto)]
 
 mod answer;
+mod escape;
+#[cfg(test)]
+mod failure_tests;
+#[cfg(test)]
+mod fault_tests;
+#[cfg(test)]
+mod fixtures;
+mod heads;
+#[cfg(test)]
+mod list_tests;
 mod listing;
+mod printed;
 mod run;
 #[cfg(test)]
-mod tests;
+mod run_tests;
+mod sections;
+mod sending;
 mod texts;
+#[cfg(test)]
+mod value_tests;
 
 use answer::Answer;
 use std::io::ErrorKind;

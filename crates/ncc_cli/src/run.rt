@@ -11,7 +11,7 @@ use clap::{Arg, ArgAction, Command, Error};
 use ncc_header::{ReadSource, WriteSink};
 use std::alloc::{AllocError, Global};
 use std::fs;
-use std::io::{BufWriter, Write};
+use std::io::{BufReader, BufWriter, Write};
 use std::rt::Files;
 
 /// How long a header may be, in bytes.
@@ -80,10 +80,13 @@ fn list<R: Files + AllocGlobal, O: Write>(rt: &R, path: &str, out: &mut O) -> An
     let Ok(file) = fs::open(rt, path) else {
         return Answer::Device;
     };
+    let Ok(reader) = BufReader::new(rt.alloc(), file) else {
+        return Answer::Memory;
+    };
     let Ok(writer) = BufWriter::new(rt.alloc(), out) else {
         return Answer::Memory;
     };
-    let mut source = ReadSource::new(file);
+    let mut source = ReadSource::new(reader);
     let mut sink = WriteSink::new(writer);
     let answer = list_engine(rt.alloc(), &mut source, LIMIT, &mut sink);
     let mut writer = sink.into_inner();

@@ -1,42 +1,14 @@
 //! The lines that are printed.
 
-ghost use Rattle.std.specs.Prelude.{◌≡◌, ◌++◌, ◌<◌, decimal, OnOk};
-ghost use Rattle.ncc_cli.specs.Texts.{hex_digit, escaped, name_text, format_line, records_line, head_lines, length_text, dim_line, kind_text, fault_line};
+ghost use Rattle.std.specs.Prelude.{◌≡◌, ◌++◌, decimal, OnOk};
+ghost use Rattle.ncc_cli.specs.Texts.{format_line, records_line, head_lines, length_text, dim_line, fault_word, fault_line};
 
+use crate::escape::push_name;
 use itoa::Buffer;
 use ncc_header::{Count, Dim, Fault, FaultKind, Schema, Version};
 use std::alloc::AllocError;
 
-/// A hexadecimal digit, in lower case.
-fn digit(n: u8) -> u8
-    requires { n < 16 }
-    ensures { result ≡ hex_digit n }
-{
-    if n < 10 { b'0' + n } else { b'a' - 10 + n }
-}
-
-/// Adds a byte of a name, as it is printed.
-fn push_escaped(out: &mut Vec<u8>, b: u8) -> Result<(), AllocError>
-    ensures { OnOk result (out.new.items ≡ out.old.items ++ escaped b) }
-{
-    if 32 < b && b < 127 && b != b'\\' {
-        out.push(b)?;
-        return Ok(());
-    }
-    out.extend_from_slice(&[b'\\', b'x', digit(b / 16), digit(b % 16)])?;
-    Ok(())
-}
-
-fn push_name(out: &mut Vec<u8>, name: &[u8]) -> Result<(), AllocError>
-    ensures { OnOk result (out.new.items ≡ out.old.items ++ name_text name.now) }
-{
-    for b in name {
-        push_escaped(out, *b)?;
-    }
-    Ok(())
-}
-
-fn push_decimal(out: &mut Vec<u8>, n: u64) -> Result<(), AllocError>
+pub fn push_decimal(out: &mut Vec<u8>, n: u64) -> Result<(), AllocError>
     ensures { OnOk result (out.new.items ≡ out.old.items ++ decimal n) }
 {
     let mut buffer = Buffer::new();
@@ -104,15 +76,18 @@ pub fn push_head(out: &mut Vec<u8>, schema: &Schema) -> Result<(), AllocError>
 
 /// The word that names a fault.
 fn kind_word(kind: FaultKind) -> &'static str
-    ensures { result.now ≡ kind_text kind }
+    ensures { result.now ≡ fault_word kind }
 {
     match kind {
-        FaultKind::Unsupported => "Unsupported",
         FaultKind::BadMagic => "BadMagic",
         FaultKind::BadVersion => "BadVersion",
         FaultKind::NegativeCount => "NegativeCount",
         FaultKind::BadTag => "BadTag",
+        FaultKind::BadType => "BadType",
         FaultKind::TwoRecordDims => "TwoRecordDims",
+        FaultKind::BadDimId => "BadDimId",
+        FaultKind::RecordDimNotFirst => "RecordDimNotFirst",
+        FaultKind::NegativeOffset => "NegativeOffset",
         FaultKind::HeaderTooLong => "HeaderTooLong",
         FaultKind::EndsEarly => "EndsEarly",
     }

@@ -1,16 +1,14 @@
 use Rattle.std.proofs.Common.{◌≡◌, ◌∙◌}
-use Rattle.std.proofs.lemmas.Result.{err_from_is_err_and}
 use Rattle.ncc_cli.specs.Texts.{dim_line}
-use Rattle.ncc_cli.proofs.Sending.{pushed, next_line, send_fails}
+use Rattle.ncc_cli.proofs.SendingText.{pushed, next_line, fails, piece_fails}
 use Rattle.ncc_header.proofs.Writing.{so_far_more}
-use Rattle.ncc_cli.proofs.listing.send_dims.Goals as goal
+use Rattle.ncc_cli.proofs.sections.send_dims.Goals as goal
 
 pub returns-in_err-write_all-clause-sent : goal.returns-in_err-write_all-clause-sent
 returns-in_err-write_all-clause-sent g c =
-    let p = err_from_is_err_and c.from_residual-in_err-write_all.result c.from_residual-in_err-write_all.ensures.1 in
     let line : c.deref.result.now ≡ dim_line c.loop-number.number c.index-dims-number.result = pushed c.deref.result.now _ _ (dim_line c.loop-number.number c.index-dims-number.result) c.deref.ensures.value c.in_ok-push_dim.ensures c.new-line.ensures.items in
     let parts = next_line c.args.dims.now c.loop-number.number c.index-dims-number.result c.deref.result.now c.loop-number-test.true c.index-dims-number.is line in
-    rw p.1 (send_fails _ _ _ _ _ c.deref.result.now _ c.in_err-write_all.field-0.0 p.0 c.loop-number.invariant.so_far parts c.in_err-write_all.ensures.bytes)
+    fails _ _ _ _ c.from_residual-in_err-write_all.ensures.0 (piece_fails _ _ _ _ _ c.deref.result.now _ c.loop-number.invariant.so_far parts c.in_err-write_all.ensures.bytes)
 
 pub loop-number-preserved : goal.loop-number-preserved
 loop-number-preserved g c =

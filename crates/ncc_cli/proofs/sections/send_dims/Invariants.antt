@@ -1,7 +1,7 @@
 use Rattle.std.proofs.Common.{◌≡◌, drop}
 use Rattle.ncc_header.proofs.Writing.{SoFar}
 use Rattle.ncc_cli.specs.Texts.{dim_lines}
-use Rattle.ncc_cli.proofs.listing.send_dims.Given as goal
+use Rattle.ncc_cli.proofs.sections.send_dims.Given as goal
 
 abbrev pub invariant-loop-number : goal.invariant-loop-number
 invariant-loop-number g l = record {
