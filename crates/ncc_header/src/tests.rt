@@ -3,6 +3,7 @@
 mod answers;
 mod feeding;
 mod fixtures;
+mod memory;
 mod sources;
 
 use crate::{Fault, FaultKind, HeaderError, laws};
