@@ -1,8 +1,10 @@
 //! Headers in words of four bytes, with the answers that the format gives them.
 
 mod answers;
+mod cuts;
 mod feeding;
 mod fixtures;
+mod plain;
 mod sources;
 
 use crate::{Fault, FaultKind, HeaderError, laws};
