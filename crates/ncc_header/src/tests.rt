@@ -1,9 +1,11 @@
 //! Headers in words of four bytes, with the answers that the format gives them.
 
 mod answers;
+mod cuts;
 mod feeding;
 mod fixtures;
 mod memory;
+mod plain;
 mod sources;
 
 use crate::{Fault, FaultKind, HeaderError, laws};

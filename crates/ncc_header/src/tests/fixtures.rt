@@ -111,24 +111,30 @@ fn var(alloc: Global, text: &[u8], xtype: XType) -> Result<Var, AllocError> {
     })
 }
 
-/// A header that says nothing but this.
-fn bare(alloc: Global, version: Version, count: Count, length: u64) -> Header {
+/// A schema with no dimension, no attribute and no variable.
+fn bare(alloc: Global, version: Version, count: Count) -> Schema {
+    Schema {
+        version,
+        count,
+        dims: Seq::new(alloc),
+        gatts: Seq::new(alloc),
+        vars: Seq::new(alloc),
+    }
+}
+
+/// A header without marks.
+fn header(alloc: Global, schema: Schema, places: Seq<VarPlace>, length: u64) -> Header {
     Header {
-        schema: Schema {
-            version,
-            count,
-            dims: Seq::new(alloc),
-            gatts: Seq::new(alloc),
-            vars: Seq::new(alloc),
-        },
-        places: Seq::new(alloc),
+        schema,
+        places,
         length,
         marks: Seq::new(alloc),
     }
 }
 
 pub fn empty_header(alloc: Global) -> Header {
-    bare(alloc, Version::V1, Count::Known(0), 32)
+    let schema = bare(alloc, Version::V1, Count::Known(0));
+    header(alloc, schema, Seq::new(alloc), 32)
 }
 
 /// The header with one mark.
@@ -139,23 +145,17 @@ pub fn marked(alloc: Global, header: Header, mark: Mark) -> Result<Header, Alloc
     })
 }
 
-/// The header of the variable short v over the dimension.
+/// The schema of the variable short v over the dimension.
 fn one_short(
     alloc: Global,
-    header: Header,
+    version: Version,
+    count: Count,
     dim: Dim,
-    place: VarPlace,
-) -> Result<Header, AllocError> {
-    let schema = Schema {
+) -> Result<Schema, AllocError> {
+    Ok(Schema {
         dims: only(alloc, dim)?,
         vars: only(alloc, var(alloc, b"v", XType::Short)?)?,
-        ..header.schema
-    };
-    Ok(Header {
-        schema,
-        places: only(alloc, place)?,
-        length: header.length,
-        marks: header.marks,
+        ..bare(alloc, version, count)
     })
 }
 
@@ -171,8 +171,8 @@ pub fn fixed_header(
         begin: length,
         begin_at,
     };
-    let header = bare(alloc, version, Count::Known(0), length);
-    one_short(alloc, header, dim(alloc, b"x", 3)?, place)
+    let schema = one_short(alloc, version, Count::Known(0), dim(alloc, b"x", 3)?)?;
+    Ok(header(alloc, schema, only(alloc, place)?, length))
 }
 
 pub fn records_header(alloc: Global) -> Result<Header, AllocError> {
@@ -181,8 +181,8 @@ pub fn records_header(alloc: Global) -> Result<Header, AllocError> {
         begin: 80,
         begin_at: 76,
     };
-    let header = bare(alloc, Version::V1, Count::Known(3), 80);
-    one_short(alloc, header, dim(alloc, b"t", 0)?, place)
+    let schema = one_short(alloc, Version::V1, Count::Known(3), dim(alloc, b"t", 0)?)?;
+    Ok(header(alloc, schema, only(alloc, place)?, 80))
 }
 
 fn two_vars(alloc: Global) -> Result<Seq<Var>, AllocError> {
@@ -204,19 +204,17 @@ fn two_places(alloc: Global) -> Result<Seq<VarPlace>, AllocError> {
     Ok(Seq::from_vec(places))
 }
 
-pub fn two_record_variables_header(alloc: Global) -> Result<Header, AllocError> {
-    let header = bare(alloc, Version::V1, Count::Known(2), 116);
-    let schema = Schema {
+fn two_record_variables(alloc: Global) -> Result<Schema, AllocError> {
+    Ok(Schema {
         dims: only(alloc, dim(alloc, b"t", 0)?)?,
         vars: two_vars(alloc)?,
-        ..header.schema
-    };
-    Ok(Header {
-        schema,
-        places: two_places(alloc)?,
-        length: header.length,
-        marks: header.marks,
+        ..bare(alloc, Version::V1, Count::Known(2))
     })
+}
+
+pub fn two_record_variables_header(alloc: Global) -> Result<Header, AllocError> {
+    let schema = two_record_variables(alloc)?;
+    Ok(header(alloc, schema, two_places(alloc)?, 116))
 }
 
 fn title(alloc: Global) -> Result<Attr, AllocError> {
@@ -228,18 +226,16 @@ fn title(alloc: Global) -> Result<Attr, AllocError> {
     })
 }
 
-pub fn titled_header(alloc: Global) -> Result<Header, AllocError> {
-    let header = bare(alloc, Version::V1, Count::Known(0), 60);
-    let schema = Schema {
+fn titled(alloc: Global) -> Result<Schema, AllocError> {
+    Ok(Schema {
         gatts: only(alloc, title(alloc)?)?,
-        ..header.schema
-    };
-    Ok(Header {
-        schema,
-        places: header.places,
-        length: header.length,
-        marks: header.marks,
+        ..bare(alloc, Version::V1, Count::Known(0))
     })
+}
+
+pub fn titled_header(alloc: Global) -> Result<Header, AllocError> {
+    let schema = titled(alloc)?;
+    Ok(header(alloc, schema, Seq::new(alloc), 60))
 }
 
 pub fn fault(kind: FaultKind, offset: u64) -> HeaderError {
