@@ -5,85 +5,99 @@ use crate::{Decoder, FaultKind, Fed, HeaderError};
 use std::process::Abort;
 use std::test::*;
 
-/// Feeds the bytes one by one, of which each but the last of the header leaves more to come.
-fn feed_bytes(rt: &impl Abort, mut decoder: Decoder, bytes: &[u8], length: usize) {
+/// The first 27 bytes of the header of nothing.
+const MOST_OF_EMPTY: [u8; 27] = [
+    0x43, 0x44, 0x46, 1, 0, 0, 0, 0, 0, 0, 0, 0, 0, 0, 0, 0, 0, 0, 0, 0, 0, 0, 0, 0, 0, 0, 0,
+];
+
+/// The first 18 bytes of the header of a dimension x.
+const BEFORE_NAME: [u8; 18] = [
+    0x43, 0x44, 0x46, 1, 0, 0, 0, 0, 0, 0, 0, 0x0a, 0, 0, 0, 1, 0, 0,
+];
+
+/// The decoder answers this to the piece.
+fn feeds(rt: &impl Abort, decoder: &mut Decoder, piece: &[u8], answer: Result<Fed, HeaderError>) {
+    assert!(rt; decoder.feed(piece) == answer);
+}
+
+/// The decoder wants so many bytes.
+fn wants(rt: &impl Abort, decoder: &Decoder, number: u64) {
+    assert_eq!(rt; decoder.wants(), number);
+}
+
+/// Without a byte more, the input has this fault.
+fn finishes(rt: &impl Abort, decoder: Decoder, error: HeaderError) {
+    assert!(rt; decoder.finish() == Err(error));
+}
+
+/// Feeds the bytes one by one: each but the last of the header leaves more to come.
+fn feed_bytes(rt: &impl Abort, decoder: &mut Decoder, bytes: &[u8], length: usize) {
     for (i, byte) in bytes.iter().enumerate().take(length) {
-        let fed = if i < length - 1 {
-            Fed::More
-        } else {
-            Fed::Done(1)
-        };
-        assert!(rt; decoder.feed(&[*byte]) == Ok(fed), "at {i}");
+        let last = i == length - 1;
+        let fed = if last { Fed::Done(1) } else { Fed::More };
+        feeds(rt, decoder, &[*byte], Ok(fed));
     }
 }
 
+#[test]
+fn bytes_one_by_one(rt: HostRuntime) -> Result<(), Fail> {
+    let bytes = bytes_of(rt.alloc(), &FIXED)?;
+    feed_bytes(&rt, &mut Decoder::new(rt.alloc(), LIMIT), &bytes, 80);
+    Ok(())
+}
+
 /// Feeds all of the bytes at once, and then once more.
-fn feed_twice(rt: &impl Abort, mut decoder: Decoder, bytes: &[u8], length: usize) {
-    assert!(rt; decoder.feed(bytes) == Ok(Fed::Done(length)));
-    assert!(rt; decoder.feed(bytes) == Ok(Fed::Done(0)));
-    assert!(rt; decoder.wants() == 0);
+fn feed_twice(rt: &impl Abort, decoder: &mut Decoder, bytes: &[u8], length: usize) {
+    feeds(rt, decoder, bytes, Ok(Fed::Done(length)));
+    feeds(rt, decoder, bytes, Ok(Fed::Done(0)));
+    wants(rt, decoder, 0);
 }
 
 #[test]
-fn pieces(rt: HostRuntime) -> Result<(), Fail> {
+fn bytes_at_once(rt: HostRuntime) -> Result<(), Fail> {
     let bytes = bytes_of(rt.alloc(), &FIXED)?;
-    feed_bytes(&rt, Decoder::new(rt.alloc(), LIMIT), &bytes, 80);
-    feed_twice(&rt, Decoder::new(rt.alloc(), LIMIT), &bytes, 80);
+    feed_twice(&rt, &mut Decoder::new(rt.alloc(), LIMIT), &bytes, 80);
     Ok(())
 }
 
 #[test]
-fn other_letters(rt: HostRuntime) {
+fn another_letter(rt: HostRuntime) {
     let mut decoder = Decoder::new(rt.alloc(), LIMIT);
-    assert!(rt; decoder.feed(b"X") == Ok(Fed::More));
-    assert!(rt; decoder.finish() == Err(fault(FaultKind::EndsEarly, 0)));
-
-    let bad = Err(fault(FaultKind::BadMagic, 0));
-    let mut decoder = Decoder::new(rt.alloc(), LIMIT);
-    assert!(rt; decoder.feed(b"X") == Ok(Fed::More));
-    assert!(rt; decoder.feed(b"DF") == bad);
-    assert!(rt; decoder.feed(b"CDF") == bad);
-    assert!(rt; decoder.wants() == 0);
+    feeds(&rt, &mut decoder, b"X", Ok(Fed::More));
+    finishes(&rt, decoder, fault(FaultKind::EndsEarly, 0));
 }
 
-/// Feeds the bytes up to one before the end, and then the last.
-fn feed_last(rt: &impl Abort, mut decoder: Decoder, bytes: &[u8], last: Result<Fed, HeaderError>) {
-    let (front, back) = bytes.split_at(bytes.len().saturating_sub(1));
-    assert!(rt; decoder.feed(front) == Ok(Fed::More));
-    assert!(rt; decoder.feed(back) == last);
+#[test]
+fn a_fault_stays(rt: HostRuntime) {
+    let bad = fault(FaultKind::BadMagic, 0);
+    let mut decoder = Decoder::new(rt.alloc(), LIMIT);
+    feeds(&rt, &mut decoder, b"X", Ok(Fed::More));
+    feeds(&rt, &mut decoder, b"DF", Err(bad));
+    feeds(&rt, &mut decoder, b"CDF", Err(bad));
+    wants(&rt, &decoder, 0);
 }
 
 #[test]
 fn limits(rt: HostRuntime) {
-    // The header of nothing, but for its last 4 bytes.
-    let mut front = [0; 28];
-    front[..4].copy_from_slice(b"CDF\x01");
+    let mut decoder = Decoder::new(rt.alloc(), 31);
+    feeds(&rt, &mut decoder, &MOST_OF_EMPTY, Ok(Fed::More));
     let long = fault(FaultKind::HeaderTooLong, 28);
-    feed_last(&rt, Decoder::new(rt.alloc(), 31), &front, Err(long));
+    feeds(&rt, &mut decoder, &[0], Err(long));
 }
 
 #[test]
 fn tiny_limits(rt: HostRuntime) {
     let long = fault(FaultKind::HeaderTooLong, 0);
-    let mut decoder = Decoder::new(rt.alloc(), 2);
-    assert!(rt; decoder.feed(b"") == Err(long));
-    assert!(rt; Decoder::new(rt.alloc(), 2).finish() == Err(long));
-}
-
-/// How many bytes are wanted at first, after 18 bytes and after 21.
-fn wants_at(rt: &impl Abort, mut decoder: Decoder, bytes: &[u8]) {
-    let (front, back) = bytes.split_at(bytes.len().min(18));
-    let (next, _behind) = back.split_at(back.len().min(3));
-    assert!(rt; decoder.wants() == 3);
-    assert!(rt; decoder.feed(front) == Ok(Fed::More));
-    assert!(rt; decoder.wants() == 2);
-    assert!(rt; decoder.feed(next) == Ok(Fed::More));
-    assert!(rt; decoder.wants() == 3);
+    feeds(&rt, &mut Decoder::new(rt.alloc(), 2), b"", Err(long));
+    finishes(&rt, Decoder::new(rt.alloc(), 2), long);
 }
 
 #[test]
-fn bytes_wanted(rt: HostRuntime) -> Result<(), Fail> {
-    let bytes = bytes_of(rt.alloc(), &FIXED)?;
-    wants_at(&rt, Decoder::new(rt.alloc(), LIMIT), &bytes);
-    Ok(())
+fn bytes_wanted(rt: HostRuntime) {
+    let mut decoder = Decoder::new(rt.alloc(), LIMIT);
+    wants(&rt, &decoder, 3);
+    feeds(&rt, &mut decoder, &BEFORE_NAME, Ok(Fed::More));
+    wants(&rt, &decoder, 2);
+    feeds(&rt, &mut decoder, &[0, 1, 0x78], Ok(Fed::More));
+    wants(&rt, &decoder, 3);
 }
