@@ -1,12 +1,7 @@
-//! Headers in words of four bytes, with the answers that the format gives them.
+//! The text of a fault, the laws, and decoding without memory. Rows of headers with their answers
+//! are in the tests of the encoder and of `ncc list`.
 
-mod answers;
-mod cuts;
-mod feeding;
-mod fixtures;
 mod memory;
-mod plain;
-mod sources;
 
 use crate::{Fault, FaultKind, HeaderError, laws};
 use std::test::*;
