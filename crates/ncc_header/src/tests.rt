@@ -1,7 +1,10 @@
-//! The text of a fault, the laws, and decoding without memory. Rows of headers with their answers
-//! are in the tests of the encoder and of `ncc list`.
+//! The text of a fault, the laws, decoding without memory, and headers that are cut or changed.
+//! Rows of headers with their answers are in the tests of the encoder and of `ncc list`.
 
+mod cuts;
+mod fixtures;
 mod memory;
+mod plain;
 
 use crate::{Fault, FaultKind, HeaderError, laws};
 use std::test::*;
