@@ -1,9 +1,11 @@
-//! The text of a fault, the laws, decoding without memory, and headers that are cut or changed.
+//! The text of a fault, the laws, decoding without memory, headers in pieces, and headers that
+//! are cut or changed.
 //! Rows of headers with their answers are in the tests of the encoder and of `ncc list`.
 
 mod cuts;
 mod fixtures;
 mod memory;
+mod pieces;
 mod plain;
 
 use crate::{Fault, FaultKind, HeaderError, laws};
