@@ -15,18 +15,12 @@ use Rattle.ncc_header.proofs.OneField.{field_too_long}
 
 -- ---- bytes that are taken
 
-takes_none : (r : Reading) → Takes r r []
-takes_none r = record { limit = refl; goes_on = λ more. refl; long = omega arith }
-
 takes_both : (old mid new : Reading) (a b : List ℕ) → Takes old mid a → Takes mid new b → Takes old new (a ++ b)
 takes_both old mid new a b p q = record {
   limit = q.limit ∙ p.limit;
   goes_on = λ more. ap (onward old) (append_assoc a b more) ∙ p.goes_on (b ++ more) ∙ q.goes_on more;
   long = omega (arith, p.long, q.long, length-append a b);
 }
-
-pub went_nowhere : (r : Reading) (piece : List ℕ) → Went r r piece 0
-went_nowhere r piece = record { within = omega arith; takes = takes_none r }
 
 -- used bytes, and then n more
 take_more : (used n : ℕ) (piece : List ℕ) → used ≤ length piece → take used piece ++ take n (drop used piece) ≡ take (used + n) piece
