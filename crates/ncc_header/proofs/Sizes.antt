@@ -21,11 +21,6 @@ use Rattle.ncc_header.specs.Schema.{Place}
 use Rattle.ncc_header.specs.Header.{zeros, counted, canon_name, canon_head, canon_list, canon_dim, canon_attr, canon_dimids, canon_var, canon}
 use Rattle.ncc_header.specs.Names.{list_size, before, attrs_in, canon_unplaced, vars_at}
 
-pub length-canon_name : (v : Version) (n : List ℕ) → length (canon_name v n) ≡ count_width_of v + length n + padding_of (length n)
-length-canon_name v n =
-    let w = count_width_of v in
-    omega (arith, length-append (big_endian w (length n)) (n ++ zeros (padding_of (length n))), length-append n (zeros (padding_of (length n))), length-big_endian w (length n), length-replicate {A = ℕ} (padding_of (length n)) 0)
-
 pub length-canon_head : (v : Version) (tag n : ℕ) → length (canon_head v tag n) ≡ list_size v
 length-canon_head v tag zero = let w = count_width_of v in omega (arith, length-append (big_endian 4 0) (big_endian w 0), length-big_endian 4 0, length-big_endian w 0)
 length-canon_head v tag (suc n) = let w = count_width_of v in omega (arith, length-append (big_endian 4 tag) (big_endian w (suc n)), length-big_endian 4 tag, length-big_endian w (suc n))
