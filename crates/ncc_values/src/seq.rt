@@ -1,6 +1,6 @@
 //! A list that owns its elements, seen by contracts as that list.
 
-ghost use Rattle.std.specs.Prelude.{◌≡◌, ◌+◌, ◌*◌, ◌/◌, ◌%◌, ◌≤◌, ◌↔◌, [], ◌++◌, length, take, drop, IsTrue, OnOk, OnErr};
+ghost use Rattle.std.specs.Prelude.{◌≡◌, ◌+◌, ◌*◌, ◌/◌, ◌%◌, ◌<◌, ◌≤◌, ◌↔◌, [], ◌++◌, length, slice_set, take, drop, IsTrue, OnOk, OnErr};
 
 use crate::elements::{push_elements, put_elements};
 use crate::external::External;
@@ -62,6 +62,16 @@ impl<T> Seq<T> {
         ensures { IsTrue result ↔ (self.now ≡ []) }
     {
         self.items.is_empty()
+    }
+}
+
+impl<T: Copy> Seq<T> {
+    /// Puts the value in the place of an element.
+    pub fn set(&mut self, index: usize, value: T)
+        requires { index < length self.old }
+        ensures { self.new ≡ slice_set self.old index value }
+    {
+        self.items[index] = value;
     }
 }
 

@@ -1,0 +1,14 @@
+mod Membership
+mod RowMajor
+mod Own
+mod Searching
+mod Counting
+mod Products
+mod Summing
+mod Sharing
+mod Indexing
+mod TestsOfRules
+mod FirstFaults
+mod Laying
+mod OneFault
+mod Lengthening

@@ -1,0 +1,8 @@
+pub mod Sizes
+pub mod Extents
+pub mod Rules
+pub mod Faults
+pub mod Bounds
+pub mod Elements
+pub mod Placed
+pub mod Standard

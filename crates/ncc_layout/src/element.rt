@@ -1,0 +1,69 @@
+//! Where an element lies.
+
+ghost use Rattle.std.specs.Prelude.{◌↔◌, ◌<◌, ◌^◌, ◌≡◌, IsTrue};
+ghost use Rattle.ncc_values.specs.XType.{size_of};
+ghost use Rattle.ncc_layout.specs.Elements.{row_major, offset_in, Inside, IsPlace};
+
+use crate::placed_file::Placed;
+use crate::placed_var::PlacedVar;
+
+/// Are there as many indices as lengths, each below its own?
+fn is_inside(lengths: &[u64], index: &[u64]) -> bool
+    ensures { IsTrue result ↔ Inside lengths.now index.now }
+{
+    if lengths.len() != index.len() {
+        return false;
+    }
+    for k in 0..lengths.len() {
+        if index[k] >= lengths[k] {
+            return false;
+        }
+    }
+    true
+}
+
+/// The row-major number of an index list, the last index fastest.
+fn row_major(lengths: &[u64], index: &[u64]) -> u64
+    requires inside { Inside lengths.now index.now }
+    requires fits { row_major lengths.now index.now < 2 ^ 64 }
+    ensures { result ≡ row_major lengths.now index.now }
+{
+    let mut number = 0;
+    for k in 0..index.len() {
+        number = number * lengths[k] + index[k];
+    }
+    number
+}
+
+/// How far from its variable's begin an element lies.
+fn offset_in(var: &PlacedVar, record_size: u64, index: &[u64]) -> u64
+    requires inside { Inside var.now.shape index.now }
+    requires fits { offset_in record_size (size_of var.now.xtype) var.now.extent.is_record var.now.shape index.now < 2 ^ 64 }
+    ensures { result ≡ offset_in record_size (size_of var.now.xtype) var.now.extent.is_record var.now.shape index.now }
+{
+    let lengths = var.shape.as_slice();
+    let size = var.xtype.size() as u64;
+    if !var.extent.is_record {
+        return row_major(lengths, index) * size;
+    }
+    match index {
+        [] => 0,
+        [record, others @ ..] => record * record_size + row_major(&lengths[1..], others) * size,
+    }
+}
+
+/// The offset of an element's first byte, by the number of its variable and an index for each of
+/// its dimensions; None where there is no such variable or element.
+pub fn place(placed: &Placed, var: usize, index: &[u64]) -> Option<u64>
+    ensures { IsPlace placed.now.record_size placed.now.vars.items var index.now result }
+{
+    let vars = placed.vars();
+    if var >= vars.len() {
+        return None;
+    }
+    let var = &vars[var];
+    if !is_inside(var.shape.as_slice(), index) {
+        return None;
+    }
+    Some(var.extent.begin + offset_in(var, placed.record_size(), index))
+}

@@ -1,0 +1,26 @@
+//! What the layout rules say of elements and of faults, whatever program judges them.
+
+ghost use Rattle.std.specs.Prelude.{◌≡◌, ℕ, List};
+ghost use Rattle.ncc_header.specs.declared.schema.Schema.{Schema};
+ghost use Rattle.ncc_header.specs.Schema.{Place};
+ghost use Rattle.ncc_layout.specs.declared.fault.LayoutFaultKind.{LayoutFaultKind};
+ghost use Rattle.ncc_layout.specs.Sizes.{record_size_of};
+ghost use Rattle.ncc_layout.specs.Rules.{IsPlaced};
+ghost use Rattle.ncc_layout.specs.Faults.{FirstFault};
+ghost use Rattle.ncc_layout.specs.Elements.{placed_vars, Own};
+
+/// Where all layout rules hold, every element of every variable and record has bytes of its own,
+/// past the header, inside the file and shared with no other.
+pub fn placed_elements_are_apart()
+    ensures { (s : Schema) (places : List Place) (header file : ℕ) → IsPlaced s places header file → Own header file (record_size_of s) (placed_vars s places file) }
+{}
+
+/// Where all layout rules hold, there is no fault.
+pub fn placed_or_fault()
+    ensures { (s : Schema) (places : List Place) (header file : ℕ) (kind : LayoutFaultKind) (number : ℕ) → IsPlaced s places header file → FirstFault s places header file kind number → ⊥ }
+{}
+
+/// There is one first fault at most, and of one variable.
+pub fn one_fault()
+    ensures { (s : Schema) (places : List Place) (header file : ℕ) (kind other : LayoutFaultKind) (number also : ℕ) → FirstFault s places header file kind number → FirstFault s places header file other also → (kind ≡ other) × (number ≡ also) }
+{}

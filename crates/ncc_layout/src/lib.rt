@@ -1,0 +1,27 @@
+//! Where the elements of a netCDF classic file lie: sizes, places, and the rules by which no two share a byte.
+#![tactic(auto)]
+
+mod bounds;
+mod element;
+mod extent;
+mod fault;
+mod judging;
+pub mod laws;
+mod overlap;
+mod placed_file;
+mod placed_var;
+mod placing;
+mod rules;
+mod size_list;
+mod sizing;
+#[cfg(test)]
+mod tests;
+
+pub use element::place;
+pub use extent::Extent;
+pub use fault::{LayoutFault, LayoutFaultKind, PlaceError, SizeError};
+pub use placed_file::Placed;
+pub use placed_var::PlacedVar;
+pub use placing::placed;
+pub use size_list::Sizes;
+pub use sizing::sizes;

@@ -1,0 +1,5 @@
+//! Files by their words, and the layout that they have.
+
+mod fixtures;
+mod memory;
+mod rows;

@@ -1,0 +1,220 @@
+//! Headers in words of four bytes, and what becomes of them.
+
+use crate::{
+    LayoutFault, LayoutFaultKind, PlaceError, Placed, SizeError, Sizes, place, placed, sizes,
+};
+use ncc_header::{
+    Count, Header, HeaderError, Schema, Var, VarPlace, Version, XType, decode, legal, sound,
+};
+use ncc_values::Seq;
+use std::alloc::{AllocError, Global};
+
+/// The usual limit.
+const LIMIT: u64 = 67_108_864;
+
+/// The variable short v(x), with x of length 3; the begin is word 19, at offset 76.
+pub const FIXED: [u32; 20] = [
+    0x43444601, 0, 0x0a, 1, 1, 0x78000000, 3, 0, 0, 0x0b, 1, 1, 0x76000000, 1, 0, 0, 0, 3, 8, 80,
+];
+
+/// The variable short v(t) of 3 records.
+pub const RECORDS: [u32; 20] = [
+    0x43444601, 3, 0x0a, 1, 1, 0x74000000, 0, 0, 0, 0x0b, 1, 1, 0x76000000, 1, 0, 0, 0, 3, 4, 80,
+];
+
+/// The variables byte a(t) and short b(t) of 2 records; b's begin is word 28, at offset 112.
+pub const TWO_RECORD_VARIABLES: [u32; 29] = [
+    0x43444601, 2, 0x0a, 1, 1, 0x74000000, 0, 0, 0, 0x0b, 2, 1, 0x61000000, 1, 0, 0, 0, 1, 4, 116,
+    1, 0x62000000, 1, 0, 0, 0, 3, 4, 120,
+];
+
+/// The variable short m(y, x), with y of length 2 and x of length 3.
+pub const TABLE: [u32; 24] = [
+    0x43444601, 0, 0x0a, 2, 1, 0x79000000, 2, 1, 0x78000000, 3, 0, 0, 0x0b, 1, 1, 0x6d000000, 2, 0,
+    1, 0, 0, 3, 12, 96,
+];
+
+/// The variable byte a(t) without records and the scalar byte s, with their begins at words 19 and
+/// 27, at offsets 76 and 108.
+pub const RECORD_AND_SCALAR: [u32; 28] = [
+    0x43444601, 0, 0x0a, 1, 1, 0x74000000, 0, 0, 0, 0x0b, 2, 1, 0x61000000, 1, 0, 0, 0, 1, 4, 112,
+    1, 0x73000000, 0, 0, 0, 1, 4, 113,
+];
+
+/// The scalars byte a and byte b, which stand in the other order.
+pub const TWO_SCALARS: [u32; 24] = [
+    0x43444601, 0, 0, 0, 0, 0, 0x0b, 2, 1, 0x61000000, 0, 0, 0, 1, 4, 100, 1, 0x62000000, 0, 0, 0,
+    1, 4, 96,
+];
+
+/// The variable double v(x, y), with x of length 2^31 and y of length 2^30, in CDF-2.
+pub const TOO_LARGE: [u32; 25] = [
+    0x43444602, 0, 0x0a, 2, 1, 0x78000000, 0x80000000, 1, 0x79000000, 0x40000000, 0, 0, 0x0b, 1, 1,
+    0x76000000, 2, 0, 1, 0, 0, 6, 0, 0, 100,
+];
+
+/// The variable double v(x, y), with x of length 2^62 and y of length 4, in CDF-5.
+pub const TOO_LARGE_IN_CDF_5: [u32; 39] = [
+    0x43444605, 0, 0, 0x0a, 0, 2, 0, 1, 0x78000000, 0x40000000, 0, 0, 1, 0x79000000, 0, 4, 0, 0, 0,
+    0x0b, 0, 1, 0, 1, 0x76000000, 0, 2, 0, 0, 0, 1, 0, 0, 0, 6, 0, 0, 0, 156,
+];
+
+/// What is said of a file.
+#[derive(Clone, Copy, Debug, PartialEq, Eq)]
+pub enum Said {
+    /// All rules hold, and there are so many records.
+    Records(u64),
+    Fault(LayoutFault),
+    NoHeader,
+    Memory,
+}
+
+pub fn fault(kind: LayoutFaultKind, offset: u64) -> Said {
+    Said::Fault(LayoutFault { kind, offset })
+}
+
+/// The bytes of words.
+fn bytes_of(alloc: Global, words: &[u32]) -> Result<Vec<u8>, AllocError> {
+    let mut bytes = Vec::new(alloc);
+    for word in words {
+        bytes.extend_from_slice(&word.to_be_bytes())?;
+    }
+    Ok(bytes)
+}
+
+fn header_of(alloc: Global, words: &[u32]) -> Result<Header, HeaderError> {
+    let bytes = bytes_of(alloc, words)?;
+    decode(alloc, &bytes, LIMIT)
+}
+
+fn too_large(places: &[VarPlace], variable: usize) -> Said {
+    match places.get(variable) {
+        Some(place) => fault(LayoutFaultKind::TooLarge, place.begin_at),
+        None => Said::NoHeader,
+    }
+}
+
+fn said_of(answer: Result<Placed, PlaceError>) -> Said {
+    match answer {
+        Ok(placed) => Said::Records(placed.records()),
+        Err(PlaceError::Fault(fault)) => Said::Fault(fault),
+        Err(PlaceError::Memory) => Said::Memory,
+    }
+}
+
+/// What is said of a file of this length with this header.
+pub fn judged(alloc: Global, header: &Header, length: u64) -> Said {
+    if !legal(&header.schema, header.places.as_slice()) {
+        return Said::NoHeader;
+    }
+    match sizes(alloc, &header.schema) {
+        Ok(sizes) => said_of(placed(alloc, header, &sizes, length)),
+        Err(SizeError::TooLarge(variable)) => too_large(header.places.as_slice(), variable),
+        Err(SizeError::Memory) => Said::Memory,
+    }
+}
+
+/// What is said of a file of this length that begins with these words.
+pub fn said_of_file(alloc: Global, words: &[u32], length: u64) -> Said {
+    match header_of(alloc, words) {
+        Ok(header) => judged(alloc, &header, length),
+        Err(HeaderError::Memory) => Said::Memory,
+        Err(_) => Said::NoHeader,
+    }
+}
+
+/// The variable double d(x) in CDF-2, with x of this length.
+pub fn doubles(length: u32) -> [u32; 21] {
+    [
+        0x43444602, 0, 0x0a, 1, 1, 0x78000000, length, 0, 0, 0x0b, 1, 1, 0x64000000, 1, 0, 0, 0, 6,
+        0, 0, 84,
+    ]
+}
+
+/// The place of an element of a file of this length that begins with these words.
+pub fn place_in(
+    alloc: Global,
+    words: &[u32],
+    length: u64,
+    variable: usize,
+    index: &[u64],
+) -> Option<u64> {
+    match header_of(alloc, words) {
+        Ok(header) => place(&placed_of(alloc, &header, length)?, variable, index),
+        Err(_) => None,
+    }
+}
+
+/// The placed file, where all rules hold.
+fn placed_of(alloc: Global, header: &Header, length: u64) -> Option<Placed> {
+    if !legal(&header.schema, header.places.as_slice()) {
+        return None;
+    }
+    match sizes(alloc, &header.schema) {
+        Ok(sizes) => placed(alloc, header, &sizes, length).ok(),
+        Err(_) => None,
+    }
+}
+
+/// Of the first variable the slab and its padded size, and the size of a record.
+pub fn sizes_of(alloc: Global, words: &[u32]) -> Option<(u64, u64, u64)> {
+    match header_of(alloc, words) {
+        Ok(header) if sound(&header.schema) => first_sizes(&sizes(alloc, &header.schema).ok()?),
+        _ => None,
+    }
+}
+
+fn first_sizes(sizes: &Sizes) -> Option<(u64, u64, u64)> {
+    let slab = *sizes.slabs.as_slice().first()?;
+    let rounded = *sizes.rounded.as_slice().first()?;
+    Some((slab, rounded, sizes.record_size))
+}
+
+/// Scalar bytes, each before the one before it in the header, but the twin at the place of that.
+fn scalars(alloc: Global, count: u16, twin: Option<u16>) -> Result<Header, AllocError> {
+    let mut vars = Vec::new(alloc);
+    let mut places = Vec::new(alloc);
+    for number in 0..count {
+        let before = (count - number) as u64;
+        let begin = if twin == Some(number) { 101 } else { 100 };
+        vars.push(scalar(alloc))?;
+        places.push(VarPlace {
+            vsize: 4,
+            begin: begin + before,
+            begin_at: number as u64,
+        })?;
+    }
+    Ok(header_with(alloc, Seq::from_vec(vars), Seq::from_vec(places)))
+}
+
+fn scalar(alloc: Global) -> Var {
+    Var {
+        name: Seq::new(alloc),
+        dims: Seq::new(alloc),
+        attrs: Seq::new(alloc),
+        xtype: XType::Byte,
+    }
+}
+
+fn header_with(alloc: Global, vars: Seq<Var>, places: Seq<VarPlace>) -> Header {
+    Header {
+        schema: Schema {
+            version: Version::V1,
+            count: Count::Known(0),
+            dims: Seq::new(alloc),
+            gatts: Seq::new(alloc),
+            vars,
+        },
+        places,
+        length: 100,
+        marks: Seq::new(alloc),
+    }
+}
+
+/// What is said of so many scalar bytes in descending order.
+pub fn said_of_scalars(alloc: Global, count: u16, twin: Option<u16>) -> Said {
+    match scalars(alloc, count, twin) {
+        Ok(header) => judged(alloc, &header, count as u64 + 102),
+        Err(_) => Said::Memory,
+    }
+}

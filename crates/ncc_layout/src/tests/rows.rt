@@ -1,0 +1,114 @@
+//! What is said of files by their headers and their lengths.
+
+use super::fixtures::*;
+use crate::LayoutFaultKind::*;
+use std::test::*;
+
+#[test]
+fn fixed_variables(rt: HostRuntime) {
+    assert!(rt; said_of_file(rt.alloc(), &FIXED, 86) == Said::Records(0));
+    assert!(rt; said_of_file(rt.alloc(), &FIXED, 85) == fault(Truncated, 76));
+    let mut words = FIXED;
+    words[19] = 79;
+    assert!(rt; said_of_file(rt.alloc(), &words, 88) == fault(InHeader, 76));
+}
+
+#[test]
+fn records_that_end_the_file(rt: HostRuntime) {
+    assert!(rt; said_of_file(rt.alloc(), &RECORDS, 86) == Said::Records(3));
+    assert!(rt; said_of_file(rt.alloc(), &RECORDS, 85) == fault(Truncated, 76));
+    assert!(rt; said_of_file(rt.alloc(), &TWO_RECORD_VARIABLES, 130) == Said::Records(2));
+    assert!(rt; said_of_file(rt.alloc(), &TWO_RECORD_VARIABLES, 129) == fault(Truncated, 112));
+    assert!(rt; said_of_file(rt.alloc(), &TWO_RECORD_VARIABLES, 124) == fault(Truncated, 76));
+}
+
+#[test]
+fn streaming_counts(rt: HostRuntime) {
+    let mut words = TWO_RECORD_VARIABLES;
+    words[1] = 0xffffffff;
+    assert!(rt; said_of_file(rt.alloc(), &words, 131) == Said::Records(2));
+    assert!(rt; said_of_file(rt.alloc(), &words, 129) == Said::Records(1));
+    assert!(rt; said_of_file(rt.alloc(), &words, 121) == Said::Records(0));
+    let mut fixed = FIXED;
+    fixed[1] = 0xffffffff;
+    assert!(rt; said_of_file(rt.alloc(), &fixed, 88) == Said::Records(0));
+}
+
+#[test]
+fn records_that_interleave(rt: HostRuntime) {
+    let mut words = TWO_RECORD_VARIABLES;
+    words[28] = 116;
+    assert!(rt; said_of_file(rt.alloc(), &words, 132) == fault(Overlap, 112));
+    words[28] = 123;
+    assert!(rt; said_of_file(rt.alloc(), &words, 132) == fault(RecordWindow, 112));
+    words[28] = 122;
+    assert!(rt; said_of_file(rt.alloc(), &words, 132) == Said::Records(2));
+    assert!(rt; said_of_file(rt.alloc(), &words, 131) == fault(Truncated, 112));
+}
+
+#[test]
+fn fixed_variables_and_records(rt: HostRuntime) {
+    let mut words = RECORD_AND_SCALAR;
+    assert!(rt; said_of_file(rt.alloc(), &words, 114) == fault(FixedAfterRecords, 108));
+    words[19] = 116;
+    words[27] = 112;
+    assert!(rt; said_of_file(rt.alloc(), &words, 113) == Said::Records(0));
+    assert!(rt; said_of_file(rt.alloc(), &words, 112) == fault(Truncated, 108));
+}
+
+#[test]
+fn variables_in_any_order(rt: HostRuntime) {
+    assert!(rt; said_of_file(rt.alloc(), &TWO_SCALARS, 101) == Said::Records(0));
+    assert!(rt; said_of_file(rt.alloc(), &TWO_SCALARS, 100) == fault(Truncated, 60));
+}
+
+#[test]
+fn sizes_that_are_too_large(rt: HostRuntime) {
+    assert!(rt; said_of_file(rt.alloc(), &TOO_LARGE, 200) == fault(TooLarge, 92));
+    assert!(rt; said_of_file(rt.alloc(), &TOO_LARGE_IN_CDF_5, 200) == fault(TooLarge, 148));
+}
+
+#[test]
+fn many_variables(rt: HostRuntime) {
+    assert!(rt; said_of_scalars(rt.alloc(), 2_000, None) == Said::Records(0));
+    assert!(rt; said_of_scalars(rt.alloc(), 2_000, Some(1_000)) == fault(Overlap, 1_000));
+}
+
+#[test]
+fn places_of_elements(rt: HostRuntime) {
+    assert!(rt; place_in(rt.alloc(), &TWO_RECORD_VARIABLES, 132, 1, &[1]) == Some(128));
+    assert!(rt; place_in(rt.alloc(), &RECORDS, 86, 0, &[2]) == Some(84));
+    assert!(rt; place_in(rt.alloc(), &RECORDS, 86, 0, &[3]) == None);
+    assert!(rt; place_in(rt.alloc(), &RECORDS, 86, 1, &[0]) == None);
+    assert!(rt; place_in(rt.alloc(), &TABLE, 108, 0, &[1, 2]) == Some(106));
+    assert!(rt; place_in(rt.alloc(), &TABLE, 108, 0, &[2, 0]) == None);
+    assert!(rt; place_in(rt.alloc(), &TABLE, 108, 0, &[1]) == None);
+}
+
+#[test]
+fn sizes_of_variables(rt: HostRuntime) {
+    assert!(rt; sizes_of(rt.alloc(), &FIXED) == Some((6, 8, 0)));
+    assert!(rt; sizes_of(rt.alloc(), &RECORDS) == Some((2, 4, 2)));
+    assert!(rt; sizes_of(rt.alloc(), &TWO_RECORD_VARIABLES) == Some((1, 4, 8)));
+    assert!(rt; sizes_of(rt.alloc(), &TABLE) == Some((12, 12, 0)));
+    let mut scalar = TWO_SCALARS;
+    scalar[7] = 1;
+    assert!(rt; sizes_of(rt.alloc(), &scalar) == Some((1, 4, 0)));
+}
+
+#[test]
+fn sizes_past_four_bytes(rt: HostRuntime) {
+    assert!(rt;
+        sizes_of(rt.alloc(), &doubles(536_870_911)) == Some((4_294_967_288, 4_294_967_288, 0))
+    );
+    assert!(rt;
+        sizes_of(rt.alloc(), &doubles(536_870_912)) == Some((4_294_967_296, 4_294_967_296, 0))
+    );
+}
+
+#[test]
+fn laws_are_there() {
+    crate::laws::placed_elements_are_apart();
+    crate::laws::placed_or_fault();
+    crate::laws::one_fault();
+}
