@@ -1,12 +1,16 @@
-//! The text of a fault, the laws, decoding without memory, headers in pieces, and headers that
-//! are cut or changed.
+//! The text of a fault, the laws, decoding without memory, headers in pieces and the answer to each
+//! piece, marks, places and names, sources that fail, and headers that are cut or changed.
 //! Rows of headers with their answers are in the tests of the encoder and of `ncc list`.
 
+mod answers;
 mod cuts;
-mod fixtures;
+mod feeding;
+pub mod fixtures;
 mod memory;
+mod names;
 mod pieces;
 mod plain;
+mod sources;
 
 use crate::{Fault, FaultKind, HeaderError, laws};
 use std::test::*;

@@ -8,6 +8,7 @@ use crate::legality::legal;
 use crate::schema::{Attr, Count, Dim, Schema, Var, VarPlace};
 use crate::sink::{Sink, WriteSink};
 use crate::source::{ReadSource, Source};
+use crate::tests::fixtures::{bytes_of, written};
 use ncc_values::{Seq, Values, Version, XType};
 use std::alloc::{AllocError, Global};
 use std::test::*;
@@ -22,15 +23,6 @@ const TITLE: [u32; 18] = [
     0x43444605, 0xffffffff, 0xffffffff, 0, 0, 0, 0x0c, 0, 1, 0, 5, 0x7469746c, 0x65000000, 2, 0, 5,
     0x68656c6c, 0x6f000000,
 ];
-
-/// The bytes of words.
-fn bytes_of(alloc: Global, words: &[u32]) -> Result<Vec<u8>, AllocError> {
-    let mut bytes = Vec::new(alloc);
-    for word in words {
-        bytes.extend_from_slice(&word.to_be_bytes())?;
-    }
-    Ok(bytes)
-}
 
 fn name(alloc: Global, text: &[u8]) -> Result<Seq<u8>, AllocError> {
     Ok(Seq::from_vec(text.to_vec(alloc)?))
@@ -81,18 +73,6 @@ fn title(alloc: Global) -> Result<Schema, AllocError> {
         gatts: Seq::from_vec(gatts),
         ..empty(alloc, Version::V5, Count::Streaming)
     })
-}
-
-/// The canonical header, or nothing where there is none.
-fn written(alloc: Global, schema: &Schema, places: &[VarPlace]) -> Option<Vec<u8>> {
-    if !legal(schema, places) {
-        return None;
-    }
-    let mut sink = WriteSink::new(Vec::new(alloc));
-    match encode(schema, places, &mut sink) {
-        Ok(()) => Some(sink.into_inner()),
-        Err(Failed) => None,
-    }
 }
 
 #[test]

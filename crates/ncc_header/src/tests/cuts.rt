@@ -2,24 +2,10 @@
 
 use super::fixtures::*;
 use super::plain::end_of;
-use crate::{
-    Fault, FaultKind, Header, HeaderError, Schema, VarPlace, WriteSink, decode, encode, legal,
-};
+use crate::{Fault, FaultKind, Header, HeaderError, decode};
 use std::alloc::{AllocError, Global};
 use std::process::Abort;
 use std::test::*;
-
-/// The canonical header, or nothing where there is none.
-fn written(alloc: Global, schema: &Schema, places: &[VarPlace]) -> Option<Vec<u8>> {
-    if !legal(schema, places) {
-        return None;
-    }
-    let mut sink = WriteSink::new(Vec::new(alloc));
-    match encode(schema, places, &mut sink) {
-        Ok(()) => Some(sink.into_inner()),
-        Err(_) => None,
-    }
-}
 
 /// Without marks, the header is written again as it was.
 fn comes_back<R: Abort + AllocGlobal>(rt: &R, input: &[u8], header: &Header) {

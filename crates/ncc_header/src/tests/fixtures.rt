@@ -1,5 +1,6 @@
-//! Headers in words of four bytes.
+//! Headers in words of four bytes, and helpers for their tests.
 
+use crate::{Fault, FaultKind, HeaderError, Schema, VarPlace, WriteSink, encode, legal};
 use std::alloc::{AllocError, Global};
 
 /// The usual limit.
@@ -56,4 +57,29 @@ pub fn records(alloc: Global) -> Result<Vec<u8>, AllocError> {
     let mut bytes = bytes_of(alloc, &RECORDS)?;
     bytes.extend_from_slice(&[0, 1, 0, 2, 0, 3])?;
     Ok(bytes)
+}
+
+/// The bytes of words, one of them changed.
+pub fn changed(alloc: Global, words: &[u32], at: usize, new: u8) -> Result<Vec<u8>, AllocError> {
+    let mut bytes = bytes_of(alloc, words)?;
+    if at < bytes.len() {
+        bytes[at] = new;
+    }
+    Ok(bytes)
+}
+
+pub fn fault(kind: FaultKind, offset: u64) -> HeaderError {
+    HeaderError::Fault(Fault { kind, offset })
+}
+
+/// The canonical header, or nothing where there is none.
+pub fn written(alloc: Global, schema: &Schema, places: &[VarPlace]) -> Option<Vec<u8>> {
+    if !legal(schema, places) {
+        return None;
+    }
+    let mut sink = WriteSink::new(Vec::new(alloc));
+    match encode(schema, places, &mut sink) {
+        Ok(()) => Some(sink.into_inner()),
+        Err(_) => None,
+    }
 }

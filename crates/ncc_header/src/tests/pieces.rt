@@ -7,7 +7,7 @@ use std::alloc::{AllocError, Global};
 use std::process::Abort;
 use std::test::*;
 
-fn length_of(answer: Result<Header, HeaderError>) -> Result<u64, HeaderError> {
+pub fn length_of(answer: Result<Header, HeaderError>) -> Result<u64, HeaderError> {
     match answer {
         Ok(header) => Ok(header.length),
         Err(error) => Err(error),
