@@ -1,0 +1,100 @@
+-- What the judging of the rules computes.
+use Rattle.std.specs.Prelude.{◌≡◌, ℕ, zero, suc, ltb, Bool, true, false, ◌==◌, ◌&&◌, not, if◌then◌else◌, ◌+◌, ◌-◌, ◌/◌, ◌*◌, ◌^◌, ◌<◌, max, min, List, [], ◌∷◌, Option, Some, None}
+use Rattle.std.specs.List.{AllByRecursion, IsDistinct}
+use Rattle.ncc_layout.specs.declared.extent.Extent.{Extent}
+use Rattle.ncc_layout.specs.Extents.{end, fixed_of, records_of}
+use Rattle.ncc_layout.specs.Rules.{AllApart}
+use Rattle.ncc_layout.specs.Faults.{FailsFirst, FirstShared, FirstOverlap}
+
+-- orders extents by begin, and then by variable
+abbrev pub rank : Extent → ℕ
+rank e = e.begin * 2 ^ 64 + e.variable
+
+-- ---- the first begin and the last end, of a list that goes on
+
+abbrev pub least_from : ℕ → List Extent → ℕ
+least_from m [] = m
+least_from m (e ∷ es) = least_from (min m e.begin) es
+
+abbrev pub first_begin_from : Option ℕ → List Extent → Option ℕ
+first_begin_from None [] = None
+first_begin_from None (e ∷ es) = Some (least_from e.begin es)
+first_begin_from (Some m) es = Some (least_from m es)
+
+abbrev pub first_begin : List Extent → Option ℕ
+first_begin es = first_begin_from None es
+
+abbrev pub greatest_from : ℕ → List Extent → ℕ
+greatest_from m [] = m
+greatest_from m (e ∷ es) = greatest_from (max m (end e)) es
+
+abbrev pub last_end_from : Option ℕ → List Extent → Option ℕ
+last_end_from None [] = None
+last_end_from None (e ∷ es) = Some (greatest_from (end e) es)
+last_end_from (Some m) es = Some (greatest_from m es)
+
+abbrev pub last_end : List Extent → Option ℕ
+last_end es = last_end_from None es
+
+abbrev pub begin_sooner : Option ℕ → ℕ → ℕ
+begin_sooner None n = n
+begin_sooner (Some m) n = min m n
+
+abbrev pub end_later : Option ℕ → ℕ → ℕ
+end_later None n = n
+end_later (Some m) n = max m n
+
+-- how many records end by this length, where the last slab of record 0 ends there
+abbrev pub records_by : (end record_size length : ℕ) → ℕ
+records_by end record_size length = if ltb length end then 0 else 1 + (length - end) / record_size
+
+-- ---- tests of one extent
+
+abbrev pub begins_before : (header : ℕ) → Extent → Bool
+begins_before header e = ltb e.begin header
+
+abbrev pub record_ends_past : (window_end : ℕ) → Extent → Bool
+record_ends_past window_end e = e.is_record && ltb window_end (end e)
+
+abbrev pub fixed_ends_past : (begin : ℕ) → Extent → Bool
+fixed_ends_past begin e = not e.is_record && ltb begin (end e)
+
+-- ---- the last record
+
+-- where it begins, counted from record 0
+abbrev pub last_record : (record_size records : ℕ) → Option ℕ
+last_record record_size zero = None
+last_record record_size (suc n) = Some (n * record_size)
+
+abbrev pub is_cut : (length : ℕ) → Option ℕ → Extent → Bool
+is_cut length None e = if e.is_record then false else ltb length (end e + 0)
+is_cut length (Some further) e = if e.is_record then ltb length (end e + further) else ltb length (end e + 0)
+
+-- ---- what a search for a failing extent found
+
+-- the rule holds of all, or fails first of this one
+abbrev pub Finds : {A : Type 0} → (A → Type 0) → List A → Option ℕ → Type 0
+Finds rule items None = AllByRecursion rule items
+Finds rule items (Some n) = FailsFirst rule items n
+
+-- extents of variables that have bytes
+abbrev pub HasBytes : Extent → Type 0
+HasBytes e = 0 < e.slab
+
+-- their variables have different numbers
+abbrev pub AreNumbered : List Extent → Type 0
+AreNumbered es = IsDistinct (λ d e. d.variable == e.variable) es
+
+-- ---- what a search for two that share a byte found
+
+abbrev pub of_kind : Bool → List Extent → List Extent
+of_kind true es = records_of es
+of_kind false es = fixed_of es
+
+abbrev pub Shared : List Extent → Option ℕ → Type 0
+Shared es None = AllApart es
+Shared es (Some n) = FirstShared es n
+
+abbrev pub Overlaps : List Extent → Option ℕ → Type 0
+Overlaps es None = AllApart (fixed_of es) × AllApart (records_of es)
+Overlaps es (Some n) = FirstOverlap es n

@@ -1,0 +1,94 @@
+-- Where each element lies, and what belongs to each (NetCDF Classic Format Specification, "Computing File Offsets").
+use Rattle.std.specs.Prelude.{◌≡◌, ℕ, suc, ◌+◌, ◌*◌, ◌<◌, ◌≤◌, List, [], ◌∷◌, map, Contains, Bool, true, false, if◌then◌else◌}
+use Rattle.std.specs.List.{AllByRecursion}
+use Rattle.ncc_values.specs.XType.{size_of}
+use Rattle.ncc_header.specs.declared.schema.Dim.{Dim}
+use Rattle.ncc_header.specs.declared.schema.Var.{Var}
+use Rattle.ncc_header.specs.declared.schema.Schema.{Schema}
+use Rattle.ncc_header.specs.Schema.{Place}
+use Rattle.ncc_layout.specs.declared.placed_var.PlacedVar.{PlacedVar}
+use Rattle.ncc_layout.specs.Sizes.{product, is_record_var, inner}
+use Rattle.ncc_layout.specs.Extents.{extent_of, record_count}
+use Rattle.ncc_layout.specs.Rules.{Rules}
+
+-- ---- variables at their places
+
+-- the lengths of a variable, first the number of records where it is a record variable
+abbrev pub shape : List Dim → (records : ℕ) → Var → List ℕ
+shape dims records x = if is_record_var dims x then records ∷ inner dims x else inner dims x
+
+abbrev pub placed_var : List Dim → (records number : ℕ) → Var → Place → PlacedVar
+placed_var dims records n x p = record { xtype = x.xtype; shape = shape dims records x; extent = extent_of dims n x p }
+
+abbrev pub placed_from : List Dim → (records number : ℕ) → List Var → List Place → List PlacedVar
+placed_from dims records n (x ∷ vars) (p ∷ places) = placed_var dims records n x p ∷ placed_from dims records (suc n) vars places
+placed_from dims records n _ _ = []
+
+-- with so many records
+abbrev pub placed_with : Schema → List Place → (records : ℕ) → List PlacedVar
+placed_with s places records = placed_from s.dims records 0 s.vars places
+
+abbrev pub placed_vars : Schema → List Place → (length : ℕ) → List PlacedVar
+placed_vars s places length = placed_with s places (record_count s places length)
+
+-- ---- places
+
+-- the row-major number of an index list, the last index fastest
+abbrev pub row_major : (lengths index : List ℕ) → ℕ
+row_major (l ∷ ls) (i ∷ is) = i * product ls + row_major ls is
+row_major _ _ = 0
+
+-- how far from the variable's begin
+abbrev pub offset_in : (record_size size : ℕ) → Bool → (lengths index : List ℕ) → ℕ
+offset_in record_size size true (n ∷ ls) (i ∷ is) = i * record_size + row_major ls is * size
+offset_in record_size size true _ _ = 0
+offset_in record_size size false ls is = row_major ls is * size
+
+-- the first byte of an element
+abbrev pub place_of : (record_size : ℕ) → PlacedVar → (index : List ℕ) → ℕ
+place_of record_size x index = x.extent.begin + offset_in record_size (size_of x.xtype) x.extent.is_record x.shape index
+
+-- as many indices as lengths, each below its own
+abbrev pub Inside : (lengths index : List ℕ) → Type 0
+Inside [] [] = Unit {0}
+Inside (l ∷ ls) (i ∷ is) = (i < l) × Inside ls is
+Inside _ _ = ⊥
+
+-- ---- elements
+
+pub record Element (vars : List PlacedVar) : Type 0 where
+  pub var : PlacedVar
+  pub there : Contains vars var
+  pub index : List ℕ
+  pub inside : Inside var.shape index
+
+-- a byte of the element
+abbrev pub Owns : {vars : List PlacedVar} → (record_size : ℕ) → Element vars → (byte : ℕ) → Type 0
+Owns record_size e byte =
+    (place_of record_size e.var e.index ≤ byte) × (byte < place_of record_size e.var e.index + size_of e.var.xtype)
+
+-- ---- what holds of variables that are placed
+
+-- the lengths are those of a slab, behind the number of records
+abbrev pub IsShaped : (records size slab : ℕ) → Bool → (lengths : List ℕ) → Type 0
+IsShaped records size slab true (n ∷ ls) = (n ≡ records) × (slab ≡ product ls * size)
+IsShaped records size slab true [] = ⊥
+IsShaped records size slab false ls = slab ≡ product ls * size
+
+abbrev pub HasShape : (records : ℕ) → PlacedVar → Type 0
+HasShape records x = IsShaped records (size_of x.xtype) x.extent.slab x.extent.is_record x.shape
+
+abbrev pub NumberedFrom : ℕ → List PlacedVar → Type 0
+NumberedFrom n [] = Unit {0}
+NumberedFrom n (x ∷ vars) = (x.extent.variable ≡ n) × NumberedFrom (suc n) vars
+
+-- variables in their order that keep all rules
+pub record AreLaid (header length record_size records : ℕ) (vars : List PlacedVar) : Type 0 where
+  pub shaped : AllByRecursion (HasShape records) vars
+  pub numbered : NumberedFrom 0 vars
+  pub rules : Rules header length record_size records (map (λ x. x.extent) vars)
+
+-- every element has bytes of its own, past the header and inside the file
+pub record Own (header length record_size : ℕ) (vars : List PlacedVar) : Type 0 where
+  pub inside : (e : Element vars) (byte : ℕ) → Owns record_size e byte → (header ≤ byte) × (byte < length)
+  pub apart : (d e : Element vars) (byte : ℕ) → Owns record_size d byte → Owns record_size e byte → (d.var ≡ e.var) × (d.index ≡ e.index)

@@ -1,0 +1,53 @@
+-- Where variables lie, and how many records there are (NetCDF Classic Format Specification, "Computing File Offsets").
+use Rattle.std.specs.Prelude.{ℕ, suc, ◌+◌, ◌-◌, ◌/◌, ltb, List, [], ◌∷◌, map, max, filter, not, if◌then◌else◌}
+use Rattle.ncc_header.specs.declared.schema.Count.{Count}
+use Rattle.ncc_header.specs.declared.schema.Count.TheVariants.{Known, Streaming}
+use Rattle.ncc_header.specs.declared.schema.Dim.{Dim}
+use Rattle.ncc_header.specs.declared.schema.Var.{Var}
+use Rattle.ncc_header.specs.declared.schema.Schema.{Schema}
+use Rattle.ncc_header.specs.Schema.{Place}
+use Rattle.ncc_layout.specs.declared.extent.Extent.{Extent}
+use Rattle.ncc_layout.specs.Sizes.{is_record_var, slab, record_size_of}
+
+-- ---- extents
+
+-- the bytes of a variable, of a record variable those of record 0
+abbrev pub extent_of : List Dim → (number : ℕ) → Var → Place → Extent
+extent_of dims n x p = record { begin = p.begin; slab = slab dims x; variable = n; is_record = is_record_var dims x }
+
+abbrev pub extents_from : List Dim → (number : ℕ) → List Var → List Place → List Extent
+extents_from dims n (x ∷ vars) (p ∷ places) = extent_of dims n x p ∷ extents_from dims (suc n) vars places
+extents_from dims n _ _ = []
+
+abbrev pub extents : Schema → List Place → List Extent
+extents s places = extents_from s.dims 0 s.vars places
+
+-- the first byte behind it
+abbrev pub end : Extent → ℕ
+end e = e.begin + e.slab
+
+abbrev pub fixed_of : List Extent → List Extent
+fixed_of es = filter (λ e. not e.is_record) es
+
+abbrev pub records_of : List Extent → List Extent
+records_of es = filter (λ e. e.is_record) es
+
+-- ---- records
+
+abbrev pub greatest_end : List Extent → ℕ
+greatest_end [] = 0
+greatest_end (e ∷ es) = max (end e) (greatest_end es)
+
+-- the records in a file of this length: as many as have a whole place for their last slab
+abbrev pub streamed : (record_size length : ℕ) → List Extent → ℕ
+streamed record_size length [] = 0
+streamed record_size length (e ∷ es) =
+    let last = greatest_end (e ∷ es) in
+    if ltb length last then 0 else 1 + (length - last) / record_size
+
+abbrev pub counted : (record_size length : ℕ) → List Extent → Count → ℕ
+counted record_size length es (Known n) = n
+counted record_size length es Streaming = streamed record_size length (records_of es)
+
+abbrev pub record_count : Schema → List Place → (length : ℕ) → ℕ
+record_count s places length = counted (record_size_of s) length (extents s places) s.count

@@ -1,0 +1,70 @@
+-- The standard placement of a schema that is to be written.
+use Rattle.std.specs.Prelude.{ℕ, suc, ◌+◌, ◌-◌, ◌*◌, ◌^◌, ◌<◌, ◌≤◌, ltb, List, [], ◌∷◌, length, map, take, filter, sum_by, not, if◌then◌else◌}
+use Rattle.std.specs.List.{AllByRecursion}
+use Rattle.ncc_values.specs.declared.version.Version.{Version}
+use Rattle.ncc_values.specs.declared.version.Version.TheVariants.{V1, V2, V5}
+use Rattle.ncc_header.specs.declared.schema.Dim.{Dim}
+use Rattle.ncc_header.specs.declared.schema.Var.{Var}
+use Rattle.ncc_header.specs.declared.schema.Schema.{Schema}
+use Rattle.ncc_header.specs.Schema.{Place, offset_limit}
+use Rattle.ncc_header.specs.Header.{canon}
+use Rattle.ncc_layout.specs.Sizes.{is_record_var, rounded, record_sum, record_size_of, room, Fit}
+
+-- ---- the word for a size
+
+-- the greatest size that a variable's word can tell, and the writer writes
+abbrev pub size_limit : Version → ℕ
+size_limit V1 = 2 ^ 32 - 4
+size_limit V2 = 2 ^ 32 - 4
+size_limit V5 = room
+
+-- the word for a size past that, in the versions with four bytes for it
+abbrev pub past_limit : Version → ℕ → ℕ
+past_limit V1 n = 2 ^ 32 - 1
+past_limit V2 n = 2 ^ 32 - 1
+past_limit V5 n = n
+
+abbrev pub vsize_word : Version → List Dim → Var → ℕ
+vsize_word v dims x = let n = rounded dims x in if ltb (size_limit v) n then past_limit v n else n
+
+-- ---- the placement
+
+-- the padded slabs of the fixed variables
+abbrev pub fixed_sum : List Dim → List Var → ℕ
+fixed_sum dims vars = sum_by (rounded dims) (filter (λ x. not (is_record_var dims x)) vars)
+
+-- the header's length, wherever its variables are
+abbrev pub header_length : Schema → ℕ
+header_length s = length (canon s (map (λ x. record { vsize = 0; begin = 0 }) s.vars))
+
+-- first the fixed variables from the header on, then those of record 0, each with its padding
+abbrev pub standard_begin : Schema → (number : ℕ) → Var → ℕ
+standard_begin s n x =
+    if is_record_var s.dims x
+    then header_length s + fixed_sum s.dims s.vars + record_sum s.dims (take n s.vars)
+    else header_length s + fixed_sum s.dims (take n s.vars)
+
+abbrev pub standard_place : Schema → (number : ℕ) → Var → Place
+standard_place s n x = record { vsize = vsize_word s.version s.dims x; begin = standard_begin s n x }
+
+abbrev pub standard_from : Schema → (number : ℕ) → List Var → List Place
+standard_from s n [] = []
+standard_from s n (x ∷ vars) = standard_place s n x ∷ standard_from s (suc n) vars
+
+abbrev pub standard_places : Schema → List Place
+standard_places s = standard_from s 0 s.vars
+
+-- ---- what can be written
+
+abbrev pub file_length : Schema → (records : ℕ) → ℕ
+file_length s records = header_length s + fixed_sum s.dims s.vars + records * record_size_of s
+
+-- the sizes are such that the version can tell them, and a file can have them
+pub record FitsVersion (s : Schema) (records : ℕ) : Type 0 where
+  pub fit : Fit s.dims s.vars
+  pub words : AllByRecursion (λ x. rounded s.dims x ≤ size_limit s.version) s.vars
+  pub file : file_length s records < 2 ^ 63
+
+-- the version can tell where each variable begins
+abbrev pub OffsetsFit : Schema → Type 0
+OffsetsFit s = AllByRecursion (λ p. p.begin < offset_limit s.version) (standard_places s)
