@@ -19,7 +19,7 @@ mod TakePiece
 mod Feeding
 mod Deciding
 mod FromSource
-mod Sizes
+pub mod Sizes
 mod NamesThere
 mod Encoding
 pub mod Writing

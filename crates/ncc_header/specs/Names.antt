@@ -1,5 +1,5 @@
 -- Where the names of a canonical header stand.
-use Rattle.std.specs.Prelude.{◌≡◌, ℕ, ◌+◌, ◌<◌, List, [], ◌∷◌, ◌++◌, length, take, drop, zip}
+use Rattle.std.specs.Prelude.{◌≡◌, ℕ, ◌+◌, ◌-◌, ◌^◌, ◌<◌, List, [], ◌∷◌, ◌++◌, length, map, take, drop, zip, min}
 use Rattle.std.specs.List.{flat_map}
 use Rattle.ncc_values.specs.Version.{count_width_of}
 use Rattle.ncc_values.specs.declared.version.Version.{Version}
@@ -10,7 +10,7 @@ use Rattle.ncc_header.specs.declared.schema.Attr.{Attr}
 use Rattle.ncc_header.specs.declared.schema.Var.{Var}
 use Rattle.ncc_header.specs.declared.schema.Schema.{Schema}
 use Rattle.ncc_header.specs.Schema.{Place}
-use Rattle.ncc_header.specs.Header.{canon_name, canon_list, canon_dim, canon_attr, canon_dimids, canon_var}
+use Rattle.ncc_header.specs.Header.{canon_name, canon_list, canon_dim, canon_attr, canon_dimids, canon_var, canon}
 
 -- ---- names
 
@@ -85,9 +85,23 @@ name_at s places (of.Attr i j) = var_at s places i + attr_in s.version j (drop i
 
 -- ---- sizes whatever the places
 
--- a variable at some place, where only its size matters
+-- some place, where only sizes matter
+abbrev pub no_place : Place
+no_place = record { vsize = 0; begin = 0 }
+
 abbrev pub canon_unplaced : Version → Var → List ℕ
-canon_unplaced v x = canon_var v (x, record { vsize = 0; begin = 0 })
+canon_unplaced v x = canon_var v (x, no_place)
+
+abbrev pub unplaced : List Var → List Place
+unplaced vars = map (λ x. no_place) vars
+
+-- the length of the canonical header
+abbrev pub header_length : Schema → ℕ
+header_length s = length (canon s (unplaced s.vars))
+
+-- a number, or the greatest u64 in place of one past it
+abbrev pub capped : ℕ → ℕ
+capped n = min n (2 ^ 64 - 1)
 
 -- ---- what stands where
 

@@ -9,7 +9,7 @@ ghost use Rattle.ncc_header.specs.declared.schema.Header.{Header};
 ghost use Rattle.ncc_header.specs.declared.names.NameOf.{NameOf};
 ghost use Rattle.ncc_header.specs.Schema.{Place, Legal, IsTyped};
 ghost use Rattle.ncc_header.specs.Header.{IsHeader, canon_name, canon};
-ghost use Rattle.ncc_header.specs.Names.{HasName, name_of, name_at, StandsAt};
+ghost use Rattle.ncc_header.specs.Names.{HasName, name_of, name_at, StandsAt, header_length};
 ghost use Rattle.ncc_header.specs.Marks.{header_marks};
 ghost use Rattle.ncc_header.specs.Answers.{Begins, Stops};
 
@@ -49,4 +49,9 @@ pub fn unmarked_is_canonical()
 /// Where a name of a canonical header is told to stand, it stands with its length and its padding.
 pub fn name_is_there()
     ensures { (s : Schema) (places : List Place) (of : NameOf) → Legal s places → HasName s of → StandsAt (canon s places) (canon_name s.version (name_of s of)) (name_at s places of) }
+{}
+
+/// The length of a canonical header doesn't depend on where its variables are.
+pub fn one_length()
+    ensures { (s : Schema) (places : List Place) → length places ≡ length s.vars → length (canon s places) ≡ header_length s }
 {}
