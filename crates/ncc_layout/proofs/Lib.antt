@@ -5,3 +5,5 @@ mod Searching
 mod Counting
 mod Products
 mod Summing
+mod StandardPlaces
+mod Fitting

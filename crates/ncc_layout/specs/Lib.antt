@@ -5,3 +5,4 @@ pub mod Faults
 pub mod Bounds
 pub mod Elements
 pub mod Standard
+pub mod Plans
