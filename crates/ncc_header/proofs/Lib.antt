@@ -21,5 +21,6 @@ mod Deciding
 mod FromSource
 pub mod Sizes
 mod NamesThere
+mod BeginsThere
 mod Encoding
 pub mod Writing

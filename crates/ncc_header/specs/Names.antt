@@ -1,7 +1,7 @@
--- Where the names of a canonical header stand.
-use Rattle.std.specs.Prelude.{◌≡◌, ℕ, ◌+◌, ◌-◌, ◌^◌, ◌<◌, List, [], ◌∷◌, ◌++◌, length, map, take, drop, zip, min}
+-- Where the names and the begins of a canonical header stand, and its length.
+use Rattle.std.specs.Prelude.{◌≡◌, ℕ, suc, ◌+◌, ◌-◌, ◌^◌, ◌<◌, List, [], ◌∷◌, ◌++◌, length, map, take, drop, zip, min}
 use Rattle.std.specs.List.{flat_map}
-use Rattle.ncc_values.specs.Version.{count_width_of}
+use Rattle.ncc_values.specs.Version.{count_width_of, offset_width_of}
 use Rattle.ncc_values.specs.declared.version.Version.{Version}
 use Rattle.ncc_header.specs.declared.names.NameOf.{NameOf}
 use Rattle.ncc_header.specs.declared.names.NameOf.TheVariants as of
@@ -66,6 +66,10 @@ vars_at s = gatts_at s + length (canon_list s.version 12 (canon_attr s.version) 
 
 abbrev pub var_at : Schema → List Place → ℕ → ℕ
 var_at s places i = vars_at s + list_size s.version + before (canon_var s.version) i (zip s.vars places)
+
+-- the begin field of a variable, which is the last of its fields
+abbrev pub begin_at : Schema → List Place → ℕ → ℕ
+begin_at s places i = var_at s places (suc i) - offset_width_of s.version
 
 -- the first attribute of a variable, counted from the variable
 abbrev pub attrs_in : Version → Var → ℕ
