@@ -46,7 +46,8 @@ fn attr_size(version: Version, attr: &Attr) -> u64
     let values = number.saturating_mul(attr.values.xtype().size() as u64);
     let fixed = 4 + version.count_width() as u64;
     let name = name_size(version, attr.name.as_slice());
-    name.saturating_add(values).saturating_add(fixed + pad(values))
+    name.saturating_add(values)
+        .saturating_add(fixed + pad(values))
 }
 
 pub fn attrs_size(version: Version, attrs: &[Attr]) -> u64

@@ -6,4 +6,4 @@ mod Counting
 mod Products
 mod Summing
 mod StandardPlaces
-mod Fitting
+mod VersionFits

@@ -12,10 +12,10 @@ use Rattle.ncc_header.specs.declared.schema.Schema.{Schema}
 use Rattle.ncc_header.specs.declared.schema.Var.{Var}
 use Rattle.ncc_header.specs.declared.schema.VarPlace.{VarPlace}
 use Rattle.ncc_header.specs.Schema.{place_of, places_of}
-use Rattle.ncc_header.specs.Names.{capped, list_size, vars_at, no_place, unplaced, canon_unplaced, header_length}
+use Rattle.ncc_header.specs.Names.{capped, list_size, vars_at, begin_at, no_place, unplaced, canon_unplaced, header_length}
 use Rattle.ncc_header.proofs.Sizes.{length-canon, before-placed, first_size}
 use Rattle.ncc_layout.specs.Sizes.{is_record_var, rounded, record_sum}
-use Rattle.ncc_layout.specs.Standard.{size_limit, past_limit, vsize_word, fixed_sum, standard_place, standard_from, begin_field, begin_fields_from, FitsVersion}
+use Rattle.ncc_layout.specs.Standard.{size_limit, past_limit, vsize_word, fixed_sum, standard_place, standard_from, begin_fields_from, FitsVersion}
 use Rattle.ncc_layout.specs.Plans.{header_end, fixed_end, slabs_end, AreEnds}
 use Rattle.ncc_layout.specs.declared.planning.Ends.{Ends}
 
@@ -51,13 +51,13 @@ standard_from_more s n (y ∷ vars) x =
     let same : suc n + length vars ≡ n + suc (length vars) = omega arith in
     ap (λ l. standard_place s n y ∷ l) (standard_from_more s (suc n) vars x ∙ ap (λ k. standard_from s (suc n) vars ++ standard_place s k x ∷ []) same)
 
-begin_fields_from_more : (s : Schema) (n : ℕ) (vars : List Var) (x : Var) → begin_fields_from s n (vars ++ x ∷ []) ≡ begin_fields_from s n vars ++ begin_field s (n + length vars) ∷ []
+begin_fields_from_more : (s : Schema) (n : ℕ) (vars : List Var) (x : Var) → begin_fields_from s n (vars ++ x ∷ []) ≡ begin_fields_from s n vars ++ begin_at s (unplaced s.vars) (n + length vars) ∷ []
 begin_fields_from_more s n [] x =
     let same : n ≡ n + 0 = omega arith in
-    ap (λ k. begin_field s k ∷ []) same
+    ap (λ k. begin_at s (unplaced s.vars) k ∷ []) same
 begin_fields_from_more s n (y ∷ vars) x =
     let same : suc n + length vars ≡ n + suc (length vars) = omega arith in
-    ap (λ l. begin_field s n ∷ l) (begin_fields_from_more s (suc n) vars x ∙ ap (λ k. begin_fields_from s (suc n) vars ++ begin_field s k ∷ []) same)
+    ap (λ l. begin_at s (unplaced s.vars) n ∷ l) (begin_fields_from_more s (suc n) vars x ∙ ap (λ k. begin_fields_from s (suc n) vars ++ begin_at s (unplaced s.vars) k ∷ []) same)
 
 -- ---- one variable
 
@@ -86,12 +86,12 @@ module _ (s : Schema) (records : ℕ) (fits : FitsVersion s records) (n : ℕ) (
   slabs_is : (e : Ends) → AreEnds s before e → e.slabs ≡ slabs_end s before
   slabs_is e ends = omega (arith, ends.slabs, fits.file, fits.fit.together, record_sum_first s.dims n s.vars)
 
-  pub place_is : (e : Ends) → AreEnds s before e → record { vsize = rounded s.dims x; begin = if is_record_var s.dims x then e.slabs else e.fixed } ≡ standard_place s n x
-  place_is e ends =
-      let begin = ap₂ (λ a b. if is_record_var s.dims x then a else b) (slabs_is e ends) (fixed_is e ends) in
-      ap₂ (λ (a b : ℕ). record { vsize = a; begin = b }) (word_is s.version s.dims x small) begin
+  pub place_is : (e : Ends) → AreEnds s before e → (vsize begin : ℕ) → vsize ≡ rounded s.dims x → begin ≡ (if is_record_var s.dims x then e.slabs else e.fixed) → record { vsize = vsize; begin = begin } ≡ standard_place s n x
+  place_is e ends vsize begin size_is begin_is =
+      let ends_are = ap₂ (λ a b. if is_record_var s.dims x then a else b) (slabs_is e ends) (fixed_is e ends) in
+      ap₂ (λ (a b : ℕ). record { vsize = a; begin = b }) (size_is ∙ word_is s.version s.dims x small) (begin_is ∙ ends_are)
 
-  pub field_is : (e : Ends) → AreEnds s (before ++ x ∷ []) e → e.header - offset_width_of s.version ≡ begin_field s n
+  pub field_is : (e : Ends) → AreEnds s (before ++ x ∷ []) e → e.header - offset_width_of s.version ≡ begin_at s (unplaced s.vars) n
   field_is e ends =
       let v = s.version in
       let number : n + 1 ≡ suc n = omega arith in
@@ -107,7 +107,7 @@ module _ (s : Schema) (records : ℕ) (fits : FitsVersion s records) (n : ℕ) (
       ap places_of pushed ∙ map-append place_of old (p ∷ []) ∙ ap₂ (λ l q. l ++ q ∷ []) so_far is_it
       ∙ ap (λ k. standard_from s 0 before ++ standard_place s k x ∷ []) number_is ∙ sym (standard_from_more s 0 before x) ∙ ap (standard_from s 0) (sym with_it)
 
-  pub fields_more : (old new : List VarPlace) (p : VarPlace) → map (λ q. q.begin_at) old ≡ begin_fields_from s 0 before → new ≡ old ++ p ∷ [] → p.begin_at ≡ begin_field s n → map (λ q. q.begin_at) new ≡ begin_fields_from s 0 (take (n + 1) s.vars)
+  pub fields_more : (old new : List VarPlace) (p : VarPlace) → map (λ q. q.begin_at) old ≡ begin_fields_from s 0 before → new ≡ old ++ p ∷ [] → p.begin_at ≡ begin_at s (unplaced s.vars) n → map (λ q. q.begin_at) new ≡ begin_fields_from s 0 (take (n + 1) s.vars)
   fields_more old new p so_far pushed is_it =
       ap (map (λ q. q.begin_at)) pushed ∙ map-append (λ q. q.begin_at) old (p ∷ []) ∙ ap₂ (λ l q. l ++ q ∷ []) so_far is_it
-      ∙ ap (λ k. begin_fields_from s 0 before ++ begin_field s k ∷ []) number_is ∙ sym (begin_fields_from_more s 0 before x) ∙ ap (begin_fields_from s 0) (sym with_it)
+      ∙ ap (λ k. begin_fields_from s 0 before ++ begin_at s (unplaced s.vars) k ∷ []) number_is ∙ sym (begin_fields_from_more s 0 before x) ∙ ap (begin_fields_from s 0) (sym with_it)

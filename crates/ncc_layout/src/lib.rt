@@ -4,6 +4,7 @@
 mod bounds;
 mod extent;
 mod fault;
+mod fitting;
 mod numrecs;
 mod overlap;
 mod placed_var;

@@ -4,8 +4,8 @@ use Rattle.std.proofs.lemmas.Bool.{ltb-true, lt-ltb}
 use Rattle.ncc_header.specs.Names.{capped}
 use Rattle.ncc_layout.specs.Standard.{size_limit, FitsVersion}
 use Rattle.ncc_layout.specs.Plans.{fixed_end}
-use Rattle.ncc_layout.proofs.Fitting.{words_of, fits_from, file_of}
-use Rattle.ncc_layout.proofs.planning.fits_version.Goals as goal
+use Rattle.ncc_layout.proofs.VersionFits.{words_of, fits_from, file_of}
+use Rattle.ncc_layout.proofs.fitting.fits_version.Goals as goal
 
 pub returns-then-not-words_fit : goal.returns-then-not-words_fit
 returns-then-not-words_fit c =

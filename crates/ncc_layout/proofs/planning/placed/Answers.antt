@@ -1,4 +1,4 @@
-use Rattle.std.proofs.Common.{◌≡◌, ◌-◌, ◌<◌, ◌++◌, ◌∷◌, [], ℕ, length, take, get_or, ap, ap₂, sym, subst, ◌∙◌, arith}
+use Rattle.std.proofs.Common.{◌≡◌, ◌-◌, ◌<◌, ◌++◌, ◌∷◌, [], length, take, get_or, ap, sym, subst, ◌∙◌, arith}
 use Rattle.std.specs.Prelude.{if◌then◌else◌}
 use Rattle.std.proofs.lemmas.List.{get_or-map}
 use Rattle.ncc_layout.specs.Sizes.{is_record_var, rounded}
@@ -20,7 +20,7 @@ loop-number-preserved c =
     let begin : c.begin_of-begin.result ≡ (if is_record_var s.dims x then ends.slabs else ends.fixed) = rw c.as_slice-dims.ensures at c.begin_of-begin.ensures in
     let are_ends : AreEnds s (take n s.vars) ends = rw c.as_slice-vars.ensures at c.loop-number.invariant.ends in
     let are_next : AreEnds s (take n s.vars ++ x ∷ []) next = c.with_var-ends.ensures (take n s.vars) are_ends in
-    let place = ap₂ (λ (a b : ℕ). record { vsize = a; begin = b }) size begin ∙ place_is s _ fits n x there is ends are_ends in
+    let place = place_is s _ fits n x there is ends are_ends _ _ size begin in
     let field = ap (λ w. next.header - w) c.offset_width-width.ensures ∙ field_is s _ fits n x there is next are_next in
     rw c.as_slice-vars.ensures
     (record {

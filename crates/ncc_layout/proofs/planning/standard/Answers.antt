@@ -1,5 +1,5 @@
 use Rattle.ncc_layout.specs.Plans.{known, IsPlan}
-use Rattle.ncc_layout.proofs.Fitting.{size_fails}
+use Rattle.ncc_layout.proofs.VersionFits.{size_fails}
 use Rattle.ncc_layout.proofs.planning.standard.Goals as goal
 
 pub returns-in_err-found : goal.returns-in_err-found
