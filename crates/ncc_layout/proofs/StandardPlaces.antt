@@ -1,5 +1,5 @@
 -- The standard places and the begin fields, with one variable more.
-use Rattle.std.proofs.Common.{◌≡◌, ℕ, suc, ◌+◌, ◌-◌, ◌^◌, ◌<◌, ◌≤◌, Bool, List, [], ◌∷◌, ◌++◌, map, length, take, drop, get_or, sym, ap, ap₂, subst, ◌∙◌, arith}
+use Rattle.std.proofs.Common.{◌≡◌, ℕ, suc, ◌+◌, ◌-◌, ◌^◌, ◌<◌, ◌≤◌, Bool, List, [], ◌∷◌, ◌++◌, map, length, take, drop, get_or, refl, sym, ap, ap₂, subst, ◌∙◌, arith}
 use Rattle.std.specs.Prelude.{filter, sum_by, not, if◌then◌else◌}
 use Rattle.std.proofs.lemmas.Bool.{le-ltb}
 use Rattle.std.proofs.lemmas.List.{take-append-drop, take_more, length-map, length-take-le, map-append}
@@ -15,7 +15,7 @@ use Rattle.ncc_header.specs.Schema.{place_of, places_of}
 use Rattle.ncc_header.specs.Names.{capped, list_size, vars_at, begin_at, no_place, unplaced, canon_unplaced, header_length}
 use Rattle.ncc_header.proofs.Sizes.{length-canon, before-placed, first_size}
 use Rattle.ncc_layout.specs.Sizes.{is_record_var, rounded, record_sum}
-use Rattle.ncc_layout.specs.Standard.{size_limit, past_limit, vsize_word, fixed_sum, standard_place, standard_from, begin_fields_from, FitsVersion}
+use Rattle.ncc_layout.specs.Standard.{size_limit, past_limit, vsize_word, fixed_sum, standard_place, standard_from, standard_places, begin_fields_from, FitsVersion}
 use Rattle.ncc_layout.specs.Plans.{header_end, fixed_end, slabs_end, AreEnds}
 use Rattle.ncc_layout.specs.declared.planning.Ends.{Ends}
 
@@ -43,6 +43,10 @@ uncapped e n total is below small = omega arith
 
 -- ---- lists with one variable more
 
+pub length-standard_from : (s : Schema) (n : ℕ) (vars : List Var) → length (standard_from s n vars) ≡ length vars
+length-standard_from s n [] = refl
+length-standard_from s n (x ∷ vars) = ap suc (length-standard_from s (suc n) vars)
+
 standard_from_more : (s : Schema) (n : ℕ) (vars : List Var) (x : Var) → standard_from s n (vars ++ x ∷ []) ≡ standard_from s n vars ++ standard_place s (n + length vars) x ∷ []
 standard_from_more s n [] x =
     let same : n ≡ n + 0 = omega arith in
@@ -51,17 +55,17 @@ standard_from_more s n (y ∷ vars) x =
     let same : suc n + length vars ≡ n + suc (length vars) = omega arith in
     ap (λ l. standard_place s n y ∷ l) (standard_from_more s (suc n) vars x ∙ ap (λ k. standard_from s (suc n) vars ++ standard_place s k x ∷ []) same)
 
-begin_fields_from_more : (s : Schema) (n : ℕ) (vars : List Var) (x : Var) → begin_fields_from s n (vars ++ x ∷ []) ≡ begin_fields_from s n vars ++ begin_at s (unplaced s.vars) (n + length vars) ∷ []
+begin_fields_from_more : (s : Schema) (n : ℕ) (vars : List Var) (x : Var) → begin_fields_from s n (vars ++ x ∷ []) ≡ begin_fields_from s n vars ++ begin_at s (standard_places s) (n + length vars) ∷ []
 begin_fields_from_more s n [] x =
     let same : n ≡ n + 0 = omega arith in
-    ap (λ k. begin_at s (unplaced s.vars) k ∷ []) same
+    ap (λ k. begin_at s (standard_places s) k ∷ []) same
 begin_fields_from_more s n (y ∷ vars) x =
     let same : suc n + length vars ≡ n + suc (length vars) = omega arith in
-    ap (λ l. begin_at s (unplaced s.vars) n ∷ l) (begin_fields_from_more s (suc n) vars x ∙ ap (λ k. begin_fields_from s (suc n) vars ++ begin_at s (unplaced s.vars) k ∷ []) same)
+    ap (λ l. begin_at s (standard_places s) n ∷ l) (begin_fields_from_more s (suc n) vars x ∙ ap (λ k. begin_fields_from s (suc n) vars ++ begin_at s (standard_places s) k ∷ []) same)
 
 -- ---- one variable
 
-word_is : (v : Version) (dims : List Dim) (x : Var) → rounded dims x ≤ size_limit v → rounded dims x ≡ vsize_word v dims x
+pub word_is : (v : Version) (dims : List Dim) (x : Var) → rounded dims x ≤ size_limit v → rounded dims x ≡ vsize_word v dims x
 word_is v dims x small =
     let n = rounded dims x in
     ap (λ b. if b then past_limit v n else n) (sym (le-ltb (size_limit v) n small))
@@ -91,13 +95,13 @@ module _ (s : Schema) (records : ℕ) (fits : FitsVersion s records) (n : ℕ) (
       let ends_are = ap₂ (λ a b. if is_record_var s.dims x then a else b) (slabs_is e ends) (fixed_is e ends) in
       ap₂ (λ (a b : ℕ). record { vsize = a; begin = b }) (size_is ∙ word_is s.version s.dims x small) (begin_is ∙ ends_are)
 
-  pub field_is : (e : Ends) → AreEnds s (before ++ x ∷ []) e → e.header - offset_width_of s.version ≡ begin_at s (unplaced s.vars) n
+  pub field_is : (e : Ends) → AreEnds s (before ++ x ∷ []) e → e.header - offset_width_of s.version ≡ begin_at s (standard_places s) n
   field_is e ends =
       let v = s.version in
       let number : n + 1 ≡ suc n = omega arith in
       let vars : before ++ x ∷ [] ≡ take (suc n) s.vars = sym with_it ∙ ap (λ k. take k s.vars) number in
       let header = uncapped e.header (header_end s (take (suc n) s.vars)) (header_length s) (ends.header ∙ ap (λ xs. capped (header_end s xs)) vars) (header_first s (suc n)) (omega (arith, fits.file)) in
-      let placed = before-placed v (suc n) s.vars (unplaced s.vars) (length-map s.vars (λ y. no_place)) in
+      let placed = before-placed v (suc n) s.vars (standard_places s) (length-standard_from s 0 s.vars) in
       ap (λ k. k - offset_width_of v) (header ∙ ap (λ k. vars_at s + list_size v + k) (sym placed))
 
   -- ---- the places so far
@@ -107,7 +111,7 @@ module _ (s : Schema) (records : ℕ) (fits : FitsVersion s records) (n : ℕ) (
       ap places_of pushed ∙ map-append place_of old (p ∷ []) ∙ ap₂ (λ l q. l ++ q ∷ []) so_far is_it
       ∙ ap (λ k. standard_from s 0 before ++ standard_place s k x ∷ []) number_is ∙ sym (standard_from_more s 0 before x) ∙ ap (standard_from s 0) (sym with_it)
 
-  pub fields_more : (old new : List VarPlace) (p : VarPlace) → map (λ q. q.begin_at) old ≡ begin_fields_from s 0 before → new ≡ old ++ p ∷ [] → p.begin_at ≡ begin_at s (unplaced s.vars) n → map (λ q. q.begin_at) new ≡ begin_fields_from s 0 (take (n + 1) s.vars)
+  pub fields_more : (old new : List VarPlace) (p : VarPlace) → map (λ q. q.begin_at) old ≡ begin_fields_from s 0 before → new ≡ old ++ p ∷ [] → p.begin_at ≡ begin_at s (standard_places s) n → map (λ q. q.begin_at) new ≡ begin_fields_from s 0 (take (n + 1) s.vars)
   fields_more old new p so_far pushed is_it =
       ap (map (λ q. q.begin_at)) pushed ∙ map-append (λ q. q.begin_at) old (p ∷ []) ∙ ap₂ (λ l q. l ++ q ∷ []) so_far is_it
-      ∙ ap (λ k. begin_fields_from s 0 before ++ begin_at s (unplaced s.vars) k ∷ []) number_is ∙ sym (begin_fields_from_more s 0 before x) ∙ ap (begin_fields_from s 0) (sym with_it)
+      ∙ ap (λ k. begin_fields_from s 0 before ++ begin_at s (standard_places s) k ∷ []) number_is ∙ sym (begin_fields_from_more s 0 before x) ∙ ap (begin_fields_from s 0) (sym with_it)

@@ -2,16 +2,22 @@
 use Rattle.std.proofs.Common.{◌≡◌, ℕ, zero, suc, ◌+◌, ◌*◌, ◌^◌, ◌<◌, ◌≤◌, List, [], ◌∷◌, map, take, sym, ap, subst, arith}
 use Rattle.std.specs.Prelude.{Result, Ok, Err, IsErrAnd, MatchResult}
 use Rattle.std.specs.List.{AllByRecursion}
+use Rattle.ncc_values.specs.Version.{count_width_of}
+use Rattle.ncc_values.specs.declared.version.Version.{Version}
+use Rattle.ncc_values.specs.declared.version.Version.TheVariants.{V1, V2, V5}
 use Rattle.ncc_header.specs.declared.schema.Schema.{Schema}
+use Rattle.ncc_header.specs.declared.schema.Var.{Var}
+use Rattle.ncc_header.specs.declared.schema.VarPlace.{VarPlace}
+use Rattle.ncc_header.specs.Schema.{offset_limit, places_of, Sound, LegalPlace, Legal}
 use Rattle.ncc_header.specs.Names.{capped}
 use Rattle.ncc_layout.specs.declared.fault.SizeError.{SizeError}
 use Rattle.ncc_layout.specs.declared.fault.SizeError.TheVariants as size_error
 use Rattle.ncc_layout.specs.declared.plan_fault.PlanFault.{PlanFault}
 use Rattle.ncc_layout.specs.declared.size_list.Sizes.{Sizes}
 use Rattle.ncc_layout.specs.Sizes.{rounded, room, Fit, FirstTooLarge, AreSizes, IsSizes}
-use Rattle.ncc_layout.specs.Standard.{size_limit, file_length, FitsVersion}
-use Rattle.ncc_layout.specs.Plans.{fixed_end, plan_fault, PlanFails}
-use Rattle.ncc_layout.proofs.StandardPlaces.{record_sum_first}
+use Rattle.ncc_layout.specs.Standard.{size_limit, standard_from, standard_places, file_length, FitsVersion}
+use Rattle.ncc_layout.specs.Plans.{fixed_end, plan_fault, PlanFails, IsStandard}
+use Rattle.ncc_layout.proofs.StandardPlaces.{record_sum_first, length-standard_from, word_is}
 
 -- ---- lists
 
@@ -65,3 +71,30 @@ module _ (s : Schema) (z : Sizes) (sizes : AreSizes s z) (records : ℕ) where
 
   pub file_of : FitsVersion s records → capped (capped (fixed_end s s.vars) + capped (records * z.record_size)) < 2 ^ 63
   file_of fits = small_length (fixed_end s s.vars) (records * z.record_size) (subst (λ n. n < 2 ^ 63) (sym length_is) fits.file)
+
+-- ---- the standard placement is legal
+
+small_word : (v : Version) (n : ℕ) → n ≤ size_limit v → n < 256 ^ count_width_of v
+small_word V1 n h = omega arith
+small_word V2 n h = omega arith
+small_word V5 n h = omega arith
+
+places_legal : (s : Schema) (n : ℕ) (vars : List Var) → AllByRecursion (λ x. rounded s.dims x ≤ size_limit s.version) vars → AllByRecursion (λ p. p.begin < offset_limit s.version) (standard_from s n vars) → AllByRecursion (LegalPlace s.version) (standard_from s n vars)
+places_legal s n [] words begins = tt
+places_legal s n (x ∷ vars) words begins = (
+  record {
+    vsize = subst (λ w. w < 256 ^ count_width_of s.version) (word_is s.version s.dims x words.0) (small_word s.version (rounded s.dims x) words.0);
+    begin = begins.0;
+  },
+  places_legal s (suc n) vars words.1 begins.1,
+)
+
+pub standard_legal : (s : Schema) (records : ℕ) (places : List VarPlace) → Sound s → FitsVersion s records → IsStandard s places → AllByRecursion (λ p. p.begin < offset_limit s.version) (places_of places) → Legal s (places_of places)
+standard_legal s records places sound fits standard begins =
+    let offsets : AllByRecursion (λ p. p.begin < offset_limit s.version) (standard_places s) = subst (AllByRecursion (λ p. p.begin < offset_limit s.version)) standard.places_are begins in
+    subst (Legal s) (sym standard.places_are)
+    (record {
+      sound = sound;
+      number = length-standard_from s 0 s.vars;
+      placed = places_legal s 0 s.vars fits.words offsets;
+    })

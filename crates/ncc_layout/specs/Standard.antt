@@ -7,7 +7,7 @@ use Rattle.ncc_header.specs.declared.schema.Dim.{Dim}
 use Rattle.ncc_header.specs.declared.schema.Var.{Var}
 use Rattle.ncc_header.specs.declared.schema.Schema.{Schema}
 use Rattle.ncc_header.specs.Schema.{Place, mark, offset_limit}
-use Rattle.ncc_header.specs.Names.{begin_at, unplaced, header_length}
+use Rattle.ncc_header.specs.Names.{begin_at, header_length}
 use Rattle.ncc_layout.specs.Sizes.{is_record_var, rounded, record_sum, record_size_of, room, Fit}
 
 -- ---- the word for a size
@@ -50,10 +50,10 @@ standard_from s n (x ∷ vars) = standard_place s n x ∷ standard_from s (suc n
 abbrev pub standard_places : Schema → List Place
 standard_places s = standard_from s 0 s.vars
 
--- the offsets of the begin fields, which are the same wherever the variables are
+-- the offsets of the begin fields in the header
 abbrev pub begin_fields_from : Schema → (number : ℕ) → List Var → List ℕ
 begin_fields_from s n [] = []
-begin_fields_from s n (x ∷ vars) = begin_at s (unplaced s.vars) n ∷ begin_fields_from s (suc n) vars
+begin_fields_from s n (x ∷ vars) = begin_at s (standard_places s) n ∷ begin_fields_from s (suc n) vars
 
 abbrev pub begin_fields : Schema → List ℕ
 begin_fields s = begin_fields_from s 0 s.vars

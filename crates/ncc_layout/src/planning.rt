@@ -2,7 +2,7 @@
 
 ghost use Rattle.std.specs.Prelude.{◌≡◌, ℕ, List, [], ◌∷◌, ◌++◌, map, IfOk, MatchResult, if◌then◌else◌};
 ghost use Rattle.ncc_header.specs.declared.schema.Var.{Var};
-ghost use Rattle.ncc_header.specs.Schema.{LegalDims, Sound};
+ghost use Rattle.ncc_header.specs.Schema.{places_of, LegalDims, Sound, Legal};
 ghost use Rattle.ncc_layout.specs.Sizes.{is_record_var, rounded};
 ghost use Rattle.ncc_layout.specs.Standard.{FitsVersion};
 ghost use Rattle.ncc_layout.specs.Plans.{IsKnown, known, AreEnds, IsStandard, IsPlan, PlanFails};
@@ -99,7 +99,8 @@ fn known(count: Count) -> u64
 pub fn standard(alloc: Global, schema: &Schema) -> Result<Vec<VarPlace>, PlanFault>
     requires sound { Sound schema.now }
     requires known { IsKnown schema.now.count }
-    ensures { MatchResult result (λ places. IsPlan schema.now (known schema.now.count) places.items) (PlanFails schema.now (known schema.now.count)) }
+    ensures plan { MatchResult result (λ places. IsPlan schema.now (known schema.now.count) places.items) (PlanFails schema.now (known schema.now.count)) }
+    ensures legal { IfOk result (λ places. Legal schema.now (places_of places.items)) }
 {
     let records = known(schema.count);
     let found = sizes(alloc, schema)?;
