@@ -19,7 +19,8 @@ mod TakePiece
 mod Feeding
 mod Deciding
 mod FromSource
-mod Sizes
+pub mod Sizes
 mod NamesThere
+mod BeginsThere
 mod Encoding
 pub mod Writing

@@ -33,7 +33,7 @@ behind a b piece at s = record {
 }
 
 -- a piece of a piece
-inside : (bytes whole piece : List ℕ) (at more : ℕ) → StandsAt bytes whole at → StandsAt whole piece more → StandsAt bytes piece (at + more)
+pub inside : (bytes whole piece : List ℕ) (at more : ℕ) → StandsAt bytes whole at → StandsAt whole piece more → StandsAt bytes piece (at + more)
 inside bytes whole piece at more s t = record {
   front = s.front ++ t.front;
   rest = t.rest ++ s.rest;
@@ -43,7 +43,7 @@ inside bytes whole piece at more s t = record {
   long = omega (arith, length-append s.front t.front, s.long, t.long);
 }
 
-moved : (bytes piece : List ℕ) (m n : ℕ) → m ≡ n → StandsAt bytes piece m → StandsAt bytes piece n
+pub moved : (bytes piece : List ℕ) (m n : ℕ) → m ≡ n → StandsAt bytes piece m → StandsAt bytes piece n
 moved bytes piece m n e s = subst (λ (at : ℕ). StandsAt bytes piece at) e s
 
 -- ---- items of lists
@@ -110,7 +110,7 @@ module _ (s : Schema) (places : List Place) where
   gatts_there =
       moved (canon s places) gatts (head_size s.version + (length dims + 0)) (gatts_at s) (omega arith) (in_lists gatts (length dims + 0) (behind dims (gatts ++ vars) gatts 0 (at_front gatts vars)))
 
-  vars_there : StandsAt (canon s places) vars (vars_at s)
+  pub vars_there : StandsAt (canon s places) vars (vars_at s)
   vars_there =
       let whole : StandsAt vars vars 0 = record { front = []; rest = []; joined = sym (append-nil vars); long = refl } in
       moved (canon s places) vars (head_size s.version + (length dims + (length gatts + 0))) (vars_at s) (omega arith)
@@ -119,7 +119,7 @@ module _ (s : Schema) (places : List Place) where
 -- ---- names
 
 -- an item of a list that stands somewhere
-in_item : {A : Type 0} (bytes : List ℕ) (v : Version) (tag : ℕ) (item : A → List ℕ) (items : List A) (i : ℕ) (x : A) (more : List A) (at : ℕ) → drop i items ≡ x ∷ more → StandsAt bytes (canon_list v tag item items) at
+pub in_item : {A : Type 0} (bytes : List ℕ) (v : Version) (tag : ℕ) (item : A → List ℕ) (items : List A) (i : ℕ) (x : A) (more : List A) (at : ℕ) → drop i items ≡ x ∷ more → StandsAt bytes (canon_list v tag item items) at
     → StandsAt bytes (item x) (at + list_size v + before item i items)
 in_item bytes v tag item items i x more at e t =
     moved bytes (item x) (at + (list_size v + before item i items)) (at + list_size v + before item i items) (omega arith)

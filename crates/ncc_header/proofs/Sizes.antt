@@ -1,10 +1,9 @@
 -- The sizes of the parts of a canonical header.
-use Rattle.std.proofs.Common.{◌≡◌, ℕ, zero, suc, ◌+◌, ◌*◌, ◌<◌, ◌≤◌, List, [], ◌∷◌, ◌++◌, length, get_or, take, drop, refl, sym, ap, subst, ◌∙◌, arith, length-append}
+use Rattle.std.proofs.Common.{◌≡◌, ℕ, zero, suc, ◌+◌, ◌*◌, ◌≤◌, List, [], ◌∷◌, ◌++◌, length, take, drop, refl, sym, ap, ◌∙◌, arith, length-append}
 use Rattle.std.specs.List.{flat_map}
 use Rattle.std.specs.Prelude.{zip}
 use Rattle.std.proofs.lemmas.List.{length-replicate, take-append-drop}
 use Rattle.std.proofs.lemmas.Grind.{flat_map-append}
-use Rattle.std.proofs.lemmas.List.Folds.{length-flat_map-take}
 use Rattle.ncc_values.specs.Numbers.{big_endian}
 use Rattle.ncc_values.specs.BigEndian.{length-big_endian}
 use Rattle.ncc_values.specs.Padding.{padding_of}
@@ -77,10 +76,6 @@ length-canon_var v x p =
       length-big_endian w p.vsize,
       length-big_endian (offset_width_of v) p.begin,
     )
-
--- the items before the next one and it are no longer than all
-pub next_size : {A : Type 0} (item : A → List ℕ) (items : List A) (i : ℕ) (x : A) → i < length items → x ≡ get_or items i x → length (flat_map item (take i items)) + length (item x) ≤ length (flat_map item items)
-next_size item items i x h is = subst (λ y. length (flat_map item (take i items)) + length (item y) ≤ length (flat_map item items)) (sym is) (length-flat_map-take item items i x h)
 
 -- the first items are no longer than all
 pub first_size : {A : Type 0} (item : A → List ℕ) (items : List A) (i : ℕ) → before item i items ≤ length (flat_map item items)

@@ -1,7 +1,7 @@
--- Where the names of a canonical header stand.
-use Rattle.std.specs.Prelude.{◌≡◌, ℕ, ◌+◌, ◌<◌, List, [], ◌∷◌, ◌++◌, length, take, drop, zip}
+-- Where the names and the begins of a canonical header stand, and its length.
+use Rattle.std.specs.Prelude.{◌≡◌, ℕ, suc, ◌+◌, ◌-◌, ◌^◌, ◌<◌, List, [], ◌∷◌, ◌++◌, length, map, take, drop, zip, min}
 use Rattle.std.specs.List.{flat_map}
-use Rattle.ncc_values.specs.Version.{count_width_of}
+use Rattle.ncc_values.specs.Version.{count_width_of, offset_width_of}
 use Rattle.ncc_values.specs.declared.version.Version.{Version}
 use Rattle.ncc_header.specs.declared.names.NameOf.{NameOf}
 use Rattle.ncc_header.specs.declared.names.NameOf.TheVariants as of
@@ -10,7 +10,7 @@ use Rattle.ncc_header.specs.declared.schema.Attr.{Attr}
 use Rattle.ncc_header.specs.declared.schema.Var.{Var}
 use Rattle.ncc_header.specs.declared.schema.Schema.{Schema}
 use Rattle.ncc_header.specs.Schema.{Place}
-use Rattle.ncc_header.specs.Header.{canon_name, canon_list, canon_dim, canon_attr, canon_dimids, canon_var}
+use Rattle.ncc_header.specs.Header.{canon_name, canon_list, canon_dim, canon_attr, canon_dimids, canon_var, canon}
 
 -- ---- names
 
@@ -67,6 +67,10 @@ vars_at s = gatts_at s + length (canon_list s.version 12 (canon_attr s.version) 
 abbrev pub var_at : Schema → List Place → ℕ → ℕ
 var_at s places i = vars_at s + list_size s.version + before (canon_var s.version) i (zip s.vars places)
 
+-- the begin field of a variable, which is the last of its fields
+abbrev pub begin_at : Schema → List Place → ℕ → ℕ
+begin_at s places i = var_at s places (suc i) - offset_width_of s.version
+
 -- the first attribute of a variable, counted from the variable
 abbrev pub attrs_in : Version → Var → ℕ
 attrs_in v x = length (canon_name v x.name) + length (canon_dimids v x.dims) + list_size v
@@ -85,9 +89,23 @@ name_at s places (of.Attr i j) = var_at s places i + attr_in s.version j (drop i
 
 -- ---- sizes whatever the places
 
--- a variable at some place, where only its size matters
+-- some place, where only sizes matter
+abbrev pub no_place : Place
+no_place = record { vsize = 0; begin = 0 }
+
 abbrev pub canon_unplaced : Version → Var → List ℕ
-canon_unplaced v x = canon_var v (x, record { vsize = 0; begin = 0 })
+canon_unplaced v x = canon_var v (x, no_place)
+
+abbrev pub unplaced : List Var → List Place
+unplaced vars = map (λ x. no_place) vars
+
+-- the length of the canonical header
+abbrev pub header_length : Schema → ℕ
+header_length s = length (canon s (unplaced s.vars))
+
+-- a number, or the greatest u64 in place of one past it
+abbrev pub capped : ℕ → ℕ
+capped n = min n (2 ^ 64 - 1)
 
 -- ---- what stands where
 

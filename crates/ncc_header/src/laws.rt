@@ -1,7 +1,8 @@
 //! Laws of the grammar alone, each the contract of a function that does nothing.
 
-ghost use Rattle.std.specs.Prelude.{◌≡◌, ◌≢◌, ℕ, ◌≤◌, List, [], ◌++◌, length, ◌⊎◌};
-ghost use Rattle.ncc_values.specs.Numbers.{IsBytes};
+ghost use Rattle.std.specs.Prelude.{◌≡◌, ◌≢◌, ℕ, ◌≤◌, List, [], ◌++◌, length, slice_get, Some, ◌⊎◌};
+ghost use Rattle.ncc_values.specs.Numbers.{IsBytes, big_endian};
+ghost use Rattle.ncc_values.specs.Version.{offset_width_of};
 ghost use Rattle.ncc_header.specs.declared.fault.Fault.{Fault};
 ghost use Rattle.ncc_header.specs.declared.fault.FaultKind.TheVariants.{EndsEarly};
 ghost use Rattle.ncc_header.specs.declared.schema.Schema.{Schema};
@@ -9,7 +10,7 @@ ghost use Rattle.ncc_header.specs.declared.schema.Header.{Header};
 ghost use Rattle.ncc_header.specs.declared.names.NameOf.{NameOf};
 ghost use Rattle.ncc_header.specs.Schema.{Place, Legal, IsTyped};
 ghost use Rattle.ncc_header.specs.Header.{IsHeader, canon_name, canon};
-ghost use Rattle.ncc_header.specs.Names.{HasName, name_of, name_at, StandsAt};
+ghost use Rattle.ncc_header.specs.Names.{HasName, name_of, name_at, begin_at, StandsAt, header_length};
 ghost use Rattle.ncc_header.specs.Marks.{header_marks};
 ghost use Rattle.ncc_header.specs.Answers.{Begins, Stops};
 
@@ -49,4 +50,14 @@ pub fn unmarked_is_canonical()
 /// Where a name of a canonical header is told to stand, it stands with its length and its padding.
 pub fn name_is_there()
     ensures { (s : Schema) (places : List Place) (of : NameOf) → Legal s places → HasName s of → StandsAt (canon s places) (canon_name s.version (name_of s of)) (name_at s places of) }
+{}
+
+/// The length of a canonical header doesn't depend on where its variables are.
+pub fn one_length()
+    ensures { (s : Schema) (places : List Place) → length places ≡ length s.vars → length (canon s places) ≡ header_length s }
+{}
+
+/// Where the begin field of a variable is told to stand, its begin stands.
+pub fn begin_is_there()
+    ensures { (s : Schema) (places : List Place) (i : ℕ) (p : Place) → length places ≡ length s.vars → slice_get places i ≡ Some p → StandsAt (canon s places) (big_endian (offset_width_of s.version) p.begin) (begin_at s places i) }
 {}

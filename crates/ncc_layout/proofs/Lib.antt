@@ -12,3 +12,5 @@ mod FirstFaults
 mod Laying
 mod OneFault
 mod Lengthening
+mod StandardPlaces
+mod VersionFits

@@ -6,3 +6,4 @@ pub mod Bounds
 pub mod Elements
 pub mod Placed
 pub mod Standard
+pub mod Plans

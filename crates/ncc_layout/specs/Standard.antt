@@ -1,13 +1,13 @@
 -- The standard placement of a schema that is to be written.
-use Rattle.std.specs.Prelude.{ℕ, suc, ◌+◌, ◌-◌, ◌*◌, ◌^◌, ◌<◌, ◌≤◌, ltb, List, [], ◌∷◌, length, map, take, filter, sum_by, not, if◌then◌else◌}
+use Rattle.std.specs.Prelude.{ℕ, suc, ◌+◌, ◌-◌, ◌*◌, ◌^◌, ◌<◌, ◌≤◌, ltb, Option, Some, None, List, [], ◌∷◌, take, filter, sum_by, not, if◌then◌else◌}
 use Rattle.std.specs.List.{AllByRecursion}
 use Rattle.ncc_values.specs.declared.version.Version.{Version}
 use Rattle.ncc_values.specs.declared.version.Version.TheVariants.{V1, V2, V5}
 use Rattle.ncc_header.specs.declared.schema.Dim.{Dim}
 use Rattle.ncc_header.specs.declared.schema.Var.{Var}
 use Rattle.ncc_header.specs.declared.schema.Schema.{Schema}
-use Rattle.ncc_header.specs.Schema.{Place, offset_limit}
-use Rattle.ncc_header.specs.Header.{canon}
+use Rattle.ncc_header.specs.Schema.{Place, mark, offset_limit}
+use Rattle.ncc_header.specs.Names.{begin_at, header_length}
 use Rattle.ncc_layout.specs.Sizes.{is_record_var, rounded, record_sum, record_size_of, room, Fit}
 
 -- ---- the word for a size
@@ -33,10 +33,6 @@ vsize_word v dims x = let n = rounded dims x in if ltb (size_limit v) n then pas
 abbrev pub fixed_sum : List Dim → List Var → ℕ
 fixed_sum dims vars = sum_by (rounded dims) (filter (λ x. not (is_record_var dims x)) vars)
 
--- the header's length, wherever its variables are
-abbrev pub header_length : Schema → ℕ
-header_length s = length (canon s (map (λ x. record { vsize = 0; begin = 0 }) s.vars))
-
 -- first the fixed variables from the header on, then those of record 0, each with its padding
 abbrev pub standard_begin : Schema → (number : ℕ) → Var → ℕ
 standard_begin s n x =
@@ -54,6 +50,14 @@ standard_from s n (x ∷ vars) = standard_place s n x ∷ standard_from s (suc n
 abbrev pub standard_places : Schema → List Place
 standard_places s = standard_from s 0 s.vars
 
+-- the offsets of the begin fields in the header
+abbrev pub begin_fields_from : Schema → (number : ℕ) → List Var → List ℕ
+begin_fields_from s n [] = []
+begin_fields_from s n (x ∷ vars) = begin_at s (standard_places s) n ∷ begin_fields_from s (suc n) vars
+
+abbrev pub begin_fields : Schema → List ℕ
+begin_fields s = begin_fields_from s 0 s.vars
+
 -- ---- what can be written
 
 abbrev pub file_length : Schema → (records : ℕ) → ℕ
@@ -68,3 +72,9 @@ pub record FitsVersion (s : Schema) (records : ℕ) : Type 0 where
 -- the version can tell where each variable begins
 abbrev pub OffsetsFit : Schema → Type 0
 OffsetsFit s = AllByRecursion (λ p. p.begin < offset_limit s.version) (standard_places s)
+
+-- ---- one record more
+
+-- the number of records after these, where that isn't the mark of a file that is still written
+abbrev pub next_count : Version → ℕ → Option ℕ
+next_count v n = if ltb (n + 1) (mark v) then Some (n + 1) else None
