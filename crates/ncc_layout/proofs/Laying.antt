@@ -100,7 +100,7 @@ placed_same dims records n [] places = refl
 placed_same dims records n (x ∷ vars) [] = refl
 placed_same dims records n (x ∷ vars) (p ∷ places) = ap (λ (l : List PlacedVar). placed_var dims records n x p ∷ l) (placed_same dims records (suc n) vars places)
 
-extents_same : (dims : List Dim) (records n : ℕ) (vars : List Var) (places : List Place) → map (λ y. y.extent) (placed_from dims records n vars places) ≡ extents_from dims n vars places
+pub extents_same : (dims : List Dim) (records n : ℕ) (vars : List Var) (places : List Place) → map (λ y. y.extent) (placed_from dims records n vars places) ≡ extents_from dims n vars places
 extents_same dims records n [] places = refl
 extents_same dims records n (x ∷ vars) [] = refl
 extents_same dims records n (x ∷ vars) (p ∷ places) = ap (λ (l : List Extent). extent_of dims n x p ∷ l) (extents_same dims records (suc n) vars places)

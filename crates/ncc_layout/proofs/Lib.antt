@@ -12,5 +12,6 @@ mod FirstFaults
 mod Laying
 mod OneFault
 mod Lengthening
+mod OneMore
 mod StandardPlaces
 mod VersionFits

@@ -1,5 +1,6 @@
 -- What a placed file holds.
-use Rattle.std.specs.Prelude.{◌≡◌, ℕ, ◌<◌, List, map, length, get_or, Result, Ok, Err}
+use Rattle.std.specs.Prelude.{◌≡◌, ℕ, ◌+◌, ◌<◌, List, map, length, get_or, Result, Ok, Err}
+use Rattle.ncc_header.specs.declared.schema.Count.TheVariants.{Known}
 use Rattle.ncc_header.specs.declared.schema.Schema.{Schema}
 use Rattle.ncc_header.specs.declared.schema.VarPlace.{VarPlace}
 use Rattle.ncc_header.specs.Schema.{Place, places_of}
@@ -11,7 +12,7 @@ use Rattle.ncc_layout.specs.declared.placed_var.PlacedVar.{PlacedVar}
 use Rattle.ncc_layout.specs.declared.placed_file.Placed.{Placed}
 use Rattle.ncc_layout.specs.Sizes.{record_size_of}
 use Rattle.ncc_layout.specs.Extents.{record_count}
-use Rattle.ncc_layout.specs.Elements.{placed_vars}
+use Rattle.ncc_layout.specs.Elements.{placed_vars, with_records}
 use Rattle.ncc_layout.specs.Rules.{IsPlaced}
 use Rattle.ncc_layout.specs.Faults.{FirstFault}
 
@@ -29,6 +30,18 @@ pub record Holds (s : Schema) (places : List Place) (header length : ℕ) (p : P
   pub size_is : p.record_size ≡ record_size_of s
   pub records_are : p.records ≡ record_count s places length
   pub vars_are : p.vars.items ≡ placed_vars s places length
+
+-- the same schema with another count of records
+abbrev pub with_count : Schema → ℕ → Schema
+with_count s n = record { version = s.version; count = Known n; dims = s.dims; gatts = s.gatts; vars = s.vars }
+
+-- the same placed file with one record more, in a file of this length
+pub record HasOneMore (p : Placed) (file : ℕ) (q : Placed) : Type 0 where
+  pub header_is : q.header_length ≡ p.header_length
+  pub length_is : q.file_length ≡ file
+  pub size_is : q.record_size ≡ p.record_size
+  pub records_are : q.records ≡ p.records + 1
+  pub vars_are : q.vars.items ≡ map (with_records (p.records + 1)) p.vars.items
 
 -- the placed file, or the first fault and the begin field of its variable
 abbrev pub PlacedAs : Schema → List VarPlace → (header file : ℕ) → Result Placed PlaceError → Type 0

@@ -105,15 +105,13 @@ impl Placed {
         self.vars[var].extent.slab
     }
 
+    ghost use Rattle.ncc_layout.specs.Placed.{HasOneMore};
+
     /// One record more, in a file of this length that has room for it. It takes no memory.
     pub fn one_more(&mut self, file_length: u64)
         requires countable { self.old.records + 1 < 2 ^ 64 }
         requires rules { Rules self.old.header_length file_length self.old.record_size (self.old.records + 1) (map (λ x. x.extent) self.old.vars.items) }
-        ensures header { self.new.header_length ≡ self.old.header_length }
-        ensures file { self.new.file_length ≡ file_length }
-        ensures stride { self.new.record_size ≡ self.old.record_size }
-        ensures records { self.new.records ≡ self.old.records + 1 }
-        ensures vars { self.new.vars.items ≡ map (with_records (self.old.records + 1)) self.old.vars.items }
+        ensures { HasOneMore self.old file_length self.new }
     {
         let records = self.records + 1;
         lengthen(&mut self.vars, records);

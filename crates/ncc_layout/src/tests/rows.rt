@@ -111,4 +111,6 @@ fn laws_are_there() {
     crate::laws::placed_elements_are_apart();
     crate::laws::placed_or_fault();
     crate::laws::one_fault();
+    crate::laws::room_for_one_more();
+    crate::laws::one_more_is_placed();
 }
