@@ -1,7 +1,8 @@
 //! Headers in words of four bytes, and what becomes of them.
 
 use crate::{
-    LayoutFault, LayoutFaultKind, PlaceError, Placed, SizeError, Sizes, place, placed, sizes,
+    LayoutFault, LayoutFaultKind, PlaceError, Placed, PlanFault, SizeError, Sizes, place, placed,
+    sizes, standard,
 };
 use ncc_header::{
     Count, Header, HeaderError, Schema, Var, VarPlace, Version, XType, decode, legal, sound,
@@ -216,5 +217,27 @@ pub fn said_of_scalars(alloc: Global, count: u16, twin: Option<u16>) -> Said {
     match scalars(alloc, count, twin) {
         Ok(header) => judged(alloc, &header, count as u64 + 102),
         Err(_) => Said::Memory,
+    }
+}
+
+/// Where the first variable begins in the standard placement of a file with this header.
+pub fn standard_begin(alloc: Global, words: &[u32]) -> Result<u64, PlanFault> {
+    match header_of(alloc, words) {
+        Ok(header) => first_standard_begin(alloc, &header.schema),
+        Err(_) => Err(PlanFault::Memory),
+    }
+}
+
+fn first_standard_begin(alloc: Global, schema: &Schema) -> Result<u64, PlanFault> {
+    match schema.count {
+        Count::Known(_) if sound(schema) => begin_of(&standard(alloc, schema)?),
+        _ => Err(PlanFault::SizeForVersion),
+    }
+}
+
+fn begin_of(places: &[VarPlace]) -> Result<u64, PlanFault> {
+    match places.first() {
+        Some(place) => Ok(place.begin),
+        None => Err(PlanFault::SizeForVersion),
     }
 }
