@@ -1,5 +1,5 @@
 #!/usr/bin/env python3
-"""Writes three large headers, each into its own file of the folder given, for bench/list.sh."""
+"""Writes three files with large headers into the folder given, for bench/list.sh."""
 
 import struct
 import sys
@@ -26,15 +26,15 @@ def listed(tag, items):
     return number(tag if items else 0) + number(len(items)) + b"".join(items)
 
 
-def variable(index, attributes):
-    """A scalar of type byte. Its place isn't read by `list`."""
+def variable(index, attributes, begin):
+    """A scalar of type byte."""
     return (
         name(b"variable_%d" % index)
         + number(0)
         + listed(12, attributes)
         + number(1)
         + number(4)
-        + number(1 << 30)
+        + number(begin)
     )
 
 
@@ -42,11 +42,18 @@ def header(attributes, variables):
     return b"CDF\x01" + number(0) + listed(10, []) + listed(12, attributes) + listed(11, variables)
 
 
+def scalars(count, attributes):
+    """A file of so many scalars of type byte, one behind the other."""
+    length = len(header([], [variable(i, attributes, 0) for i in range(count)]))
+    variables = [variable(i, attributes, length + 4 * i) for i in range(count)]
+    return header([], variables) + b"\0" * (4 * count)
+
+
 def main(folder):
     twenty = [attribute(b"attribute_%d" % i, b"some text of it") for i in range(20)]
     files = {
-        "2000_variables_of_20_attributes.nc": header([], [variable(i, twenty) for i in range(2000)]),
-        "24000_variables.nc": header([], [variable(i, []) for i in range(24000)]),
+        "2000_variables_of_20_attributes.nc": scalars(2000, twenty),
+        "24000_variables.nc": scalars(24000, []),
         "one_attribute_of_60_MiB.nc": header([attribute(b"text", b"a" * (60 << 20))], []),
     }
     for file, data in files.items():
