@@ -2,7 +2,6 @@
 use Rattle.std.proofs.Common.{◌≡◌, ℕ, suc, ◌+◌, ◌*◌, ◌<◌, ◌≤◌, List, [], ◌∷◌, length, get_or, drop, drop-cons, refl, sym, ap, subst, ◌∙◌, arith}
 use Rattle.std.proofs.Math.Nat.{mul_assoc, add-mul}
 use Rattle.std.proofs.lemmas.Nat.{mul-le}
-use Rattle.std.proofs.lemmas.List.{drop_all}
 use Rattle.ncc_layout.specs.Sizes.{product}
 use Rattle.ncc_layout.specs.Elements.{row_major, Inside}
 use Rattle.ncc_layout.proofs.RowMajor.{row_major_below}
@@ -25,9 +24,6 @@ module _ (ls is : List ℕ) (k : ℕ) (below : k < length ls) (also : k < length
   pub inside_split : Inside (drop k ls) (drop k is) → (get_or is k 0 < get_or ls k 0) × Inside (drop (k + 1) ls) (drop (k + 1) is)
   inside_split h = subst (λ (l : List ℕ). Inside l (get_or is k 0 ∷ drop (k + 1) is)) (split ls below) (subst (Inside (drop k ls)) (split is also) h)
 
-  pub inside_join : (get_or is k 0 < get_or ls k 0) × Inside (drop (k + 1) ls) (drop (k + 1) is) → Inside (drop k ls) (drop k is)
-  inside_join h = subst (λ (l : List ℕ). Inside l (drop k is)) (sym (split ls below)) (subst (Inside (get_or ls k 0 ∷ drop (k + 1) ls)) (sym (split is also)) h)
-
   row_next : row_major (drop k ls) (drop k is) ≡ get_or is k 0 * product (drop (k + 1) ls) + row_major (drop (k + 1) ls) (drop (k + 1) is)
   row_next = ap (λ (l : List ℕ). row_major l (drop k is)) (split ls below) ∙ ap (row_major (get_or ls k 0 ∷ drop (k + 1) ls)) (split is also)
 
@@ -49,8 +45,3 @@ module _ (ls is : List ℕ) (k : ℕ) (below : k < length ls) (also : k < length
       let m = n * get_or ls k 0 + get_or is k 0 in
       let least : m * 1 ≤ m * product (drop (k + 1) ls) = mul-le m 1 m (product (drop (k + 1) ls)) (omega arith) (product_above (drop (k + 1) ls) (drop (k + 1) is) (inside_split inside).1) in
       omega (arith, least, horner n total h)
-
-pub horner_done : (ls is : List ℕ) (k n total : ℕ) → length ls ≤ k → n * product (drop k ls) + row_major (drop k ls) (drop k is) ≡ total → n ≡ total
-horner_done ls is k n total done h =
-    let none : drop k ls ≡ [] = drop_all k ls done in
-    omega (arith, ap (λ (l : List ℕ). n * product l + row_major l (drop k is)) none, h)

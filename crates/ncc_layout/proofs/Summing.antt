@@ -1,8 +1,7 @@
 -- Sums over variables, with one variable more.
-use Rattle.std.proofs.Common.{◌≡◌, ℕ, ◌+◌, ◌<◌, ◌≤◌, Bool, true, false, cond, not, List, [], ◌∷◌, ◌++◌, Some, None, refl, sym, ap, ◌∙◌, arith}
+use Rattle.std.proofs.Common.{◌≡◌, ℕ, ◌+◌, ◌≤◌, Bool, true, false, cond, not, List, [], ◌∷◌, ◌++◌, Some, None, refl, sym, ap, ◌∙◌, arith}
 use Rattle.std.specs.Prelude.{sum_by, ltb, if◌then◌else◌}
 use Rattle.std.specs.List.{AllByRecursion}
-use Rattle.std.proofs.lemmas.List.{append-nil}
 use Rattle.std.proofs.lemmas.List.Elements.{filter-append}
 use Rattle.std.proofs.lemmas.List.Sums.{sum_by_push}
 use Rattle.std.proofs.lemmas.Bool.{ltb-false}
@@ -22,38 +21,16 @@ all_more : {A : Type 0} (P : A → Type 0) (xs : List A) (x : A) → AllByRecurs
 all_more P [] x all h = (h, tt)
 all_more P (y ∷ xs) x all h = (all.0, all_more P xs x all.1 h)
 
-all_last : {A : Type 0} (P : A → Type 0) (xs : List A) (x : A) → AllByRecursion P (xs ++ x ∷ []) → P x
-all_last P [] x all = all.0
-all_last P (y ∷ xs) x all = all_last P xs x all.1
-
 -- ---- the record variables with one variable more
 
 module _ (dims : List Dim) (xs : List Var) (x : Var) where
-  with_fixed : is_record_var dims x ≡ false → record_vars dims (xs ++ x ∷ []) ≡ record_vars dims xs
-  with_fixed is = filter-append (is_record_var dims) xs (x ∷ []) ∙ ap (λ (b : Bool). record_vars dims xs ++ cond b (x ∷ []) []) is ∙ append-nil (record_vars dims xs)
-
   with_record : is_record_var dims x ≡ true → record_vars dims (xs ++ x ∷ []) ≡ record_vars dims xs ++ x ∷ []
   with_record is = filter-append (is_record_var dims) xs (x ∷ []) ∙ ap (λ (b : Bool). record_vars dims xs ++ cond b (x ∷ []) []) is
 
   sum_with_record : is_record_var dims x ≡ true → record_sum dims (xs ++ x ∷ []) ≡ record_sum dims xs + rounded dims x
   sum_with_record is = ap (sum_by (rounded dims)) (with_record is) ∙ sum_by_push (rounded dims) (record_vars dims xs) x
 
-  sum_with_fixed : is_record_var dims x ≡ false → record_sum dims (xs ++ x ∷ []) ≡ record_sum dims xs
-  sum_with_fixed is = ap (sum_by (rounded dims)) (with_fixed is)
-
   -- ---- what fits
-
-  pub too_large : room < slab dims x → Fit dims (xs ++ x ∷ []) → ⊥
-  too_large h fit = omega (arith, h, all_last (λ y. rounded dims y ≤ room) xs x fit.each)
-
-  pub too_many : is_record_var dims x ≡ true → room < record_sum dims xs + rounded dims x → Fit dims (xs ++ x ∷ []) → ⊥
-  too_many is h fit = omega (arith, h, sum_with_record is, fit.together)
-
-  pub fits_with_fixed : is_record_var dims x ≡ false → slab dims x ≤ room → Fit dims xs → Fit dims (xs ++ x ∷ [])
-  fits_with_fixed is h fit = record {
-    each = all_more (λ y. rounded dims y ≤ room) xs x fit.each (up_in_room (slab dims x) h);
-    together = omega (arith, sum_with_fixed is, fit.together);
-  }
 
   pub fits_with_record : is_record_var dims x ≡ true → slab dims x ≤ room → record_sum dims xs + rounded dims x ≤ room → Fit dims xs → Fit dims (xs ++ x ∷ [])
   fits_with_record is h sum_h fit = record {
@@ -62,13 +39,6 @@ module _ (dims : List Dim) (xs : List Var) (x : Var) where
   }
 
   -- ---- the sums
-
-  pub sums_with_fixed : is_record_var dims x ≡ false → (t : Totals) → Sums dims xs t → Sums dims (xs ++ x ∷ []) t
-  sums_with_fixed is t sums = record {
-    any = sums.any ∙ ap (λ (l : List Var). not (is_nil l)) (sym (with_fixed is));
-    sum_is = sums.sum_is ∙ sym (sum_with_fixed is);
-    size_is = sums.size_is ∙ ap (record_bytes dims) (sym (with_fixed is));
-  }
 
   not_nil : (ys : List Var) → is_nil (ys ++ x ∷ []) ≡ false
   not_nil [] = refl

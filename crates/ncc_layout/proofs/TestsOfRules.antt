@@ -1,5 +1,5 @@
 -- What the tests of extents say of the rules.
-use Rattle.std.proofs.Common.{◌≡◌, ℕ, zero, suc, ◌+◌, ◌≤◌, min, Bool, true, false, not, ◌&&◌, List, [], ◌∷◌, Some, None, arith, ltb}
+use Rattle.std.proofs.Common.{◌≡◌, ℕ, zero, suc, ◌+◌, ◌≤◌, min, Bool, true, false, not, ◌&&◌, List, [], ◌∷◌, Some, arith, ltb}
 use Rattle.std.specs.List.{AllByRecursion}
 use Rattle.std.proofs.lemmas.Bool.{ltb-true, ltb-false}
 use Rattle.ncc_layout.specs.declared.extent.Extent.{Extent}
@@ -13,10 +13,6 @@ use Rattle.ncc_layout.proofs.Searching.{Tells}
 all_from : {A : Type 0} (P Q : A → Type 0) → ((a : A) → P a → Q a) → (xs : List A) → AllByRecursion P xs → AllByRecursion Q xs
 all_from P Q step [] all = tt
 all_from P Q step (x ∷ xs) all = (step x all.0, all_from P Q step xs all.1)
-
-pub all_of : {A : Type 0} (P : A → Type 0) → ((a : A) → P a) → (xs : List A) → AllByRecursion P xs
-all_of P h [] = tt
-all_of P h (x ∷ xs) = (h x, all_of P h xs)
 
 -- ---- the first begin
 
@@ -45,10 +41,6 @@ ends_before further b [] e is all = absurd cc
 ends_before further b (r ∷ rs) e is all =
     let same : b ≡ least_from r.begin rs = cc in
     omega (arith, same, least_met e further r.begin rs all.0 all.1)
-
-no_records : (further : ℕ) (rs : List Extent) (e : Extent) → None ≡ first_begin rs → EndsBy further rs e
-no_records further [] e is = tt
-no_records further (r ∷ rs) e is = absurd cc
 
 -- ---- the rules
 
@@ -88,17 +80,6 @@ module _ (es : List Extent) (b : ℕ) (is : Some b ≡ first_begin (records_of e
     broken = λ e test. fixed_broken e.is_record (ltb b (end e)) (EndsBy 0 (records_of es) e)
         (λ yes all. omega (arith, ltb-true b (end e) yes, ends_before 0 b (records_of es) e is all)) test;
   }
-
-either_kind : (b : Bool) (P Q : Type 0) → P → Q → ByKind b P Q
-either_kind true P Q p q = p
-either_kind false P Q p q = q
-
--- without records the rules on them hold
-pub without_records : (record_size : ℕ) (es : List Extent) → None ≡ first_begin (records_of es) → AllByRecursion (InWindow record_size es) es × AllByRecursion (BeforeRecords es) es
-without_records record_size es none = (
-  all_of (InWindow record_size es) (λ e. either_kind e.is_record (EndsBy record_size (records_of es) e) (Unit {0}) (no_records record_size (records_of es) e none) tt) es,
-  all_of (BeforeRecords es) (λ e. either_kind e.is_record (Unit {0}) (EndsBy 0 (records_of es) e) tt (no_records 0 (records_of es) e none)) es,
-)
 
 within_kept : (b : Bool) (length record_size records : ℕ) (e : Extent) → is_cut length (last_record record_size records) (record { begin = e.begin; slab = e.slab; variable = e.variable; is_record = b }) ≡ false
     → ByKind b (LastWithin length record_size records e) (end e ≤ length)
