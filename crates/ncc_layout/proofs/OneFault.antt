@@ -49,7 +49,7 @@ fit_front dims xs ys fit = record {
       omega (arith, parts, fit.together);
 }
 
-fit_take : (dims : List Dim) (vars : List Var) (n : ℕ) → Fit dims vars → Fit dims (take n vars)
+pub fit_take : (dims : List Dim) (vars : List Var) (n : ℕ) → Fit dims vars → Fit dims (take n vars)
 fit_take dims vars n fit = fit_front dims (take n vars) (drop n vars) (subst (Fit dims) (sym (take-append-drop n vars)) fit)
 
 not_sooner : (s : Schema) (m n : ℕ) → FirstTooLarge s m → FirstTooLarge s n → m < n → ⊥

@@ -1,5 +1,5 @@
 -- Schemas that the version can tell.
-use Rattle.std.proofs.Common.{◌≡◌, ℕ, zero, suc, ◌+◌, ◌*◌, ◌^◌, ◌<◌, ◌≤◌, List, [], ◌∷◌, map, take, sym, ap, subst, arith}
+use Rattle.std.proofs.Common.{◌≡◌, ℕ, suc, ◌+◌, ◌*◌, ◌^◌, ◌<◌, ◌≤◌, List, [], ◌∷◌, map, sym, ap, subst, arith}
 use Rattle.std.specs.Prelude.{Result, Ok, Err, IsErrAnd, MatchResult}
 use Rattle.std.specs.List.{AllByRecursion}
 use Rattle.ncc_values.specs.Version.{count_width_of}
@@ -14,17 +14,13 @@ use Rattle.ncc_layout.specs.declared.fault.SizeError.{SizeError}
 use Rattle.ncc_layout.specs.declared.fault.SizeError.TheVariants as size_error
 use Rattle.ncc_layout.specs.declared.plan_fault.PlanFault.{PlanFault}
 use Rattle.ncc_layout.specs.declared.size_list.Sizes.{Sizes}
-use Rattle.ncc_layout.specs.Sizes.{rounded, room, Fit, FirstTooLarge, AreSizes, IsSizes}
+use Rattle.ncc_layout.specs.Sizes.{rounded, Fit, FirstTooLarge, AreSizes, IsSizes}
 use Rattle.ncc_layout.specs.Standard.{size_limit, standard_from, standard_places, file_length, FitsVersion}
 use Rattle.ncc_layout.specs.Plans.{fixed_end, plan_fault, PlanFails, IsStandard}
-use Rattle.ncc_layout.proofs.StandardPlaces.{record_sum_first, length-standard_from, word_is}
+use Rattle.ncc_layout.proofs.OneFault.{fit_take}
+use Rattle.ncc_layout.proofs.StandardPlaces.{length-standard_from, word_is}
 
 -- ---- lists
-
-all_first : {A : Type 0} (P : A → Type 0) (n : ℕ) (xs : List A) → AllByRecursion P xs → AllByRecursion P (take n xs)
-all_first P zero xs all = tt
-all_first P (suc n) [] all = tt
-all_first P (suc n) (x ∷ xs) all = (all.0, all_first P n xs all.1)
 
 all_of_mapped : {A : Type 0} (P : ℕ → Type 0) (f : A → ℕ) (xs : List A) → AllByRecursion P (map f xs) → AllByRecursion (λ x. P (f x)) xs
 all_of_mapped P f [] all = tt
@@ -37,10 +33,7 @@ all_mapped P f (x ∷ xs) all = (all.0, all_mapped P f xs all.1)
 -- ---- sizes that are too large
 
 not_fit : (s : Schema) (n : ℕ) → FirstTooLarge s n → Fit s.dims s.vars → ⊥
-not_fit s n first fit = first.here (record {
-  each = all_first (λ x. rounded s.dims x ≤ room) (n + 1) s.vars fit.each;
-  together = omega (arith, record_sum_first s.dims (n + 1) s.vars, fit.together);
-})
+not_fit s n first fit = first.here (fit_take s.dims s.vars (n + 1) fit)
 
 pub size_fails : {T : Type 0} (P : T → Type 0) (s : Schema) (records : ℕ) (e : SizeError) (r : Result T PlanFault) → IsErrAnd r (λ f. f ≡ plan_fault e) → IsSizes s (Err e) → MatchResult r P (PlanFails s records)
 size_fails P s records e (Ok x) is sizes = absurd is
