@@ -1,11 +1,9 @@
 -- There is no fault where all rules hold, and one first fault at most.
-use Rattle.std.proofs.Common.{◌≡◌, ℕ, zero, suc, ◌+◌, ◌<◌, ◌≤◌, Bool, not, List, [], ◌∷◌, ◌++◌, take, drop, refl, sym, ap, subst, ◌∙◌, arith, ◌⊎◌, inl, inr, take-append-drop}
-use Rattle.std.specs.Prelude.{filter, sum_by}
+use Rattle.std.proofs.Common.{◌≡◌, ℕ, zero, suc, ◌+◌, ◌<◌, ◌≤◌, Bool, not, List, [], ◌∷◌, take, refl, sym, ap, subst, ◌∙◌, arith, ◌⊎◌, inl, inr, map-id}
+use Rattle.std.specs.Prelude.{filter}
 use Rattle.std.specs.List.{AllByRecursion}
 use Rattle.std.proofs.lemmas.Bool.{cases_lt}
 use Rattle.std.proofs.lemmas.List.{take-take}
-use Rattle.std.proofs.lemmas.List.Elements.{filter-append}
-use Rattle.std.proofs.lemmas.List.Sums.{sum_by-append}
 use Rattle.ncc_header.specs.declared.schema.Dim.{Dim}
 use Rattle.ncc_header.specs.declared.schema.Var.{Var}
 use Rattle.ncc_header.specs.declared.schema.Schema.{Schema}
@@ -13,12 +11,14 @@ use Rattle.ncc_header.specs.Schema.{Place}
 use Rattle.ncc_layout.specs.declared.extent.Extent.{Extent}
 use Rattle.ncc_layout.specs.declared.fault.LayoutFaultKind.{LayoutFaultKind}
 use Rattle.ncc_layout.specs.declared.fault.LayoutFaultKind.TheVariants.{TooLarge, InHeader, Overlap, RecordWindow, FixedAfterRecords, Truncated}
-use Rattle.ncc_layout.specs.Sizes.{is_record_var, rounded, record_vars, record_sum, room, record_size_of, Fit, FirstTooLarge}
+use Rattle.ncc_layout.specs.Sizes.{rounded, room, record_size_of, Fit, FirstTooLarge}
 use Rattle.ncc_layout.specs.Extents.{NumberedFrom, extents_of, fixed_of, records_of, record_count}
 use Rattle.ncc_layout.specs.Rules.{PastHeader, AllApart, InWindow, BeforeRecords, Within, IsPlaced}
 use Rattle.ncc_layout.specs.Faults.{FailsFirst, Before, FirstShared, FirstOverlap, FirstFault}
 use Rattle.ncc_layout.proofs.Membership.{In, in_from_contains, filter_in}
 use Rattle.ncc_layout.proofs.Laying.{numbered}
+use Rattle.ncc_layout.proofs.Own.{one_numbered}
+use Rattle.ncc_layout.proofs.StandardPlaces.{record_sum_first}
 
 -- ---- the first for which a rule fails
 
@@ -36,21 +36,16 @@ fails_once rule (a ∷ items) (suc m) (suc n) h k = ap suc (fails_once rule item
 
 -- ---- sizes
 
-all_front : {A : Type 0} (P : A → Type 0) (xs ys : List A) → AllByRecursion P (xs ++ ys) → AllByRecursion P xs
-all_front P [] ys all = tt
-all_front P (x ∷ xs) ys all = (all.0, all_front P xs ys all.1)
-
-fit_front : (dims : List Dim) (xs ys : List Var) → Fit dims (xs ++ ys) → Fit dims xs
-fit_front dims xs ys fit = record {
-  each = all_front (λ x. rounded dims x ≤ room) xs ys fit.each;
-  together =
-      let parts : record_sum dims (xs ++ ys) ≡ record_sum dims xs + record_sum dims ys =
-      ap (sum_by (rounded dims)) (filter-append (is_record_var dims) xs ys) ∙ sum_by-append (rounded dims) (record_vars dims xs) (record_vars dims ys) in
-      omega (arith, parts, fit.together);
-}
+all_take : {A : Type 0} (P : A → Type 0) (n : ℕ) (xs : List A) → AllByRecursion P xs → AllByRecursion P (take n xs)
+all_take P zero xs all = tt
+all_take P (suc n) [] all = tt
+all_take P (suc n) (x ∷ xs) all = (all.0, all_take P n xs all.1)
 
 pub fit_take : (dims : List Dim) (vars : List Var) (n : ℕ) → Fit dims vars → Fit dims (take n vars)
-fit_take dims vars n fit = fit_front dims (take n vars) (drop n vars) (subst (Fit dims) (sym (take-append-drop n vars)) fit)
+fit_take dims vars n fit = record {
+  each = all_take (λ x. rounded dims x ≤ room) n vars fit.each;
+  together = omega (arith, record_sum_first dims n vars, fit.together);
+}
 
 not_sooner : (s : Schema) (m n : ℕ) → FirstTooLarge s m → FirstTooLarge s n → m < n → ⊥
 not_sooner s m n h k less = h.here (subst (Fit s.dims) (take-take (m + 1) n s.vars (omega (arith, less))) (fit_take s.dims (take n s.vars) (m + 1) k.before))
@@ -65,17 +60,8 @@ one_number m n h k = by_order (cases_lt m n) (cases_lt n m)
 
 -- ---- shared bytes
 
-not_below : (n : ℕ) (es : List Extent) (x : Extent) → NumberedFrom n es → In es x → n ≤ x.variable
-not_below n [] x h k = absurd k
-not_below n (y ∷ es) x h (inl e) = omega (arith, h.0, ap (λ (z : Extent). z.variable) e)
-not_below n (y ∷ es) x h (inr k) = omega (arith, not_below (suc n) es x h.1 k)
-
-one_extent : (n : ℕ) (es : List Extent) (x y : Extent) → NumberedFrom n es → In es x → In es y → x.variable ≡ y.variable → x ≡ y
-one_extent n [] x y h k m e = absurd k
-one_extent n (z ∷ es) x y h (inl k) (inl m) e = sym k ∙ m
-one_extent n (z ∷ es) x y h (inl k) (inr m) e = absurd (omega (arith, h.0, ap (λ (w : Extent). w.variable) k, not_below (suc n) es y h.1 m, e))
-one_extent n (z ∷ es) x y h (inr k) (inl m) e = absurd (omega (arith, h.0, ap (λ (w : Extent). w.variable) m, not_below (suc n) es x h.1 k, e))
-one_extent n (z ∷ es) x y h (inr k) (inr m) e = one_extent (suc n) es x y h.1 k m e
+one_extent : (es : List Extent) (x y : Extent) → NumberedFrom 0 es → In es x → In es y → x.variable ≡ y.variable → x ≡ y
+one_extent es x y h = one_numbered (λ e. e) 0 es x y (subst (NumberedFrom 0) (sym (map-id es)) h)
 
 not_before_itself : (x : Extent) → Before x x → ⊥
 not_before_itself x (inl l) = omega (arith, l)
@@ -105,7 +91,7 @@ shared_not_apart p es n h shared apart =
     shared.shared (apart shared.earlier shared.later shared.earlier_there shared.later_there (λ same.
     let x = (filter_in p es shared.earlier (in_from_contains (filter p es) shared.earlier shared.earlier_there)).0 in
     let y = (filter_in p es shared.later (in_from_contains (filter p es) shared.later shared.later_there)).0 in
-    let one = one_extent 0 es shared.earlier shared.later h x y same in
+    let one = one_extent es shared.earlier shared.later h x y same in
     not_before_itself shared.later (subst (λ (z : Extent). Before z shared.later) one shared.ordered)))
 
 overlap_not_apart : (es : List Extent) (n : ℕ) → NumberedFrom 0 es → FirstOverlap es n → AllApart (fixed_of es) × AllApart (records_of es) → ⊥

@@ -144,17 +144,18 @@ same_var record_size records x y e =
 
 -- ---- variables by their numbers
 
-not_below : (n : ℕ) (vars : List PlacedVar) (x : PlacedVar) → NumberedFrom n (map (λ z. z.extent) vars) → In vars x → n ≤ x.extent.variable
-not_below n [] x h k = absurd k
-not_below n (y ∷ vars) x h (inl e) = omega (arith, h.0, ap (λ (z : PlacedVar). z.extent.variable) e)
-not_below n (y ∷ vars) x h (inr k) = omega (arith, not_below (suc n) vars x h.1 k)
+module _ {A : Type 0} (extent : A → Extent) where
+  not_below : (n : ℕ) (xs : List A) (x : A) → NumberedFrom n (map extent xs) → In xs x → n ≤ (extent x).variable
+  not_below n [] x h k = absurd k
+  not_below n (y ∷ xs) x h (inl e) = omega (arith, h.0, ap (λ (z : A). (extent z).variable) e)
+  not_below n (y ∷ xs) x h (inr k) = omega (arith, not_below (suc n) xs x h.1 k)
 
-one_var : (n : ℕ) (vars : List PlacedVar) (x y : PlacedVar) → NumberedFrom n (map (λ z. z.extent) vars) → In vars x → In vars y → x.extent.variable ≡ y.extent.variable → x ≡ y
-one_var n [] x y h k m e = absurd k
-one_var n (z ∷ vars) x y h (inl k) (inl m) e = sym k ∙ m
-one_var n (z ∷ vars) x y h (inl k) (inr m) e = absurd (omega (arith, h.0, ap (λ (w : PlacedVar). w.extent.variable) k, not_below (suc n) vars y h.1 m, e))
-one_var n (z ∷ vars) x y h (inr k) (inl m) e = absurd (omega (arith, h.0, ap (λ (w : PlacedVar). w.extent.variable) m, not_below (suc n) vars x h.1 k, e))
-one_var n (z ∷ vars) x y h (inr k) (inr m) e = one_var (suc n) vars x y h.1 k m e
+  pub one_numbered : (n : ℕ) (xs : List A) (x y : A) → NumberedFrom n (map extent xs) → In xs x → In xs y → (extent x).variable ≡ (extent y).variable → x ≡ y
+  one_numbered n [] x y h k m e = absurd k
+  one_numbered n (z ∷ xs) x y h (inl k) (inl m) e = sym k ∙ m
+  one_numbered n (z ∷ xs) x y h (inl k) (inr m) e = absurd (omega (arith, h.0, ap (λ (w : A). (extent w).variable) k, not_below (suc n) xs y h.1 m, e))
+  one_numbered n (z ∷ xs) x y h (inr k) (inl m) e = absurd (omega (arith, h.0, ap (λ (w : A). (extent w).variable) m, not_below (suc n) xs x h.1 k, e))
+  one_numbered n (z ∷ xs) x y h (inr k) (inr m) e = one_numbered (suc n) xs x y h.1 k m e
 
 same_number : (m n : ℕ) → ((m ≡ n → ⊥) → ⊥) → m ≡ n
 same_number zero zero h = refl
@@ -209,7 +210,7 @@ module _ (header length record_size records : ℕ) (vars : List PlacedVar) (laid
       let b = in_slab record_size records y js byte q in
       let equal : record_of x is * record_size ≡ record_of y js * record_size = ap (λ (i : ℕ). i * record_size) same in
       let shared : Apart x.extent y.extent → ⊥ = share x.extent y.extent (record_of x is * record_size) byte a.begin a.end (omega (arith, equal, b.begin)) (omega (arith, equal, b.end)) in
-      let one = one_var 0 vars x y laid.numbered h k (one_of_kind x y h k kind shared) in
+      let one = one_numbered (λ (z : PlacedVar). z.extent) 0 vars x y laid.numbered h k (one_of_kind x y h k kind shared) in
       (one, same_var record_size records x y one is js byte p q same)
 
   -- of record variables
