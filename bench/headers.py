@@ -1,5 +1,5 @@
 #!/usr/bin/env python3
-"""Writes three files with large headers into the folder given, for bench/list.sh."""
+"""Writes files with large headers into the folder given, for bench/list.sh and bench/place.sh."""
 
 import struct
 import sys
@@ -49,11 +49,20 @@ def scalars(count, attributes):
     return header([], variables) + b"\0" * (4 * count)
 
 
+def descending(count):
+    """A file of so many scalars of type byte, each one byte below the one before it."""
+    length = len(header([], [variable(i, [], 0) for i in range(count)]))
+    variables = [variable(i, [], length + count - 1 - i) for i in range(count)]
+    return header([], variables) + bytes(count)
+
+
 def main(folder):
     twenty = [attribute(b"attribute_%d" % i, b"some text of it") for i in range(20)]
     files = {
         "2000_variables_of_20_attributes.nc": scalars(2000, twenty),
         "24000_variables.nc": scalars(24000, []),
+        "20000_variables_in_descending_order.nc": descending(20000),
+        "80000_variables_in_descending_order.nc": descending(80000),
         "one_attribute_of_60_MiB.nc": header([attribute(b"text", b"a" * (60 << 20))], []),
     }
     for file, data in files.items():

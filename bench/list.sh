@@ -1,5 +1,5 @@
 #!/usr/bin/env bash
-# Times `ncc list` on three large headers, and `ncdump -h` beside it where that is installed.
+# Times `ncc list` on large headers, and `ncdump -h` beside it where that is installed.
 # The program is the first word, or the ncc of the path. The aim is a third of ncdump's time.
 set -euo pipefail
 ncc=${1:-ncc}
