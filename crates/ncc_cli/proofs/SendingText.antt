@@ -3,11 +3,11 @@ use Rattle.std.proofs.Common.{◌≡◌, ℕ, ◌+◌, ◌<◌, List, [], ◌++�
 use Rattle.std.specs.Prelude.{IsErr}
 use Rattle.std.specs.List.{flat_map}
 use Rattle.std.proofs.lemmas.List.{drop_more}
-use Rattle.ncc_header.specs.declared.schema.Dim.{Dim}
-use Rattle.ncc_header.specs.declared.schema.Var.{Var}
-use Rattle.ncc_header.specs.declared.schema.VarPlace.{VarPlace}
-use Rattle.ncc_header.specs.Device.{Puts}
-use Rattle.ncc_header.proofs.Writing.{SoFar, so_far_more, puts_both}
+use Rattle.ncc_schema.specs.declared.schema.Dim.{Dim}
+use Rattle.ncc_schema.specs.declared.schema.Var.{Var}
+use Rattle.ncc_schema.specs.declared.schema.VarPlace.{VarPlace}
+use Rattle.ncc_schema.specs.Device.{Puts}
+use Rattle.ncc_schema.proofs.Writing.{SoFar, so_far_more, puts_both}
 use Rattle.ncc_cli.specs.declared.answer.Halt.{Halt}
 use Rattle.ncc_cli.specs.Listing.{PutsFront, Sends}
 use Rattle.ncc_cli.specs.Texts.{dim_line, dim_lines, begin_of, var_text, var_texts}

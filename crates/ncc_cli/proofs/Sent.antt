@@ -4,8 +4,8 @@ use Rattle.std.specs.Prelude.{IfSome}
 use Rattle.ncc_header.specs.declared.fault.Fault.{Fault}
 use Rattle.ncc_header.specs.declared.fault.HeaderError.{HeaderError}
 use Rattle.ncc_header.specs.declared.fault.HeaderError.TheVariants as errors
-use Rattle.ncc_header.specs.declared.schema.Header.{Header}
-use Rattle.ncc_header.specs.Device.{Puts}
+use Rattle.ncc_schema.specs.declared.schema.Header.{Header}
+use Rattle.ncc_schema.specs.Device.{Puts}
 use Rattle.ncc_header.specs.Answers.{Begins, Stops, AnswersOf}
 use Rattle.ncc_cli.specs.declared.answer.Answer.{Answer}
 use Rattle.ncc_cli.specs.declared.answer.Answer.TheVariants as answers

@@ -1,9 +1,9 @@
 -- What the list engine writes.
 use Rattle.std.specs.Prelude.{◌≡◌, ℕ, List, ◌++◌, ◌⊎◌, Option, Result, Ok, Err}
 use Rattle.ncc_header.specs.declared.fault.Fault.{Fault}
-use Rattle.ncc_header.specs.declared.schema.Header.{Header}
+use Rattle.ncc_schema.specs.declared.schema.Header.{Header}
 use Rattle.ncc_header.specs.Answers.{Begins, Stops}
-use Rattle.ncc_header.specs.Device.{Puts}
+use Rattle.ncc_schema.specs.Device.{Puts}
 use Rattle.ncc_values.specs.Failures.{Rose}
 use Rattle.ncc_cli.specs.declared.answer.Answer.{Answer}
 use Rattle.ncc_cli.specs.declared.answer.Answer.TheVariants.{Passed, Refused, Device, Memory}

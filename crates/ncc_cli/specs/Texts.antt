@@ -8,15 +8,15 @@ use Rattle.ncc_values.specs.declared.version.Version.TheVariants.{V1, V2, V5}
 use Rattle.ncc_header.specs.declared.fault.Fault.{Fault}
 use Rattle.ncc_header.specs.declared.fault.FaultKind.{FaultKind}
 use Rattle.ncc_header.specs.declared.fault.FaultKind.TheVariants as kinds
-use Rattle.ncc_header.specs.declared.schema.Attr.{Attr}
-use Rattle.ncc_header.specs.declared.schema.Count.{Count}
-use Rattle.ncc_header.specs.declared.schema.Count.TheVariants.{Known, Streaming}
-use Rattle.ncc_header.specs.declared.schema.Dim.{Dim}
-use Rattle.ncc_header.specs.declared.schema.Header.{Header}
-use Rattle.ncc_header.specs.declared.schema.Schema.{Schema}
-use Rattle.ncc_header.specs.declared.schema.Var.{Var}
-use Rattle.ncc_header.specs.declared.schema.VarPlace.{VarPlace}
-use Rattle.ncc_header.specs.Schema.{is_record}
+use Rattle.ncc_schema.specs.declared.schema.Attr.{Attr}
+use Rattle.ncc_schema.specs.declared.schema.Count.{Count}
+use Rattle.ncc_schema.specs.declared.schema.Count.TheVariants.{Known, Streaming}
+use Rattle.ncc_schema.specs.declared.schema.Dim.{Dim}
+use Rattle.ncc_schema.specs.declared.schema.Header.{Header}
+use Rattle.ncc_schema.specs.declared.schema.Schema.{Schema}
+use Rattle.ncc_schema.specs.declared.schema.Var.{Var}
+use Rattle.ncc_schema.specs.declared.schema.VarPlace.{VarPlace}
+use Rattle.ncc_schema.specs.Schema.{is_record}
 use Rattle.ncc_cli.specs.Words.{name_text, values_text}
 
 -- ---- the format and the number of records

@@ -1,7 +1,7 @@
 //! `list`: what the header alone says.
 
 ghost use Rattle.std.specs.Prelude.{◌≡◌, ◌⊎◌, ℕ, List, IfSome};
-ghost use Rattle.ncc_header.specs.Device.{Puts};
+ghost use Rattle.ncc_schema.specs.Device.{Puts};
 ghost use Rattle.ncc_values.specs.Failures.{Rose};
 ghost use Rattle.ncc_cli.specs.Texts.{fault_line};
 ghost use Rattle.ncc_cli.specs.Listing.{Lists, Sends, Blames, answer_of};

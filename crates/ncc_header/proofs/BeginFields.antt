@@ -4,13 +4,13 @@ use Rattle.std.specs.Prelude.{◌==◌, if◌then◌else◌}
 use Rattle.std.proofs.lemmas.List.{length-map}
 use Rattle.ncc_values.specs.Numbers.{number_of}
 use Rattle.ncc_values.specs.declared.version.Version.{Version}
-use Rattle.ncc_header.specs.declared.schema.Dim.{Dim}
-use Rattle.ncc_header.specs.declared.schema.Attr.{Attr}
-use Rattle.ncc_header.specs.declared.schema.Var.{Var}
-use Rattle.ncc_header.specs.declared.schema.Schema.{Schema}
-use Rattle.ncc_header.specs.declared.schema.Count.{Count}
+use Rattle.ncc_schema.specs.declared.schema.Dim.{Dim}
+use Rattle.ncc_schema.specs.declared.schema.Attr.{Attr}
+use Rattle.ncc_schema.specs.declared.schema.Var.{Var}
+use Rattle.ncc_schema.specs.declared.schema.Schema.{Schema}
+use Rattle.ncc_schema.specs.declared.schema.Count.{Count}
 use Rattle.ncc_header.specs.Grammar.{Label, Plain, Padding, CountOfTagged, Begin, Grammar, done, field, Spells, fields, ◌>>=◌, repeat}
-use Rattle.ncc_header.specs.Schema.{Place}
+use Rattle.ncc_schema.specs.Schema.{Place}
 use Rattle.ncc_header.specs.Fields.{name, list_head, list, dim, attr, attrs, dimid, dimids, nc_type, vsize, begin, var, header}
 use Rattle.ncc_header.specs.Marks.{begin_of, begins, header_begins}
 use Rattle.ncc_header.proofs.FieldsLaws.{fields_first}

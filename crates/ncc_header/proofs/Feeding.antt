@@ -9,14 +9,14 @@ use Rattle.ncc_header.specs.declared.fault.FaultKind.TheVariants.{HeaderTooLong,
 use Rattle.ncc_header.specs.declared.fault.HeaderError.{HeaderError}
 use Rattle.ncc_header.specs.declared.fault.HeaderError.TheVariants as errors
 use Rattle.ncc_header.specs.declared.reading.Reading.{Reading}
-use Rattle.ncc_header.specs.declared.schema.Schema.{Schema}
-use Rattle.ncc_header.specs.declared.schema.VarPlace.{VarPlace}
+use Rattle.ncc_schema.specs.declared.schema.Schema.{Schema}
+use Rattle.ncc_schema.specs.declared.schema.VarPlace.{VarPlace}
 use Rattle.ncc_header.specs.Grammar.{Grammar, done, field, reads, stops, read, lacking, fields}
-use Rattle.ncc_header.specs.Header.{IsHeader}
+use Rattle.ncc_schema.specs.Header.{IsHeader}
 use Rattle.ncc_header.specs.Fields.{header}
 use Rattle.ncc_header.specs.Answers.{Begins, Stops}
 use Rattle.ncc_header.specs.Marks.{marks, begins, header_marks, header_begins}
-use Rattle.ncc_header.specs.Schema.{places_of}
+use Rattle.ncc_schema.specs.Schema.{places_of}
 use Rattle.ncc_header.specs.States.{Given, left_of, begins_of, size_of}
 use Rattle.ncc_header.specs.Reading.{course, from_start, held_of, onward, Takes, FailsBehind, Waits}
 use Rattle.ncc_header.specs.Standing.{HasTaken, FailedOn, Feeds, IsSettled, lacks_of, fed_of, front_taken, cut_at}

@@ -9,10 +9,10 @@ use Rattle.ncc_header.specs.declared.decoder.Decoder.{Decoder}
 use Rattle.ncc_header.specs.declared.fault.FaultKind.TheVariants.{EndsEarly}
 use Rattle.ncc_header.specs.declared.fault.HeaderError.{HeaderError}
 use Rattle.ncc_header.specs.declared.fault.HeaderError.TheVariants as errors
-use Rattle.ncc_header.specs.declared.schema.Header.{Header}
+use Rattle.ncc_schema.specs.declared.schema.Header.{Header}
 use Rattle.ncc_header.specs.declared.standing.Fed.{Fed}
 use Rattle.ncc_header.specs.declared.standing.Fed.TheVariants.{More, Done}
-use Rattle.ncc_header.specs.Device.{Loses}
+use Rattle.ncc_schema.specs.Device.{Loses}
 use Rattle.ncc_header.specs.Fields.{header}
 use Rattle.ncc_header.specs.Grammar.{lacking}
 use Rattle.ncc_header.specs.Answers.{Answers, AnswersOf, CountsAs, IsLeft}

@@ -4,12 +4,12 @@ use Rattle.std.proofs.lemmas.List.{append_cancel_right, append-nil}
 use Rattle.ncc_values.specs.Numbers.{IsBytes}
 use Rattle.ncc_header.specs.declared.fault.Fault.{Fault}
 use Rattle.ncc_header.specs.declared.fault.FaultKind.TheVariants.{EndsEarly}
-use Rattle.ncc_header.specs.declared.schema.VarPlace.{VarPlace}
-use Rattle.ncc_header.specs.declared.schema.Schema.{Schema}
-use Rattle.ncc_header.specs.declared.schema.Header.{Header}
+use Rattle.ncc_schema.specs.declared.schema.VarPlace.{VarPlace}
+use Rattle.ncc_schema.specs.declared.schema.Schema.{Schema}
+use Rattle.ncc_schema.specs.declared.schema.Header.{Header}
 use Rattle.ncc_header.specs.Grammar.{Spells, reads, read}
-use Rattle.ncc_header.specs.Schema.{Place, place_of, places_of}
-use Rattle.ncc_header.specs.Header.{IsHeader}
+use Rattle.ncc_schema.specs.Schema.{Place, place_of, places_of}
+use Rattle.ncc_schema.specs.Header.{IsHeader}
 use Rattle.ncc_header.specs.Fields.{header}
 use Rattle.ncc_header.specs.Marks.{header_marks, header_begins}
 use Rattle.ncc_header.specs.Answers.{Begins, Stops}

@@ -6,7 +6,7 @@ use Rattle.ncc_values.specs.declared.version.Version.{Version}
 use Rattle.ncc_values.specs.declared.version.Version.TheVariants.{V1, V2, V5}
 use Rattle.ncc_header.specs.declared.fault.FaultKind.{FaultKind}
 use Rattle.ncc_header.specs.declared.wrong.Wrong.{Wrong}
-use Rattle.ncc_header.specs.Schema.{count_limit, length_limit, offset_limit, mark}
+use Rattle.ncc_schema.specs.Schema.{count_limit, length_limit, offset_limit, mark}
 use Rattle.ncc_header.specs.Fields.{unless, first, at_tag_if}
 
 pub unless-none : (b : Bool) (kind : FaultKind) → unless b kind ≡ None → b ≡ true

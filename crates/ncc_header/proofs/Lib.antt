@@ -8,7 +8,6 @@ mod RulesOfVars
 mod Rules
 mod BeginFields
 mod HeaderLaws
-mod Canonical
 mod Unmarked
 mod ValuesGathered
 mod Turns
@@ -19,8 +18,3 @@ mod TakePiece
 mod Feeding
 mod Deciding
 mod FromSource
-pub mod Sizes
-mod NamesThere
-mod BeginsThere
-mod Encoding
-pub mod Writing

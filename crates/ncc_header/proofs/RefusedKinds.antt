@@ -7,11 +7,11 @@ use Rattle.ncc_values.specs.XType.{type_of_code}
 use Rattle.ncc_values.specs.declared.version.Version.{Version}
 use Rattle.ncc_header.specs.declared.fault.FaultKind.{FaultKind}
 use Rattle.ncc_header.specs.declared.fault.FaultKind.TheVariants.{BadMagic, BadVersion, NegativeCount, BadTag, BadType, TwoRecordDims, BadDimId, RecordDimNotFirst, NegativeOffset, EndsEarly}
-use Rattle.ncc_header.specs.declared.schema.Dim.{Dim}
+use Rattle.ncc_schema.specs.declared.schema.Dim.{Dim}
 use Rattle.ncc_header.specs.declared.state.State.{State}
 use Rattle.ncc_header.specs.declared.state.State.TheVariants as states
 use Rattle.ncc_header.specs.declared.wrong.Wrong.{Wrong}
-use Rattle.ncc_header.specs.Schema.{count_limit, length_limit, offset_limit, record_dims, is_record}
+use Rattle.ncc_schema.specs.Schema.{count_limit, length_limit, offset_limit, record_dims, is_record}
 use Rattle.ncc_header.specs.Fields.{unless, at_tag_if, first, magic_wrong, version_wrong, count_wrong, tag_wrong, list_count_wrong, length_wrong, type_wrong, dimid_wrong, begin_wrong}
 use Rattle.ncc_header.specs.States.{left_of, version_of_owner, version_of_named, IsRefused}
 

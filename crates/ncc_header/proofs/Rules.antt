@@ -12,16 +12,16 @@ use Rattle.ncc_values.specs.declared.version.Version.{Version}
 use Rattle.ncc_values.specs.declared.version.Version.TheVariants.{V1, V2, V5}
 use Rattle.ncc_header.specs.declared.fault.FaultKind.TheVariants.{BadMagic, BadVersion}
 use Rattle.ncc_header.specs.declared.wrong.Wrong.{Wrong}
-use Rattle.ncc_header.specs.declared.schema.Count.{Count}
-use Rattle.ncc_header.specs.declared.schema.Count.TheVariants.{Known, Streaming}
-use Rattle.ncc_header.specs.declared.schema.Dim.{Dim}
-use Rattle.ncc_header.specs.declared.schema.Attr.{Attr}
-use Rattle.ncc_header.specs.declared.schema.Var.{Var}
-use Rattle.ncc_header.specs.declared.schema.Schema.{Schema}
+use Rattle.ncc_schema.specs.declared.schema.Count.{Count}
+use Rattle.ncc_schema.specs.declared.schema.Count.TheVariants.{Known, Streaming}
+use Rattle.ncc_schema.specs.declared.schema.Dim.{Dim}
+use Rattle.ncc_schema.specs.declared.schema.Attr.{Attr}
+use Rattle.ncc_schema.specs.declared.schema.Var.{Var}
+use Rattle.ncc_schema.specs.declared.schema.Schema.{Schema}
 use Rattle.ncc_header.specs.Grammar.{Plain, Grammar, done, ◌>>=◌, ◌into◌}
-use Rattle.ncc_header.specs.Schema.{mark, Place, LegalDim, LegalVar, LegalPlace, LegalCount, Legal, IsTypedVar, IsTyped}
-use Rattle.ncc_header.specs.Header.{exactly}
-use Rattle.ncc_header.specs.Header as spelled
+use Rattle.ncc_schema.specs.Schema.{mark, Place, LegalDim, LegalVar, LegalPlace, LegalCount, Legal, IsTypedVar, IsTyped}
+use Rattle.ncc_schema.specs.Header.{exactly}
+use Rattle.ncc_schema.specs.Header as spelled
 use Rattle.ncc_header.specs.Fields.{magic_wrong, version_wrong, list, dim, attrs, var, magic, version, numrecs, count_of, header}
 use Rattle.ncc_header.proofs.Exact.{Exact, exact_then, exact_into, exact_fits, ◌then◌, flat, exact_as, exact_number}
 use Rattle.ncc_header.proofs.Judgements.{unless-none, mark-last}

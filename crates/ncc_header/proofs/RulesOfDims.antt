@@ -7,10 +7,10 @@ use Rattle.ncc_values.specs.Numbers.{IsBytes}
 use Rattle.ncc_values.specs.Version.{count_width_of}
 use Rattle.ncc_values.specs.declared.version.Version.{Version}
 use Rattle.ncc_header.specs.declared.fault.FaultKind.TheVariants.{NegativeCount, TwoRecordDims, BadDimId, RecordDimNotFirst}
-use Rattle.ncc_header.specs.declared.schema.Dim.{Dim}
+use Rattle.ncc_schema.specs.declared.schema.Dim.{Dim}
 use Rattle.ncc_header.specs.Grammar.{Plain}
-use Rattle.ncc_header.specs.Schema.{count_limit, length_limit, record_dims, is_record, IsFixed, LegalDim, LegalDims}
-use Rattle.ncc_header.specs.Header as spelled
+use Rattle.ncc_schema.specs.Schema.{count_limit, length_limit, record_dims, is_record, IsFixed, LegalDim, LegalDims}
+use Rattle.ncc_schema.specs.Header as spelled
 use Rattle.ncc_header.specs.Fields.{length_wrong, dimid_wrong, dim, dimid, dimids}
 use Rattle.ncc_header.proofs.Exact.{Exact, exact_then, exact_into, exact_fits, exact_counted, AllAfter, exact_number}
 use Rattle.ncc_header.proofs.Judgements.{unless-none, first-none, below-none, not-true, count_limit-fits, length_limit-fits}

@@ -8,9 +8,9 @@ use Rattle.ncc_values.specs.Version.{count_width_of}
 use Rattle.ncc_values.specs.declared.version.Version.{Version}
 use Rattle.ncc_header.specs.declared.fault.FaultKind.TheVariants.{NegativeCount, BadTag}
 use Rattle.ncc_header.specs.Grammar.{Plain, Grammar, Spells}
-use Rattle.ncc_header.specs.Schema.{count_limit, LegalName}
-use Rattle.ncc_header.specs.Header.{list_tag}
-use Rattle.ncc_header.specs.Header as spelled
+use Rattle.ncc_schema.specs.Schema.{count_limit, LegalName}
+use Rattle.ncc_schema.specs.Header.{list_tag}
+use Rattle.ncc_schema.specs.Header as spelled
 use Rattle.ncc_header.specs.Fields.{unless, at_tag_if, count_wrong, tag_wrong, list_count_wrong, number, count, name, label_of_count, list_count, list_head, list}
 use Rattle.ncc_header.proofs.GrammarLaws.{joined, join}
 use Rattle.ncc_header.proofs.Exact.{Exact, exact_then, exact_into, exact_fits, exact_counted, AllAfter, exact_number, exact_bytes, exact_padding}

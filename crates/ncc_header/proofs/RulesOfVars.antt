@@ -13,13 +13,13 @@ use Rattle.ncc_values.specs.declared.xtype.XType.{XType}
 use Rattle.ncc_values.specs.declared.xtype.XType.TheVariants.{Byte, Char, Short, Int, Float, Double, UByte, UShort, UInt, Int64, UInt64}
 use Rattle.ncc_values.proofs.ValuesLemmas.{type_of-values_of, count_of-values_of, length-bytes_of, bytes-bytes_of, bytes_of-values_of, values_of-bytes_of, in_range-values_of}
 use Rattle.ncc_header.specs.declared.fault.FaultKind.TheVariants.{BadType, NegativeOffset}
-use Rattle.ncc_header.specs.declared.schema.Dim.{Dim}
-use Rattle.ncc_header.specs.declared.schema.Attr.{Attr}
-use Rattle.ncc_header.specs.declared.schema.Var.{Var}
+use Rattle.ncc_schema.specs.declared.schema.Dim.{Dim}
+use Rattle.ncc_schema.specs.declared.schema.Attr.{Attr}
+use Rattle.ncc_schema.specs.declared.schema.Var.{Var}
 use Rattle.ncc_header.specs.Grammar.{Plain, Begin, done, ◌>>=◌, ◌into◌}
-use Rattle.ncc_header.specs.Schema.{count_limit, offset_limit, Place, IsTypeOf, LegalAttr, LegalVar, LegalPlace, IsTypedAttr, IsTypedVar}
-use Rattle.ncc_header.specs.Header.{exactly}
-use Rattle.ncc_header.specs.Header as spelled
+use Rattle.ncc_schema.specs.Schema.{count_limit, offset_limit, Place, IsTypeOf, LegalAttr, LegalVar, LegalPlace, IsTypedAttr, IsTypedVar}
+use Rattle.ncc_schema.specs.Header.{exactly}
+use Rattle.ncc_schema.specs.Header as spelled
 use Rattle.ncc_header.specs.Fields.{type_wrong, begin_wrong, name, nc_type, values, attr, attrs, dimids, vsize, begin, var}
 use Rattle.ncc_header.proofs.Exact.{Exact, exact_then, exact_into, exact_fits, ◌then◌, flat, exact_as, exact_number, exact_padding}
 use Rattle.ncc_header.proofs.Judgements.{unless-none, below-none, none-below, offset_limit-fits}

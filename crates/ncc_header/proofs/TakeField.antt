@@ -2,7 +2,7 @@
 use Rattle.std.proofs.Common.{◌≡◌, ℕ, ◌+◌, ◌≤◌, List, [], ◌∷◌, ◌++◌, length, Some, Err, refl, sym, ap, subst₂, ◌∙◌, append_assoc, append-nil, arith}
 use Rattle.std.proofs.lemmas.List.{length-append}
 use Rattle.ncc_header.specs.declared.reading.Reading.{Reading}
-use Rattle.ncc_header.specs.declared.schema.Mark.{Mark}
+use Rattle.ncc_schema.specs.declared.schema.Mark.{Mark}
 use Rattle.ncc_header.specs.declared.state.State.{State}
 use Rattle.ncc_header.specs.declared.state.StepError.{StepError}
 use Rattle.ncc_header.specs.declared.state.StepError.TheVariants as steps

@@ -3,15 +3,15 @@ use Rattle.std.proofs.Common.{◌≡◌, ℕ, List, [], ◌∷◌, ◌++◌, len
 use Rattle.std.specs.Prelude.{zip}
 use Rattle.std.proofs.lemmas.List.{length-map}
 use Rattle.std.proofs.lemmas.Slice.Zip.{firsts-zip, seconds-zip}
-use Rattle.ncc_header.specs.declared.schema.Attr.{Attr}
-use Rattle.ncc_header.specs.declared.schema.Var.{Var}
-use Rattle.ncc_header.specs.declared.schema.VarPlace.{VarPlace}
+use Rattle.ncc_schema.specs.declared.schema.Attr.{Attr}
+use Rattle.ncc_schema.specs.declared.schema.Var.{Var}
+use Rattle.ncc_schema.specs.declared.schema.VarPlace.{VarPlace}
 use Rattle.ncc_header.specs.declared.state.Owner.{Owner}
 use Rattle.ncc_header.specs.declared.state.Owner.TheVariants as owners
 use Rattle.ncc_header.specs.declared.state.Vars.{Vars}
 use Rattle.ncc_header.specs.Fields.{attrs, var}
 use Rattle.ncc_header.specs.Grammar.{Grammar, done, ◌>>=◌, repeat}
-use Rattle.ncc_header.specs.Schema.{Place, place_of, places_of}
+use Rattle.ncc_schema.specs.Schema.{Place, place_of, places_of}
 use Rattle.ncc_header.specs.States.{with_attrs, attr_list, from_attrs, in_var, from_dimids, from_type, from_vars, before_of, ended}
 use Rattle.ncc_header.proofs.Exact.{join_assoc}
 

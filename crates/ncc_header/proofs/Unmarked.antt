@@ -12,13 +12,13 @@ use Rattle.ncc_values.specs.XType.{size_of}
 use Rattle.ncc_values.specs.declared.version.Version.{Version}
 use Rattle.ncc_values.specs.declared.version.Version.TheVariants.{V1, V2, V5}
 use Rattle.ncc_header.specs.declared.fault.FaultKind.TheVariants.{BadTag}
-use Rattle.ncc_header.specs.declared.schema.Mark.{Mark}
-use Rattle.ncc_header.specs.declared.schema.Mark.TheVariants as of
-use Rattle.ncc_header.specs.declared.schema.Dim.{Dim}
-use Rattle.ncc_header.specs.declared.schema.Schema.{Schema}
+use Rattle.ncc_schema.specs.declared.schema.Mark.{Mark}
+use Rattle.ncc_schema.specs.declared.schema.Mark.TheVariants as of
+use Rattle.ncc_schema.specs.declared.schema.Dim.{Dim}
+use Rattle.ncc_schema.specs.declared.schema.Schema.{Schema}
 use Rattle.ncc_header.specs.Grammar.{Plain, CountOfTagged, Begin, Grammar, done, Spells, Field, fields, ◌>>=◌, ◌into◌, repeat}
-use Rattle.ncc_header.specs.Schema.{Place}
-use Rattle.ncc_header.specs.Header.{IsHeader, list_tag, exactly, zeros, canon_name, canon_head, canon_list, canon_dimids, canon_dim, canon_attr, canon_var, canon}
+use Rattle.ncc_schema.specs.Schema.{Place}
+use Rattle.ncc_schema.specs.Header.{IsHeader, list_tag, exactly, zeros, canon_name, canon_head, canon_list, canon_dimids, canon_dim, canon_attr, canon_var, canon}
 use Rattle.ncc_header.specs.Fields.{magic, version, numrecs, count_wrong, tag_wrong, list_count_wrong, length_wrong, dimid_wrong, begin_wrong, at_tag_if, number, number_field, padding, name, label_of_count, list_count, list_head, list, dim, attr, attrs, dimid, dimids, var, header}
 use Rattle.ncc_header.specs.Marks.{marks, mark_of, all_zero, header_marks}
 use Rattle.ncc_header.proofs.GrammarLaws.{joined}

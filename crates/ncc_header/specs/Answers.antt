@@ -3,12 +3,12 @@ use Rattle.std.specs.Prelude.{◌≡◌, ℕ, ◌≤◌, ◌⊎◌, List, ◌++�
 use Rattle.ncc_header.specs.declared.fault.Fault.{Fault}
 use Rattle.ncc_header.specs.declared.fault.HeaderError.{HeaderError}
 use Rattle.ncc_header.specs.declared.fault.HeaderError.TheVariants as errors
-use Rattle.ncc_header.specs.declared.schema.Header.{Header}
+use Rattle.ncc_schema.specs.declared.schema.Header.{Header}
 use Rattle.ncc_values.specs.Failures.{Rose}
 use Rattle.ncc_header.specs.Grammar.{read, stops}
-use Rattle.ncc_header.specs.Header.{IsHeader}
+use Rattle.ncc_schema.specs.Header.{IsHeader}
 use Rattle.ncc_header.specs.Marks.{header_marks, header_begins}
-use Rattle.ncc_header.specs.Schema.{places_of}
+use Rattle.ncc_schema.specs.Schema.{places_of}
 use Rattle.ncc_header.specs.Fields.{header}
 
 -- a front of the input, of at most limit bytes, is this header

@@ -13,14 +13,14 @@ use Rattle.ncc_values.specs.declared.xtype.XType.TheVariants.{Byte}
 use Rattle.ncc_header.specs.declared.fault.FaultKind.{FaultKind}
 use Rattle.ncc_header.specs.declared.fault.FaultKind.TheVariants.{BadMagic, BadVersion, NegativeCount, BadTag, BadType, TwoRecordDims, BadDimId, RecordDimNotFirst, NegativeOffset}
 use Rattle.ncc_header.specs.declared.wrong.Wrong.{Wrong}
-use Rattle.ncc_header.specs.declared.schema.Count.{Count}
-use Rattle.ncc_header.specs.declared.schema.Count.TheVariants.{Known, Streaming}
-use Rattle.ncc_header.specs.declared.schema.Dim.{Dim}
-use Rattle.ncc_header.specs.declared.schema.Attr.{Attr}
-use Rattle.ncc_header.specs.declared.schema.Var.{Var}
-use Rattle.ncc_header.specs.declared.schema.Schema.{Schema}
+use Rattle.ncc_schema.specs.declared.schema.Count.{Count}
+use Rattle.ncc_schema.specs.declared.schema.Count.TheVariants.{Known, Streaming}
+use Rattle.ncc_schema.specs.declared.schema.Dim.{Dim}
+use Rattle.ncc_schema.specs.declared.schema.Attr.{Attr}
+use Rattle.ncc_schema.specs.declared.schema.Var.{Var}
+use Rattle.ncc_schema.specs.declared.schema.Schema.{Schema}
 use Rattle.ncc_header.specs.Grammar.{Label, Plain, Padding, CountOfTagged, Begin, Grammar, done, field, ◌>>=◌, ◌into◌, repeat}
-use Rattle.ncc_header.specs.Schema.{count_limit, length_limit, offset_limit, mark, Place, record_dims, is_record}
+use Rattle.ncc_schema.specs.Schema.{count_limit, length_limit, offset_limit, mark, Place, record_dims, is_record}
 
 -- ---- judgements
 

@@ -6,7 +6,7 @@ use Rattle.ncc_header.specs.declared.fault.HeaderError.{HeaderError}
 use Rattle.ncc_header.specs.declared.fault.HeaderError.TheVariants as errors
 use Rattle.ncc_header.specs.declared.standing.Fed.{Fed}
 use Rattle.ncc_header.specs.Decoder.{Took, IsSpent, limit_of}
-use Rattle.ncc_header.specs.Device.{Loses}
+use Rattle.ncc_schema.specs.Device.{Loses}
 use Rattle.ncc_header.specs.Standing.{FailedOn, Feeds, IsSettled, front_taken}
 
 -- the decoder was fed n bytes that the source has lost, with room for so many

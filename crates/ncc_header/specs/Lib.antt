@@ -1,13 +1,7 @@
 pub mod Grammar
-pub mod Schema
-pub mod Header
 pub mod Fields
 pub mod Marks
-pub mod Names
-pub mod Device
 pub mod Answers
-pub mod Source
-pub mod Sink
 pub mod States
 pub mod Held
 pub mod Reading
@@ -15,5 +9,3 @@ pub mod Turns
 pub mod Standing
 pub mod Decoder
 pub mod FromSource
-pub mod FuseSource
-pub mod FuseSink

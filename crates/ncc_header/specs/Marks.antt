@@ -1,8 +1,8 @@
 -- What a header's fields show beside its schema and placement: its marks, and where its begin fields are.
 use Rattle.std.specs.Prelude.{ℕ, ◌-◌, List, [], ◌∷◌, Bool, true, if◌then◌else◌, ◌==◌, ◌&&◌}
 use Rattle.std.specs.List.{flat_map}
-use Rattle.ncc_header.specs.declared.schema.Mark.{Mark}
-use Rattle.ncc_header.specs.declared.schema.Mark.TheVariants as of
+use Rattle.ncc_schema.specs.declared.schema.Mark.{Mark}
+use Rattle.ncc_schema.specs.declared.schema.Mark.TheVariants as of
 use Rattle.ncc_header.specs.Grammar.{Label, Padding, CountOfTagged, Begin, Field, fields}
 use Rattle.ncc_header.specs.Fields.{header}
 

@@ -5,7 +5,7 @@ use Rattle.ncc_header.specs.declared.fault.FaultKind.TheVariants.{EndsEarly}
 use Rattle.ncc_header.specs.declared.fault.HeaderError.{HeaderError}
 use Rattle.ncc_header.specs.declared.fault.HeaderError.TheVariants as errors
 use Rattle.ncc_header.specs.declared.reading.Reading.{Reading}
-use Rattle.ncc_header.specs.declared.schema.Mark.{Mark}
+use Rattle.ncc_schema.specs.declared.schema.Mark.{Mark}
 use Rattle.ncc_header.specs.declared.state.StepError.{StepError}
 use Rattle.ncc_header.specs.declared.state.StepError.TheVariants as steps
 use Rattle.ncc_header.specs.Grammar.{Grammar, Outcome, read, stops, lacking, fields}

@@ -6,13 +6,13 @@ use Rattle.ncc_header.specs.declared.fault.FaultKind.TheVariants.{HeaderTooLong,
 use Rattle.ncc_header.specs.declared.fault.HeaderError.{HeaderError}
 use Rattle.ncc_header.specs.declared.fault.HeaderError.TheVariants as errors
 use Rattle.ncc_header.specs.declared.reading.Reading.{Reading}
-use Rattle.ncc_header.specs.declared.schema.Schema.{Schema}
+use Rattle.ncc_schema.specs.declared.schema.Schema.{Schema}
 use Rattle.ncc_header.specs.declared.standing.Fed.{Fed}
 use Rattle.ncc_header.specs.declared.standing.Fed.TheVariants.{More, Done}
 use Rattle.ncc_header.specs.declared.standing.Standing.{Standing}
 use Rattle.ncc_header.specs.declared.standing.Standing.TheVariants as standings
-use Rattle.ncc_header.specs.Header.{IsHeader}
-use Rattle.ncc_header.specs.Schema.{Place}
+use Rattle.ncc_schema.specs.Header.{IsHeader}
+use Rattle.ncc_schema.specs.Schema.{Place}
 use Rattle.ncc_header.specs.Answers.{Stops}
 use Rattle.ncc_header.specs.States.{left_of, size_of}
 use Rattle.ncc_header.specs.Reading.{from_start, held_of, onward}

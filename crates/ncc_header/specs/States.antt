@@ -6,11 +6,11 @@ use Rattle.ncc_values.specs.declared.values.Values.{Values}
 use Rattle.ncc_values.specs.declared.version.Version.{Version}
 use Rattle.ncc_values.specs.declared.xtype.XType.{XType}
 use Rattle.ncc_header.specs.declared.wrong.Wrong.{Wrong}
-use Rattle.ncc_header.specs.declared.schema.Count.{Count}
-use Rattle.ncc_header.specs.declared.schema.Dim.{Dim}
-use Rattle.ncc_header.specs.declared.schema.Attr.{Attr}
-use Rattle.ncc_header.specs.declared.schema.Var.{Var}
-use Rattle.ncc_header.specs.declared.schema.Schema.{Schema}
+use Rattle.ncc_schema.specs.declared.schema.Count.{Count}
+use Rattle.ncc_schema.specs.declared.schema.Dim.{Dim}
+use Rattle.ncc_schema.specs.declared.schema.Attr.{Attr}
+use Rattle.ncc_schema.specs.declared.schema.Var.{Var}
+use Rattle.ncc_schema.specs.declared.schema.Schema.{Schema}
 use Rattle.ncc_header.specs.declared.state.Dims.{Dims}
 use Rattle.ncc_header.specs.declared.state.Head.{Head}
 use Rattle.ncc_header.specs.declared.state.Vars.{Vars}
@@ -24,7 +24,7 @@ use Rattle.ncc_header.specs.declared.state.State.TheVariants as states
 use Rattle.ncc_header.specs.declared.state.StepError.{StepError}
 use Rattle.ncc_header.specs.declared.state.StepError.TheVariants as errors
 use Rattle.ncc_header.specs.Grammar.{Label, Plain, Begin, Grammar, done, field, ◌>>=◌, repeat}
-use Rattle.ncc_header.specs.Schema.{Place, places_of}
+use Rattle.ncc_schema.specs.Schema.{Place, places_of}
 use Rattle.ncc_header.specs.Fields.{header, version, numrecs, list, list_count, name, dim, bytes, padding, dim_length, attr, attrs, nc_type, count, values, var, dimid, dimids, vsize, begin}
 
 -- what a header gives

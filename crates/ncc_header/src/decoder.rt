@@ -7,23 +7,31 @@ ghost use Rattle.ncc_header.specs.Grammar.{lacking};
 ghost use Rattle.ncc_header.specs.States.{left_of, size_of};
 ghost use Rattle.ncc_header.specs.Standing.{IsSettled, limit_at, TookAt, IsSpentAt, front_taken, fed_of, Feeds};
 
+use crate::discarding::discard_standing;
 use crate::fault::HeaderError;
 use crate::finishing::{finished, lacks};
 use crate::reading::Reading;
-use crate::schema::Header;
 use crate::standing::{Fed, Standing};
 use crate::state::State;
 use crate::step::size;
 use crate::turning::take;
 use arrayvec::ArrayVec;
+use ncc_schema::Header;
 use std::alloc::Global;
 use std::mem;
 
 /// Takes a header in pieces of any size.
-#[derive(Debug, Drop)]
+#[derive(Debug)]
 pub struct Decoder {
     alloc: Global,
     standing: Standing,
+}
+
+impl Drop for Decoder {
+    fn drop(self) {
+        let Decoder { alloc: _, standing } = self;
+        discard_standing(standing);
+    }
 }
 
 /// What a reading says, once it has taken so many bytes of a piece.
@@ -126,7 +134,8 @@ impl Decoder {
         ensures spent { IsSpent self → result ≡ Err HeaderError.Memory }
         ensures memory { result ≡ Err HeaderError.Memory → IsSpent self }
     {
-        match self.standing {
+        let Decoder { alloc: _, standing } = self;
+        match standing {
             Standing::Reading(reading) => finished(reading),
             Standing::Failed(_, error) => Err(error),
         }

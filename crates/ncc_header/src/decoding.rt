@@ -2,12 +2,12 @@
 
 ghost use Rattle.std.specs.Prelude.{Ok, Err};
 ghost use Rattle.ncc_header.specs.declared.fault.Fault.{Fault as TheFault};
-ghost use Rattle.ncc_header.specs.declared.schema.Header.{Header as TheHeader};
+ghost use Rattle.ncc_schema.specs.declared.schema.Header.{Header as TheHeader};
 ghost use Rattle.ncc_header.specs.Answers.{Begins, Stops, Answers, OrMemory};
 
 use crate::decoder::Decoder;
 use crate::fault::HeaderError;
-use crate::schema::Header;
+use ncc_schema::Header;
 use std::alloc::Global;
 
 /// Decodes the header at the front of the input, of at most `limit` bytes. It never answers Device.

@@ -3,7 +3,7 @@
 ghost use Rattle.std.specs.Prelude.{◌≡◌};
 ghost use Rattle.ncc_header.specs.declared.fault.HeaderError.TheVariants.{Device, Memory};
 
-use crate::failed::Failed;
+use ncc_schema::Failed;
 use std::alloc::{AllocError, AllocFailed};
 use thiserror::Error;
 

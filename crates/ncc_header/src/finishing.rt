@@ -6,12 +6,13 @@ ghost use Rattle.ncc_header.specs.States.{left_of, size_of};
 ghost use Rattle.ncc_header.specs.Reading.{held_of};
 ghost use Rattle.ncc_header.specs.Standing.{HasTaken, cut_at, lacks_of};
 
+use crate::discarding::discard;
 use crate::fault::{Fault, FaultKind, HeaderError};
 use crate::reading::Reading;
-use crate::schema::{Header, Schema, VarPlace};
 use crate::state::State;
 use crate::step::size;
 use crate::taking::held_len;
+use ncc_schema::{Header, Schema, VarPlace};
 use ncc_values::Seq;
 
 /// How many bytes the next field lacks, where it ends within the limit.
@@ -57,7 +58,9 @@ pub fn finished(reading: Reading) -> Result<Header, HeaderError>
 {
     let length = reading.at;
     if let Some(size) = size(&reading.state) {
-        return Err(HeaderError::Fault(cut_short(reading.limit, length, size)));
+        let fault = cut_short(reading.limit, length, size);
+        discard(reading.state);
+        return Err(HeaderError::Fault(fault));
     }
     let (schema, places) = whole(reading.state);
     Ok(Header {

@@ -7,8 +7,7 @@ ghost use Rattle.ncc_header.specs.FromSource.{HasFed, FailsFeeding, HasRead, IsO
 
 use crate::decoder::Decoder;
 use crate::fault::HeaderError;
-use crate::schema::Header;
-use crate::source::Source;
+use ncc_schema::{Header, Source};
 use std::alloc::Global;
 
 /// How many bytes are read at once.

@@ -4,14 +4,13 @@ ghost use Rattle.std.specs.Prelude.{◌≡◌, nat_lt, Some, unwrap_or, IfOk};
 ghost use Rattle.ncc_values.specs.Version.{version_of};
 ghost use Rattle.ncc_values.specs.XType.{type_of_code};
 ghost use Rattle.ncc_values.specs.declared.version.Version.TheVariants.{V1};
-ghost use Rattle.ncc_header.specs.Schema.{record_dims};
+ghost use Rattle.ncc_schema.specs.Schema.{record_dims};
 ghost use Rattle.ncc_header.specs.Fields.{magic_wrong, version_wrong, count_wrong, tag_wrong, list_count_wrong, length_wrong, type_wrong, dimid_wrong, begin_wrong, count_of};
 ghost use Rattle.ncc_header.specs.States.{Judges};
 
 use crate::fault::FaultKind;
-use crate::limits::{limit_of_counts, limit_of_lengths, limit_of_offsets, streaming_mark};
-use crate::schema::{Count, Dim};
 use crate::wrong::Wrong;
+use ncc_schema::{Count, Dim, limit_of_counts, limit_of_lengths, limit_of_offsets, streaming_mark};
 use ncc_values::{Version, XType};
 
 /// The letters C, D and F.

@@ -1,16 +1,13 @@
 //! Laws of the grammar alone, each the contract of a function that does nothing.
 
-ghost use Rattle.std.specs.Prelude.{◌≡◌, ◌≢◌, ℕ, ◌≤◌, List, [], ◌++◌, length, slice_get, Some, ◌⊎◌};
-ghost use Rattle.ncc_values.specs.Numbers.{IsBytes, big_endian};
-ghost use Rattle.ncc_values.specs.Version.{offset_width_of};
+ghost use Rattle.std.specs.Prelude.{◌≡◌, ◌≢◌, ℕ, ◌≤◌, List, [], ◌++◌, length, ◌⊎◌};
+ghost use Rattle.ncc_values.specs.Numbers.{IsBytes};
 ghost use Rattle.ncc_header.specs.declared.fault.Fault.{Fault};
 ghost use Rattle.ncc_header.specs.declared.fault.FaultKind.TheVariants.{EndsEarly};
-ghost use Rattle.ncc_header.specs.declared.schema.Schema.{Schema};
-ghost use Rattle.ncc_header.specs.declared.schema.Header.{Header};
-ghost use Rattle.ncc_header.specs.declared.names.NameOf.{NameOf};
-ghost use Rattle.ncc_header.specs.Schema.{Place, Legal, IsTyped};
-ghost use Rattle.ncc_header.specs.Header.{IsHeader, canon_name, canon};
-ghost use Rattle.ncc_header.specs.Names.{HasName, name_of, name_at, begin_at, StandsAt, header_length};
+ghost use Rattle.ncc_schema.specs.declared.schema.Schema.{Schema};
+ghost use Rattle.ncc_schema.specs.declared.schema.Header.{Header};
+ghost use Rattle.ncc_schema.specs.Schema.{Place};
+ghost use Rattle.ncc_schema.specs.Header.{IsHeader, canon};
 ghost use Rattle.ncc_header.specs.Marks.{header_marks};
 ghost use Rattle.ncc_header.specs.Answers.{Begins, Stops};
 
@@ -37,27 +34,7 @@ pub fn limit_covers()
     ensures { (input more : List ℕ) (limit : ℕ) (f : Fault) → Stops input limit f → limit ≤ length input → Stops (input ++ more) limit f }
 {}
 
-/// The canonical spelling of a legal schema and placement is a header of them.
-pub fn canonical_header()
-    ensures { (s : Schema) (places : List Place) → Legal s places → IsTyped s → IsHeader s places (canon s places) }
-{}
-
 /// A header without marks is the canonical spelling of its schema and placement.
 pub fn unmarked_is_canonical()
     ensures { (s : Schema) (places : List Place) (b : List ℕ) → IsHeader s places b → header_marks b ≡ [] → b ≡ canon s places }
-{}
-
-/// Where a name of a canonical header is told to stand, it stands with its length and its padding.
-pub fn name_is_there()
-    ensures { (s : Schema) (places : List Place) (of : NameOf) → Legal s places → HasName s of → StandsAt (canon s places) (canon_name s.version (name_of s of)) (name_at s places of) }
-{}
-
-/// The length of a canonical header doesn't depend on where its variables are.
-pub fn one_length()
-    ensures { (s : Schema) (places : List Place) → length places ≡ length s.vars → length (canon s places) ≡ header_length s }
-{}
-
-/// Where the begin field of a variable is told to stand, its begin stands.
-pub fn begin_is_there()
-    ensures { (s : Schema) (places : List Place) (i : ℕ) (p : Place) → length places ≡ length s.vars → slice_get places i ≡ Some p → StandsAt (canon s places) (big_endian (offset_width_of s.version) p.begin) (begin_at s places i) }
 {}

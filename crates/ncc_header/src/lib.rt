@@ -3,25 +3,15 @@
 
 mod decoder;
 mod decoding;
-mod encoder;
-mod failed;
+mod discarding;
 mod fault;
 mod finishing;
 mod from_source;
-mod fuse_sink;
-mod fuse_source;
 mod gathering;
 mod judge;
 pub mod laws;
-mod legality;
-mod lengths;
-mod limits;
 mod marking;
-mod names;
 mod reading;
-mod schema;
-mod sink;
-mod source;
 mod standing;
 mod state;
 mod step;
@@ -40,18 +30,12 @@ mod wrong;
 
 pub use decoder::Decoder;
 pub use decoding::decode;
-pub use encoder::encode;
-pub use failed::Failed;
 pub use fault::{Fault, FaultKind, HeaderError};
 pub use from_source::read_header;
-pub use fuse_sink::FuseSink;
-pub use fuse_source::FuseSource;
-pub use legality::{legal, sound};
-pub use lengths::{header_length, var_size, vars_start};
-pub use limits::{limit_of_offsets, streaming_mark};
-pub use names::{NameOf, name_at};
+pub use ncc_schema::{
+    Attr, Count, Dim, Failed, FuseSink, FuseSource, Header, Mark, NameOf, ReadSource, Schema, Sink,
+    Source, Var, VarPlace, WriteSink, encode, header_length, legal, limit_of_offsets, name_at,
+    sound, streaming_mark, var_size, vars_start, write_all,
+};
 pub use ncc_values::{Seq, Values, Version, XType, pad};
-pub use schema::{Attr, Count, Dim, Header, Mark, Schema, Var, VarPlace};
-pub use sink::{Sink, WriteSink, write_all};
-pub use source::{ReadSource, Source};
 pub use standing::Fed;

@@ -4,8 +4,8 @@ ghost use Rattle.std.specs.Prelude.{◌≡◌, ◌≤◌, ◌++◌, IfOk, IfErr,
 ghost use Rattle.ncc_header.specs.Marks.{all_zero, mark_of};
 ghost use Rattle.ncc_header.specs.States.{left_of, label_of, front_of, first_at};
 
-use crate::schema::Mark;
 use crate::state::State;
+use ncc_schema::Mark;
 use std::alloc::AllocError;
 
 /// Is each byte zero?

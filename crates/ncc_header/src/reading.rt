@@ -4,9 +4,9 @@ ghost use Rattle.std.specs.Prelude.{◌≤◌, ◌<◌, max, length};
 ghost use Rattle.ncc_header.specs.States.{first_at, part_of};
 ghost use Rattle.ncc_header.specs.Held.{next_size, held_length};
 
-use crate::schema::Mark;
 use crate::state::State;
 use arrayvec::ArrayVec;
+use ncc_schema::Mark;
 
 /// How far a header was read: `at` is the offset of the next field in bytes.
 #[derive(Debug, Drop)]

@@ -3,8 +3,8 @@
 ghost use Rattle.std.specs.Prelude.{◌≡◌, length};
 ghost use Rattle.ncc_values.specs.Values.{type_of, bytes_of, values_of};
 
-use crate::schema::{Attr, Count, Dim, Schema, Var, VarPlace};
 use crate::wrong::Wrong;
+use ncc_schema::{Attr, Count, Dim, Schema, Var, VarPlace};
 use ncc_values::{Seq, Values, Version, XType};
 
 /// The dimensions so far; one has begun, and so many follow it.

@@ -8,9 +8,9 @@ ghost use Rattle.ncc_header.specs.declared.state.State.TheVariants as states;
 ghost use Rattle.ncc_header.specs.States.{left_of, version_of_owner, in_attr, from_values, from_attrs, begins_of, begins_of_owner, first_at, idle_of, IsFresh, Steps};
 
 use crate::judge;
-use crate::schema::Attr;
 use crate::state::{Attrs, Body, Named, Owner, State, StepError};
 use crate::step_name::owner_version;
+use ncc_schema::Attr;
 use ncc_values::{Seq, Values, XType, number};
 use std::alloc::Global;
 

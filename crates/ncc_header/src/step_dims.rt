@@ -6,8 +6,8 @@ ghost use Rattle.ncc_header.specs.declared.state.State.TheVariants as states;
 ghost use Rattle.ncc_header.specs.States.{left_of, from_dims, begins_of, first_at, IsFresh, Steps};
 
 use crate::judge;
-use crate::schema::{Count, Dim};
 use crate::state::{Dims, Head, Named, Owner, State, StepError};
+use ncc_schema::{Count, Dim};
 use ncc_values::{Seq, Version, number};
 use std::alloc::Global;
 

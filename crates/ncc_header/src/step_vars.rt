@@ -6,8 +6,8 @@ ghost use Rattle.ncc_header.specs.declared.state.State.TheVariants as states;
 ghost use Rattle.ncc_header.specs.States.{left_of, in_var, from_vars, from_dimids, before_of, begins_of, begins_of_vars, first_at, IsFresh, Steps};
 
 use crate::judge;
-use crate::schema::{Attr, Schema, Var, VarPlace};
 use crate::state::{Head, Named, Owner, State, StepError, Vars};
+use ncc_schema::{Attr, Schema, Var, VarPlace};
 use ncc_values::{Seq, number};
 use std::alloc::Global;
 

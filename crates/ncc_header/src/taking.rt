@@ -6,14 +6,15 @@ ghost use Rattle.ncc_header.specs.States.{left_of, label_of, size_of, front_of, 
 ghost use Rattle.ncc_header.specs.Held.{next_size, held_length};
 ghost use Rattle.ncc_header.specs.Reading.{held_of, told_of, Takes, FailsBehind, Waits};
 
+use crate::discarding::discard;
 use crate::fault::{Fault, HeaderError};
 use crate::gathering::gather;
 use crate::marking::push_mark;
 use crate::reading::Reading;
-use crate::schema::Mark;
 use crate::state::{State, StepError};
 use crate::step::step;
 use arrayvec::ArrayVec;
+use ncc_schema::Mark;
 use std::alloc::Global;
 
 /// How many bytes of the next field have come.
@@ -60,7 +61,10 @@ fn stepped(
     ensures err { IfErr result (λ e. Steps state at (front_of state held.now) (Err e)) }
 {
     let mut all = marks;
-    push_mark(&mut all, &state, at, held)?;
+    if let Err(error) = push_mark(&mut all, &state, at, held) {
+        discard(state);
+        return Err(error.into());
+    }
     let new = step(alloc, state, at, held)?;
     Ok((new, all))
 }

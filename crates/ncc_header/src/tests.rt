@@ -4,6 +4,7 @@
 
 mod answers;
 mod cuts;
+mod encoding;
 mod feeding;
 pub mod fixtures;
 mod memory;
@@ -34,7 +35,9 @@ fn laws_are_there() {
     laws::header_or_stop();
     laws::stop_stays();
     laws::limit_covers();
-    laws::canonical_header();
     laws::unmarked_is_canonical();
-    laws::name_is_there();
+    ncc_schema::laws::canonical_header();
+    ncc_schema::laws::name_is_there();
+    ncc_schema::laws::one_length();
+    ncc_schema::laws::begin_is_there();
 }

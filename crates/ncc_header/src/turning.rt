@@ -7,6 +7,7 @@ ghost use Rattle.ncc_header.specs.States.{left_of, size_of};
 ghost use Rattle.ncc_header.specs.Reading.{held_of, Takes, FailsBehind, Waits};
 ghost use Rattle.ncc_header.specs.Turns.{Turns, behind_of, IsWithin, IsOver, effort_of};
 
+use crate::discarding::discard;
 use crate::fault::{Fault, FaultKind, HeaderError};
 use crate::reading::Reading;
 use crate::step::size;
@@ -14,13 +15,13 @@ use crate::taking::{held_len, hold, take_field};
 use crate::turn::Turn;
 use std::alloc::Global;
 
-/// The next field ends past the limit.
-fn too_long(reading: Reading) -> Turn
-    ensures { result ≡ turns.Fails (HeaderError.Fault (record { kind = FaultKind.HeaderTooLong; offset = reading.at })) }
+/// The next field, at the offset `at`, ends past the limit.
+fn too_long(at: u64) -> Turn
+    ensures { result ≡ turns.Fails (HeaderError.Fault (record { kind = FaultKind.HeaderTooLong; offset = at })) }
 {
     Turn::Fails(HeaderError::Fault(Fault {
         kind: FaultKind::HeaderTooLong,
-        offset: reading.at,
+        offset: at,
     }))
 }
 
@@ -75,7 +76,11 @@ fn one_turn(alloc: Global, reading: Reading, rest: &[u8]) -> Turn
 {
     match size(&reading.state) {
         None => Turn::Waits(reading, 0),
-        Some(size) if size > (reading.limit - reading.at) as u128 => too_long(reading),
+        Some(size) if size > (reading.limit - reading.at) as u128 => {
+            let at = reading.at;
+            discard(reading.state);
+            too_long(at)
+        }
         Some(size) => take_some(alloc, reading, size as u64, rest),
     }
 }

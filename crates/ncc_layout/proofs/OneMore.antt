@@ -1,11 +1,11 @@
 -- A placed file with one record more.
 use Rattle.std.proofs.Common.{◌≡◌, ℕ, suc, ◌+◌, Bool, true, false, List, [], ◌∷◌, map, refl, sym, ap, subst, ◌∙◌}
 use Rattle.std.specs.Prelude.{if◌then◌else◌}
-use Rattle.ncc_header.specs.declared.schema.Count.TheVariants.{Known}
-use Rattle.ncc_header.specs.declared.schema.Dim.{Dim}
-use Rattle.ncc_header.specs.declared.schema.Var.{Var}
-use Rattle.ncc_header.specs.declared.schema.Schema.{Schema}
-use Rattle.ncc_header.specs.Schema.{Place}
+use Rattle.ncc_schema.specs.declared.schema.Count.TheVariants.{Known}
+use Rattle.ncc_schema.specs.declared.schema.Dim.{Dim}
+use Rattle.ncc_schema.specs.declared.schema.Var.{Var}
+use Rattle.ncc_schema.specs.declared.schema.Schema.{Schema}
+use Rattle.ncc_schema.specs.Schema.{Place}
 use Rattle.ncc_layout.specs.declared.placed_var.PlacedVar.{PlacedVar}
 use Rattle.ncc_layout.specs.declared.placed_file.Placed.{Placed}
 use Rattle.ncc_layout.specs.Sizes.{is_record_var, inner, record_size_of}

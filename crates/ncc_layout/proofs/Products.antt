@@ -6,8 +6,8 @@ use Rattle.std.specs.List.{AllByRecursion}
 use Rattle.std.proofs.lemmas.Bool.{le-ltb, lt-ltb}
 use Rattle.std.proofs.lemmas.Nat.{mul-le}
 use Rattle.std.proofs.lemmas.Grind.{common_steps}
-use Rattle.ncc_header.specs.declared.schema.Dim.{Dim}
-use Rattle.ncc_header.specs.Schema.{IsFixed}
+use Rattle.ncc_schema.specs.declared.schema.Dim.{Dim}
+use Rattle.ncc_schema.specs.Schema.{IsFixed}
 use Rattle.ncc_layout.specs.Sizes.{in_u64, length_of, product}
 
 pub in_u64-some : (n : ℕ) → n < 2 ^ 64 → in_u64 n ≡ Some n

@@ -7,13 +7,13 @@ use Rattle.std.proofs.lemmas.List.Elements.{filter-append, All-from_recursion}
 use Rattle.std.proofs.lemmas.List.Sums.{sum_by-append}
 use Rattle.ncc_values.specs.Version.{offset_width_of}
 use Rattle.ncc_values.specs.declared.version.Version.{Version}
-use Rattle.ncc_header.specs.declared.schema.Dim.{Dim}
-use Rattle.ncc_header.specs.declared.schema.Schema.{Schema}
-use Rattle.ncc_header.specs.declared.schema.Var.{Var}
-use Rattle.ncc_header.specs.declared.schema.VarPlace.{VarPlace}
-use Rattle.ncc_header.specs.Schema.{place_of, places_of}
-use Rattle.ncc_header.specs.Names.{capped, list_size, vars_at, begin_at, no_place, unplaced, canon_unplaced, header_length}
-use Rattle.ncc_header.proofs.Sizes.{length-canon, before-placed, first_size}
+use Rattle.ncc_schema.specs.declared.schema.Dim.{Dim}
+use Rattle.ncc_schema.specs.declared.schema.Schema.{Schema}
+use Rattle.ncc_schema.specs.declared.schema.Var.{Var}
+use Rattle.ncc_schema.specs.declared.schema.VarPlace.{VarPlace}
+use Rattle.ncc_schema.specs.Schema.{place_of, places_of}
+use Rattle.ncc_schema.specs.Names.{capped, list_size, vars_at, begin_at, no_place, unplaced, canon_unplaced, header_length}
+use Rattle.ncc_schema.proofs.Sizes.{length-canon, before-placed, first_size}
 use Rattle.ncc_layout.specs.Sizes.{is_record_var, rounded, record_sum}
 use Rattle.ncc_layout.specs.Standard.{size_limit, past_limit, vsize_word, fixed_sum, standard_place, standard_from, standard_places, begin_fields_from, FitsVersion}
 use Rattle.ncc_layout.specs.Plans.{header_end, fixed_end, slabs_end, AreEnds}

@@ -5,8 +5,8 @@ use Rattle.std.specs.List.{AllByRecursion}
 use Rattle.std.proofs.lemmas.List.Elements.{filter-append}
 use Rattle.std.proofs.lemmas.List.Sums.{sum_by_push}
 use Rattle.std.proofs.lemmas.Bool.{ltb-false}
-use Rattle.ncc_header.specs.declared.schema.Dim.{Dim}
-use Rattle.ncc_header.specs.declared.schema.Var.{Var}
+use Rattle.ncc_schema.specs.declared.schema.Dim.{Dim}
+use Rattle.ncc_schema.specs.declared.schema.Var.{Var}
 use Rattle.ncc_layout.specs.declared.sizing.Totals.{Totals}
 use Rattle.ncc_layout.specs.Sizes.{up, is_record_var, slab, rounded, record_vars, record_sum, record_bytes, room, Fit, Sums, Adds, is_nil, in_room, with_slab}
 

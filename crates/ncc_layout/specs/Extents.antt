@@ -1,11 +1,11 @@
 -- Where variables lie, and how many records there are (NetCDF Classic Format Specification, "Computing File Offsets").
 use Rattle.std.specs.Prelude.{◌≡◌, ℕ, suc, ◌+◌, ◌-◌, ◌/◌, ltb, List, [], ◌∷◌, max, filter, not, if◌then◌else◌}
-use Rattle.ncc_header.specs.declared.schema.Count.{Count}
-use Rattle.ncc_header.specs.declared.schema.Count.TheVariants.{Known, Streaming}
-use Rattle.ncc_header.specs.declared.schema.Dim.{Dim}
-use Rattle.ncc_header.specs.declared.schema.Var.{Var}
-use Rattle.ncc_header.specs.declared.schema.Schema.{Schema}
-use Rattle.ncc_header.specs.Schema.{Place}
+use Rattle.ncc_schema.specs.declared.schema.Count.{Count}
+use Rattle.ncc_schema.specs.declared.schema.Count.TheVariants.{Known, Streaming}
+use Rattle.ncc_schema.specs.declared.schema.Dim.{Dim}
+use Rattle.ncc_schema.specs.declared.schema.Var.{Var}
+use Rattle.ncc_schema.specs.declared.schema.Schema.{Schema}
+use Rattle.ncc_schema.specs.Schema.{Place}
 use Rattle.ncc_layout.specs.declared.extent.Extent.{Extent}
 use Rattle.ncc_layout.specs.Sizes.{is_record_var, slab, record_size_of}
 

@@ -1,8 +1,8 @@
 -- Which layout rule fails first, and for which variable.
 use Rattle.std.specs.Prelude.{◌≡◌, ℕ, zero, suc, ◌<◌, ◌⊎◌, List, [], ◌∷◌, Contains}
 use Rattle.std.specs.List.{AllByRecursion}
-use Rattle.ncc_header.specs.declared.schema.Schema.{Schema}
-use Rattle.ncc_header.specs.Schema.{Place}
+use Rattle.ncc_schema.specs.declared.schema.Schema.{Schema}
+use Rattle.ncc_schema.specs.Schema.{Place}
 use Rattle.ncc_layout.specs.declared.extent.Extent.{Extent}
 use Rattle.ncc_layout.specs.declared.fault.LayoutFaultKind.{LayoutFaultKind}
 use Rattle.ncc_layout.specs.declared.fault.LayoutFaultKind.TheVariants.{TooLarge, InHeader, Overlap, RecordWindow, FixedAfterRecords, Truncated}

@@ -1,9 +1,9 @@
 -- What a placed file holds.
 use Rattle.std.specs.Prelude.{◌≡◌, ℕ, ◌+◌, ◌<◌, List, map, length, get_or, Result, Ok, Err}
-use Rattle.ncc_header.specs.declared.schema.Count.TheVariants.{Known}
-use Rattle.ncc_header.specs.declared.schema.Schema.{Schema}
-use Rattle.ncc_header.specs.declared.schema.VarPlace.{VarPlace}
-use Rattle.ncc_header.specs.Schema.{Place, places_of}
+use Rattle.ncc_schema.specs.declared.schema.Count.TheVariants.{Known}
+use Rattle.ncc_schema.specs.declared.schema.Schema.{Schema}
+use Rattle.ncc_schema.specs.declared.schema.VarPlace.{VarPlace}
+use Rattle.ncc_schema.specs.Schema.{Place, places_of}
 use Rattle.ncc_layout.specs.declared.fault.LayoutFaultKind.{LayoutFaultKind}
 use Rattle.ncc_layout.specs.declared.fault.PlaceError.{PlaceError}
 use Rattle.ncc_layout.specs.declared.fault.PlaceError.TheVariants.{Fault, Memory}

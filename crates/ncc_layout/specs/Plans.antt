@@ -1,13 +1,13 @@
 -- What the program answers for a standard placement.
 use Rattle.std.specs.Prelude.{◌≡◌, ℕ, ◌+◌, List, length, map}
 use Rattle.std.specs.List.{flat_map}
-use Rattle.ncc_header.specs.declared.schema.Count.{Count}
-use Rattle.ncc_header.specs.declared.schema.Count.TheVariants.{Known, Streaming}
-use Rattle.ncc_header.specs.declared.schema.Schema.{Schema}
-use Rattle.ncc_header.specs.declared.schema.Var.{Var}
-use Rattle.ncc_header.specs.declared.schema.VarPlace.{VarPlace}
-use Rattle.ncc_header.specs.Schema.{places_of}
-use Rattle.ncc_header.specs.Names.{capped, list_size, vars_at, canon_unplaced, header_length}
+use Rattle.ncc_schema.specs.declared.schema.Count.{Count}
+use Rattle.ncc_schema.specs.declared.schema.Count.TheVariants.{Known, Streaming}
+use Rattle.ncc_schema.specs.declared.schema.Schema.{Schema}
+use Rattle.ncc_schema.specs.declared.schema.Var.{Var}
+use Rattle.ncc_schema.specs.declared.schema.VarPlace.{VarPlace}
+use Rattle.ncc_schema.specs.Schema.{places_of}
+use Rattle.ncc_schema.specs.Names.{capped, list_size, vars_at, canon_unplaced, header_length}
 use Rattle.ncc_layout.specs.declared.fault.SizeError.{SizeError}
 use Rattle.ncc_layout.specs.declared.fault.SizeError.TheVariants as size_error
 use Rattle.ncc_layout.specs.declared.plan_fault.PlanFault.{PlanFault}

@@ -1,8 +1,8 @@
 -- The layout rules of a file.
 use Rattle.std.specs.Prelude.{◌≡◌, ℕ, zero, suc, ◌+◌, ◌*◌, ◌<◌, ◌≤◌, List, Contains, Bool, true, false}
 use Rattle.std.specs.List.{AllByRecursion}
-use Rattle.ncc_header.specs.declared.schema.Schema.{Schema}
-use Rattle.ncc_header.specs.Schema.{Place}
+use Rattle.ncc_schema.specs.declared.schema.Schema.{Schema}
+use Rattle.ncc_schema.specs.Schema.{Place}
 use Rattle.ncc_layout.specs.declared.extent.Extent.{Extent}
 use Rattle.ncc_layout.specs.Sizes.{Fit, record_size_of}
 use Rattle.ncc_layout.specs.Extents.{extents_of, end, fixed_of, records_of, record_count}

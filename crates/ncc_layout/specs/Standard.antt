@@ -3,11 +3,11 @@ use Rattle.std.specs.Prelude.{ℕ, suc, ◌+◌, ◌-◌, ◌*◌, ◌^◌, ◌<
 use Rattle.std.specs.List.{AllByRecursion}
 use Rattle.ncc_values.specs.declared.version.Version.{Version}
 use Rattle.ncc_values.specs.declared.version.Version.TheVariants.{V1, V2, V5}
-use Rattle.ncc_header.specs.declared.schema.Dim.{Dim}
-use Rattle.ncc_header.specs.declared.schema.Var.{Var}
-use Rattle.ncc_header.specs.declared.schema.Schema.{Schema}
-use Rattle.ncc_header.specs.Schema.{Place, mark, offset_limit}
-use Rattle.ncc_header.specs.Names.{begin_at, header_length}
+use Rattle.ncc_schema.specs.declared.schema.Dim.{Dim}
+use Rattle.ncc_schema.specs.declared.schema.Var.{Var}
+use Rattle.ncc_schema.specs.declared.schema.Schema.{Schema}
+use Rattle.ncc_schema.specs.Schema.{Place, mark, offset_limit}
+use Rattle.ncc_schema.specs.Names.{begin_at, header_length}
 use Rattle.ncc_layout.specs.Sizes.{is_record_var, rounded, record_sum, record_size_of, room, Fit}
 
 -- ---- the word for a size

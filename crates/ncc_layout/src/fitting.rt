@@ -2,8 +2,8 @@
 
 ghost use Rattle.std.specs.Prelude.{◌≡◌, ◌+◌, ◌<◌, ◌≤◌, ◌↔◌, map, IsTrue};
 ghost use Rattle.std.specs.List.{AllByRecursion};
-ghost use Rattle.ncc_header.specs.Schema.{offset_limit, places_of, Sound};
-ghost use Rattle.ncc_header.specs.Names.{capped, header_length};
+ghost use Rattle.ncc_schema.specs.Schema.{offset_limit, places_of, Sound};
+ghost use Rattle.ncc_schema.specs.Names.{capped, header_length};
 ghost use Rattle.ncc_layout.specs.Sizes.{rounded, AreSizes};
 ghost use Rattle.ncc_layout.specs.Standard.{size_limit, fixed_sum, FitsVersion};
 

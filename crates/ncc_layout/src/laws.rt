@@ -1,9 +1,9 @@
 //! What the layout rules say of elements and of faults, whatever program judges them.
 
 ghost use Rattle.std.specs.Prelude.{◌≡◌, ℕ, ◌+◌, List, map};
-ghost use Rattle.ncc_header.specs.declared.schema.Count.TheVariants.{Known};
-ghost use Rattle.ncc_header.specs.declared.schema.Schema.{Schema};
-ghost use Rattle.ncc_header.specs.Schema.{Place};
+ghost use Rattle.ncc_schema.specs.declared.schema.Count.TheVariants.{Known};
+ghost use Rattle.ncc_schema.specs.declared.schema.Schema.{Schema};
+ghost use Rattle.ncc_schema.specs.Schema.{Place};
 ghost use Rattle.ncc_layout.specs.declared.fault.LayoutFaultKind.{LayoutFaultKind};
 ghost use Rattle.ncc_layout.specs.Sizes.{record_size_of};
 ghost use Rattle.ncc_layout.specs.declared.placed_file.Placed.{Placed};

@@ -1,7 +1,7 @@
 //! Whether every element of a file has its place.
 
 ghost use Rattle.std.specs.Prelude.{◌≡◌, ◌<◌, IfOk, length};
-ghost use Rattle.ncc_header.specs.Schema.{places_of, LegalDims, Sound, Legal};
+ghost use Rattle.ncc_schema.specs.Schema.{places_of, LegalDims, Sound, Legal};
 ghost use Rattle.ncc_layout.specs.Sizes.{AreSizes};
 ghost use Rattle.ncc_layout.specs.Extents.{extents_of};
 ghost use Rattle.ncc_layout.specs.Elements.{shape, placed_on, AreLaid};

@@ -1,8 +1,8 @@
 //! The standard placement of a schema.
 
 ghost use Rattle.std.specs.Prelude.{◌≡◌, ℕ, List, [], ◌∷◌, ◌++◌, map, IfOk, MatchResult, if◌then◌else◌};
-ghost use Rattle.ncc_header.specs.declared.schema.Var.{Var};
-ghost use Rattle.ncc_header.specs.Schema.{places_of, LegalDims, Sound, Legal};
+ghost use Rattle.ncc_schema.specs.declared.schema.Var.{Var};
+ghost use Rattle.ncc_schema.specs.Schema.{places_of, LegalDims, Sound, Legal};
 ghost use Rattle.ncc_layout.specs.Sizes.{is_record_var, rounded};
 ghost use Rattle.ncc_layout.specs.Standard.{FitsVersion};
 ghost use Rattle.ncc_layout.specs.Plans.{IsKnown, known, AreEnds, IsStandard, IsPlan, PlanFails};

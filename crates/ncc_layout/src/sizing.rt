@@ -2,9 +2,9 @@
 
 ghost use Rattle.std.specs.Prelude.{◌≡◌, ◌*◌, ◌<◌, ◌≤◌, List, map};
 ghost use Rattle.std.specs.List.{AllByRecursion};
-ghost use Rattle.ncc_header.specs.Schema.{IsFixed, LegalDims, Sound};
+ghost use Rattle.ncc_schema.specs.Schema.{IsFixed, LegalDims, Sound};
 ghost use Rattle.ncc_layout.specs.Sizes.{in_u64, in_room, room, is_record_var, length_of, product, inner, slab, with_slab, Sums, Adds, Fit, IsSizes};
-ghost use Rattle.ncc_header.specs.declared.schema.Var.{Var};
+ghost use Rattle.ncc_schema.specs.declared.schema.Var.{Var};
 
 use crate::fault::SizeError;
 use crate::size_list::Sizes;

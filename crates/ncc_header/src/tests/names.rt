@@ -1,7 +1,7 @@
 //! Where names stand in headers that were decoded.
 
 ghost use Rattle.std.specs.Prelude.{IsTrue};
-ghost use Rattle.ncc_header.specs.Names.{HasName};
+ghost use Rattle.ncc_schema.specs.Names.{HasName};
 
 use super::fixtures::*;
 use crate::{NameOf, Schema, decode, laws, name_at};

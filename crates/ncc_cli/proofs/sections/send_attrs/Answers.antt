@@ -1,5 +1,5 @@
 use Rattle.std.proofs.Common.{◌∙◌}
-use Rattle.ncc_header.proofs.Writing.{so_far_more}
+use Rattle.ncc_schema.proofs.Writing.{so_far_more}
 use Rattle.ncc_cli.specs.Texts.{attr_line}
 use Rattle.ncc_cli.proofs.SendingText.{next_item, fails, piece_fails}
 use Rattle.ncc_cli.proofs.sections.send_attrs.Goals as goal

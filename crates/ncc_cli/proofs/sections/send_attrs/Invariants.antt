@@ -1,5 +1,5 @@
 use Rattle.std.proofs.Common.{◌≡◌, drop}
-use Rattle.ncc_header.proofs.Writing.{SoFar}
+use Rattle.ncc_schema.proofs.Writing.{SoFar}
 use Rattle.ncc_cli.specs.Texts.{attr_lines}
 use Rattle.ncc_cli.proofs.sections.send_attrs.Given as goal
 

@@ -1,6 +1,6 @@
 use Rattle.std.proofs.Common.{◌≡◌, drop}
 use Rattle.std.specs.List.{flat_map}
-use Rattle.ncc_header.proofs.Writing.{SoFar}
+use Rattle.ncc_schema.proofs.Writing.{SoFar}
 use Rattle.ncc_cli.specs.Texts.{dim_word}
 use Rattle.ncc_cli.proofs.sections.send_dim_words.Given as goal
 

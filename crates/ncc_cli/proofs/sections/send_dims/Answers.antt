@@ -1,7 +1,7 @@
 use Rattle.std.proofs.Common.{◌≡◌, ◌∙◌}
 use Rattle.ncc_cli.specs.Texts.{dim_line}
 use Rattle.ncc_cli.proofs.SendingText.{pushed, next_line, fails, piece_fails}
-use Rattle.ncc_header.proofs.Writing.{so_far_more}
+use Rattle.ncc_schema.proofs.Writing.{so_far_more}
 use Rattle.ncc_cli.proofs.sections.send_dims.Goals as goal
 
 pub returns-in_err-write_all-clause-sent : goal.returns-in_err-write_all-clause-sent

@@ -1,6 +1,6 @@
 use Rattle.std.proofs.Common.{◌≡◌, ◌++◌, List, ℕ, None, sym, ap, ◌∙◌}
-use Rattle.ncc_header.specs.declared.schema.Attr.{Attr}
-use Rattle.ncc_header.specs.declared.schema.Dim.{Dim}
+use Rattle.ncc_schema.specs.declared.schema.Attr.{Attr}
+use Rattle.ncc_schema.specs.declared.schema.Dim.{Dim}
 use Rattle.ncc_cli.specs.Texts.{head_lines, dim_lines, attr_lines}
 use Rattle.ncc_cli.proofs.SendingText.{pushed, fails, first_fails, second_fails, sends_third}
 use Rattle.ncc_cli.proofs.sections.send_schema.Goals as goal

@@ -1,5 +1,5 @@
 use Rattle.std.proofs.Common.{◌++◌, List, Some, refl, sym, ap}
-use Rattle.ncc_header.specs.declared.schema.Attr.{Attr}
+use Rattle.ncc_schema.specs.declared.schema.Attr.{Attr}
 use Rattle.ncc_cli.specs.Texts.{var_line, attr_lines}
 use Rattle.ncc_cli.proofs.SendingText.{fails, first_fails, sends_second}
 use Rattle.ncc_cli.proofs.sections.send_var.Goals as goal

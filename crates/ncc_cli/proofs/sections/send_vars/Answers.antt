@@ -1,5 +1,5 @@
 use Rattle.std.proofs.Common.{◌∙◌}
-use Rattle.ncc_header.proofs.Writing.{so_far_more}
+use Rattle.ncc_schema.proofs.Writing.{so_far_more}
 use Rattle.ncc_cli.specs.Texts.{var_text}
 use Rattle.ncc_cli.proofs.SendingText.{next_var, fails, piece_fails}
 use Rattle.ncc_cli.proofs.sections.send_vars.Goals as goal

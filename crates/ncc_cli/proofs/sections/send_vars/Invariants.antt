@@ -1,5 +1,5 @@
 use Rattle.std.proofs.Common.{◌≡◌, drop}
-use Rattle.ncc_header.proofs.Writing.{SoFar}
+use Rattle.ncc_schema.proofs.Writing.{SoFar}
 use Rattle.ncc_cli.specs.Texts.{var_texts}
 use Rattle.ncc_cli.proofs.sections.send_vars.Given as goal
 

@@ -1,7 +1,7 @@
 use Rattle.std.proofs.Common.{ap, ◌∙◌}
 use Rattle.std.specs.List.{flat_map}
 use Rattle.std.proofs.lemmas.Grind.{flat_map-append}
-use Rattle.ncc_header.proofs.Writing.{so_far_more}
+use Rattle.ncc_schema.proofs.Writing.{so_far_more}
 use Rattle.ncc_cli.proofs.SendingText.{fails, piece_fails}
 use Rattle.ncc_cli.proofs.sending.send_pieces.Goals as goal
 

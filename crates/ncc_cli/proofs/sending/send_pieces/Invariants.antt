@@ -1,6 +1,6 @@
 use Rattle.std.proofs.Common.{◌≡◌, length}
 use Rattle.std.specs.List.{flat_map}
-use Rattle.ncc_header.proofs.Writing.{SoFar}
+use Rattle.ncc_schema.proofs.Writing.{SoFar}
 use Rattle.ncc_cli.proofs.sending.send_pieces.Given as goal
 
 abbrev pub invariant-loop-rest : goal.invariant-loop-rest

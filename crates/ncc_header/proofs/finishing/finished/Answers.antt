@@ -1,17 +1,17 @@
 use Rattle.std.proofs.Common.{List, map, sym, ap, subst, ◌∙◌}
 use Rattle.ncc_header.specs.declared.fault.Fault.{Fault}
-use Rattle.ncc_header.specs.declared.schema.Mark.{Mark}
-use Rattle.ncc_header.specs.declared.schema.VarPlace.{VarPlace}
+use Rattle.ncc_schema.specs.declared.schema.Mark.{Mark}
+use Rattle.ncc_schema.specs.declared.schema.VarPlace.{VarPlace}
 use Rattle.ncc_header.specs.Answers.{Begins, Stops}
 use Rattle.ncc_header.specs.Grammar.{done}
-use Rattle.ncc_header.specs.Schema.{places_of}
+use Rattle.ncc_schema.specs.Schema.{places_of}
 use Rattle.ncc_header.specs.States.{left_of, begins_of}
 use Rattle.ncc_header.proofs.Feeding.{cut_stops, finishes, all_taken}
 use Rattle.ncc_header.proofs.finishing.finished.Goals as goal
 
 pub returns-in-Some-clause-answers : goal.returns-in-Some-clause-answers
 returns-in-Some-clause-answers c = λ taken t.
-    subst (λ (f : Fault). Stops taken c.args.reading.limit f) (sym c.cut_short.ensures) (cut_stops c.args.reading taken c.in-Some.size t (sym c.size.ensures ∙ c.in-Some.is))
+    subst (λ (f : Fault). Stops taken c.args.reading.limit f) (sym c.cut_short-fault.ensures) (cut_stops c.args.reading taken c.in-Some.size t (sym c.size.ensures ∙ c.in-Some.is))
 
 pub returns-clause-answers : goal.returns-clause-answers
 returns-clause-answers c = λ taken t.

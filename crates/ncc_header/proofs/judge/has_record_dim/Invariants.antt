@@ -1,6 +1,6 @@
 use Rattle.std.proofs.Common.{◌≡◌, drop}
 use Rattle.std.specs.Prelude.{nat_lt}
-use Rattle.ncc_header.specs.Schema.{record_dims}
+use Rattle.ncc_schema.specs.Schema.{record_dims}
 use Rattle.ncc_header.proofs.judge.has_record_dim.Given as goal
 
 abbrev pub invariant-loop-dim : goal.invariant-loop-dim

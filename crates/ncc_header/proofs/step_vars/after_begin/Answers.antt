@@ -1,9 +1,9 @@
 use Rattle.std.proofs.Common.{◌≡◌, ℕ, List, [], ◌∷◌, ◌++◌, map, None, sym, ap, ap₂, subst, ◌∙◌, arith}
 use Rattle.std.specs.Prelude.{zip}
-use Rattle.ncc_header.specs.declared.schema.Var.{Var}
-use Rattle.ncc_header.specs.declared.schema.VarPlace.{VarPlace}
+use Rattle.ncc_schema.specs.declared.schema.Var.{Var}
+use Rattle.ncc_schema.specs.declared.schema.VarPlace.{VarPlace}
 use Rattle.ncc_header.specs.Fields.{begin_wrong}
-use Rattle.ncc_header.specs.Schema.{Place, places_of}
+use Rattle.ncc_schema.specs.Schema.{Place, places_of}
 use Rattle.ncc_header.specs.States.{from_vars, before_of}
 use Rattle.ncc_header.proofs.Turns.{before_more, begins_more}
 use Rattle.ncc_header.proofs.step_vars.after_begin.Goals as goal

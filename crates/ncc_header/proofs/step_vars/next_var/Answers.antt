@@ -1,6 +1,6 @@
 use Rattle.std.proofs.Common.{◌∙◌}
 use Rattle.ncc_header.specs.Grammar.{done}
-use Rattle.ncc_header.specs.Schema.{places_of}
+use Rattle.ncc_schema.specs.Schema.{places_of}
 use Rattle.ncc_header.proofs.Turns.{vars_end}
 use Rattle.ncc_header.proofs.step_vars.next_var.Goals as goal
 

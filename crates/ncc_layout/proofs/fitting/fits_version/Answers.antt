@@ -1,7 +1,7 @@
 use Rattle.std.proofs.Common.{◌≡◌, ◌+◌, ◌*◌, ◌^◌, ◌<◌, ◌≤◌, ap₂, sym, subst, ◌∙◌}
 use Rattle.std.specs.List.{AllByRecursion}
 use Rattle.std.proofs.lemmas.Bool.{ltb-true, lt-ltb}
-use Rattle.ncc_header.specs.Names.{capped}
+use Rattle.ncc_schema.specs.Names.{capped}
 use Rattle.ncc_layout.specs.Standard.{size_limit, FitsVersion}
 use Rattle.ncc_layout.specs.Plans.{fixed_end}
 use Rattle.ncc_layout.proofs.VersionFits.{words_of, fits_from, file_of}

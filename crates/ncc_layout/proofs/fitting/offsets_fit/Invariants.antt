@@ -1,6 +1,6 @@
 use Rattle.std.proofs.Common.{◌<◌, ◌↔◌, drop}
 use Rattle.std.specs.List.{AllByRecursion}
-use Rattle.ncc_header.specs.Schema.{offset_limit, places_of}
+use Rattle.ncc_schema.specs.Schema.{offset_limit, places_of}
 use Rattle.ncc_layout.proofs.fitting.offsets_fit.Given as goal
 
 abbrev pub invariant-loop-place : goal.invariant-loop-place

@@ -1,5 +1,5 @@
 use Rattle.std.proofs.Common.{◌≡◌, take}
-use Rattle.ncc_header.specs.Names.{capped}
+use Rattle.ncc_schema.specs.Names.{capped}
 use Rattle.ncc_layout.specs.Plans.{fixed_end}
 use Rattle.ncc_layout.proofs.fitting.records_begin.Given as goal
 

@@ -1,5 +1,5 @@
 use Rattle.std.proofs.Common.{◌≡◌, ◌++◌, drop}
-use Rattle.ncc_header.specs.Schema.{places_of}
+use Rattle.ncc_schema.specs.Schema.{places_of}
 use Rattle.ncc_layout.specs.Extents.{extents_from}
 use Rattle.ncc_layout.proofs.placing.extents_of.Given as goal
 

@@ -2,8 +2,8 @@ use Rattle.std.proofs.Common.{List, length, refl, sym, subst, ap, ◌∙◌, ari
 use Rattle.std.specs.Prelude.{Err}
 use Rattle.std.specs.List.{AllByRecursion}
 use Rattle.std.proofs.lemmas.List.{length-map}
-use Rattle.ncc_header.specs.declared.schema.VarPlace.{VarPlace}
-use Rattle.ncc_header.specs.Schema.{place_of, places_of}
+use Rattle.ncc_schema.specs.declared.schema.VarPlace.{VarPlace}
+use Rattle.ncc_schema.specs.Schema.{place_of, places_of}
 use Rattle.ncc_layout.specs.declared.extent.Extent.{Extent}
 use Rattle.ncc_layout.specs.declared.fault.PlaceError.{PlaceError}
 use Rattle.ncc_layout.specs.Bounds.{HasBytes, AreNumbered}

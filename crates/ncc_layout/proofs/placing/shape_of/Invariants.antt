@@ -1,6 +1,6 @@
 use Rattle.std.proofs.Common.{◌≡◌, ◌++◌, drop, map}
 use Rattle.std.specs.List.{AllByRecursion}
-use Rattle.ncc_header.specs.Schema.{IsFixed}
+use Rattle.ncc_schema.specs.Schema.{IsFixed}
 use Rattle.ncc_layout.specs.Sizes.{length_of}
 use Rattle.ncc_layout.specs.Elements.{shape}
 use Rattle.ncc_layout.proofs.placing.shape_of.Given as goal

@@ -1,5 +1,5 @@
 use Rattle.std.proofs.Common.{◌≡◌, map, take}
-use Rattle.ncc_header.specs.Schema.{places_of}
+use Rattle.ncc_schema.specs.Schema.{places_of}
 use Rattle.ncc_layout.specs.Standard.{standard_from, begin_fields_from}
 use Rattle.ncc_layout.specs.Plans.{AreEnds}
 use Rattle.ncc_layout.proofs.planning.placed.Given as goal

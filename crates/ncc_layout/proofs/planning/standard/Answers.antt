@@ -1,6 +1,6 @@
 use Rattle.std.proofs.Common.{◌<◌}
 use Rattle.std.specs.List.{AllByRecursion}
-use Rattle.ncc_header.specs.Schema.{offset_limit, places_of}
+use Rattle.ncc_schema.specs.Schema.{offset_limit, places_of}
 use Rattle.ncc_layout.specs.Plans.{known, IsPlan}
 use Rattle.ncc_layout.proofs.VersionFits.{size_fails, standard_legal}
 use Rattle.ncc_layout.proofs.planning.standard.Goals as goal

@@ -1,6 +1,6 @@
 use Rattle.std.proofs.Common.{◌≡◌, ◌*◌, ◌<◌, ◌^◌, map, drop}
 use Rattle.std.specs.List.{AllByRecursion}
-use Rattle.ncc_header.specs.Schema.{IsFixed}
+use Rattle.ncc_schema.specs.Schema.{IsFixed}
 use Rattle.ncc_layout.specs.Sizes.{length_of, product}
 use Rattle.ncc_layout.proofs.sizing.product.Given as goal
 

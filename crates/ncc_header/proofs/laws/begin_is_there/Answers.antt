@@ -1,5 +1,0 @@
-use Rattle.ncc_header.proofs.BeginsThere.{begin_is_there}
-use Rattle.ncc_header.proofs.laws.begin_is_there.Goals as goal
-
-pub returns : goal.returns
-returns c = begin_is_there

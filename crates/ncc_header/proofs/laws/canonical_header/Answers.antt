@@ -1,5 +1,0 @@
-use Rattle.ncc_header.proofs.Canonical.{canonical_header}
-use Rattle.ncc_header.proofs.laws.canonical_header.Goals as goal
-
-pub returns : goal.returns
-returns c = canonical_header

@@ -1,7 +1,0 @@
-use Rattle.std.proofs.Common.{◌↔◌, drop}
-use Rattle.std.specs.List.{AllByRecursion}
-use Rattle.ncc_header.specs.Schema.{IsFixed}
-use Rattle.ncc_header.proofs.legality.are_fixed.Given as goal
-
-abbrev pub invariant-loop-id : goal.invariant-loop-id
-invariant-loop-id l = AllByRecursion (IsFixed l.dims) (drop l.id-index l.ids) ↔ AllByRecursion (IsFixed l.dims) l.ids

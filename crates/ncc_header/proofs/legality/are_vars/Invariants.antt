@@ -1,7 +1,0 @@
-use Rattle.std.proofs.Common.{◌↔◌, drop}
-use Rattle.std.specs.List.{AllByRecursion}
-use Rattle.ncc_header.specs.Schema.{LegalVar}
-use Rattle.ncc_header.proofs.legality.are_vars.Given as goal
-
-abbrev pub invariant-loop-var : goal.invariant-loop-var
-invariant-loop-var l = AllByRecursion (LegalVar l.version l.dims) (drop l.var-index l.vars) ↔ AllByRecursion (LegalVar l.version l.dims) l.vars

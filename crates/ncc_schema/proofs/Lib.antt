@@ -1,0 +1,6 @@
+mod Canonical
+pub mod Sizes
+mod NamesThere
+mod BeginsThere
+mod Encoding
+pub mod Writing

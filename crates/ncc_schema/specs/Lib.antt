@@ -1,0 +1,8 @@
+pub mod Schema
+pub mod Header
+pub mod Names
+pub mod Device
+pub mod Source
+pub mod Sink
+pub mod FuseSource
+pub mod FuseSink

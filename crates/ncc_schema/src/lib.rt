@@ -1,0 +1,27 @@
+//! What the header of a netCDF classic file says, its canonical spelling, and what bytes are read from and put out to.
+#![tactic(auto)]
+
+mod encoder;
+mod failed;
+mod fuse_sink;
+mod fuse_source;
+pub mod laws;
+mod legality;
+mod lengths;
+mod limits;
+mod names;
+mod schema;
+mod sink;
+mod source;
+
+pub use encoder::encode;
+pub use failed::Failed;
+pub use fuse_sink::FuseSink;
+pub use fuse_source::FuseSource;
+pub use legality::{legal, sound};
+pub use lengths::{header_length, var_size, vars_start};
+pub use limits::{limit_of_counts, limit_of_lengths, limit_of_offsets, streaming_mark};
+pub use names::{NameOf, name_at};
+pub use schema::{Attr, Count, Dim, Header, Mark, Schema, Var, VarPlace};
+pub use sink::{Sink, WriteSink, write_all};
+pub use source::{ReadSource, Source};

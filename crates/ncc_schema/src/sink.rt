@@ -1,0 +1,79 @@
+//! Sinks of bytes.
+
+ghost use Rattle.std.specs.Prelude.{◌≡◌, ℕ, List, Option};
+ghost use Rattle.ncc_values.specs.Failures.{Counts};
+ghost use Rattle.ncc_schema.specs.Device.{Writes, WritesAll};
+
+use crate::failed::Failed;
+use std::io::Write;
+
+/// Where bytes are put out, in order.
+pub trait Sink {
+    /// The bytes that were put out, where the sink tells them.
+    ghost put: { Self → Option (List ℕ) };
+
+    /// How often it failed. The count stays at 2^64 - 1.
+    ghost failures: { Self → ℕ };
+
+    /// Puts out a front of the bytes, at least one where there is one, and answers how many.
+    fn write(&mut self, bytes: &[u8]) -> Result<usize, Failed>
+        ensures bytes { Writes (put self.old) (put self.new) result bytes.now }
+        ensures count { Counts (failures self.old) (failures self.new) result };
+}
+
+/// Any writer. Each of its errors is a failure, and so is a write that takes no byte where there is one.
+#[derive(Drop)]
+pub struct WriteSink<W> {
+    inner: W,
+    failures: u64,
+}
+
+impl<W: Write> WriteSink<W> {
+    ghost use Rattle.ncc_schema.specs.Sink.{writer_of, write_failures};
+
+    pub fn new(inner: W) -> WriteSink<W>
+        ensures writer { writer_of result ≡ inner }
+        ensures count { write_failures result ≡ 0 }
+    {
+        WriteSink { inner, failures: 0 }
+    }
+
+    pub fn into_inner(self) -> W
+        ensures { result ≡ writer_of self }
+    {
+        let WriteSink { inner, failures: _ } = self;
+        inner
+    }
+}
+
+impl<W: Write> Sink for WriteSink<W> {
+    ghost use Rattle.ncc_schema.specs.Sink.{writer_of, write_failures};
+
+    ghost put = { λ s. W.contents (writer_of s) };
+
+    ghost failures = { λ s. write_failures s };
+
+    fn write(&mut self, bytes: &[u8]) -> Result<usize, Failed> {
+        match self.inner.write(bytes) {
+            Ok(n) if n > 0 || bytes.is_empty() => Ok(n),
+            _ => {
+                self.failures = self.failures.saturating_add(1);
+                Err(Failed)
+            }
+        }
+    }
+}
+
+/// Puts out all of the bytes, by as many writes as it takes.
+pub fn write_all<W: Sink>(sink: &mut W, bytes: &[u8]) -> Result<(), Failed>
+    ensures bytes { WritesAll (W.put sink.old) (W.put sink.new) result bytes.now }
+    ensures count { Counts (W.failures sink.old) (W.failures sink.new) result }
+{
+    let mut rest = bytes;
+    while !rest.is_empty() {
+        let n = sink.write(rest)?;
+        let (_written, after) = rest.split_at(n);
+        rest = after;
+    }
+    Ok(())
+}
