@@ -249,6 +249,3 @@ pub fn encode<W: Sink>(schema: &Schema, places: &[VarPlace], sink: &mut W) -> Re
     put_attrs(sink, version, schema.gatts.as_slice())?;
     put_vars(sink, schema, places)
 }
-
-#[cfg(test)]
-mod tests;
