@@ -1,14 +1,13 @@
 -- What a reading has still to read, once bytes were taken.
-use Rattle.std.proofs.Common.{◌≡◌, ℕ, ◌+◌, ◌≤◌, List, [], ◌∷◌, ◌++◌, length, Some, Err, refl, sym, ap, subst₂, ◌∙◌, append_assoc, append-nil, arith}
+use Rattle.std.proofs.Common.{◌≡◌, ℕ, ◌+◌, ◌≤◌, List, [], ◌∷◌, ◌++◌, length, Some, Err, refl, sym, ap, ◌∙◌, append_assoc, append-nil, arith}
 use Rattle.std.proofs.lemmas.List.{length-append}
 use Rattle.ncc_header.specs.declared.reading.Reading.{Reading}
 use Rattle.ncc_schema.specs.declared.schema.Mark.{Mark}
-use Rattle.ncc_header.specs.declared.state.State.{State}
 use Rattle.ncc_header.specs.declared.state.StepError.{StepError}
 use Rattle.ncc_header.specs.declared.state.StepError.TheVariants as steps
 use Rattle.ncc_header.specs.Grammar.{Label, Plain, Padding, CountOfTagged, Begin, Grammar, Field, fields}
 use Rattle.ncc_header.specs.Marks.{mark_of, marks, begin_of, begins}
-use Rattle.ncc_header.specs.States.{Given, left_of, begins_of, size_of, label_of, front_of, with_begin, Advances, IsRefused, Steps}
+use Rattle.ncc_header.specs.States.{Given, left_of, begins_of, size_of, label_of, with_begin, Advances, Steps}
 use Rattle.ncc_header.specs.Reading.{course, held_of, told_of, Takes, FailsBehind}
 use Rattle.ncc_header.proofs.OneField.{field_goes_on, lacking_goes_on, fields_go_on, field_is_refused}
 use Rattle.ncc_header.proofs.RefusedKinds.{refused_other}
@@ -52,11 +51,9 @@ takes_field old new n front is within long adv shown begun none limit at = recor
 }
 
 -- the field's last bytes are refused
-pub fails_field : (old : Reading) (n : ℕ) (front : List ℕ) (state : State) (at : ℕ) (held : List ℕ) (e : StepError) → size_of (left_of old.state) ≡ Some n → old.at + n ≤ old.limit → length (held_of old) + length front ≡ n → left_of state ≡ left_of old.state → front_of state held ≡ held_of old ++ front → Steps state at (front_of state held) (Err e) → FailsBehind old front (told_of old.at e)
-fails_field old n front state at held steps.Memory is within long left come s = tt
-fails_field old n front state at held (steps.Wrong w) is within long left come s =
-    record {
-      stays = λ more. field_is_refused (left_of old.state) old.limit old.at n (held_of old) front more w is within (length-append (held_of old) front ∙ long)
-          (subst₂ (λ (g : Grammar Given) (b : List ℕ). IsRefused g b w) left come s);
-      other = refused_other state (front_of state held) w s;
-    }
+pub fails_field : (old : Reading) (n : ℕ) (front : List ℕ) (e : StepError) → size_of (left_of old.state) ≡ Some n → old.at + n ≤ old.limit → length (held_of old) + length front ≡ n → Steps old.state old.at (held_of old ++ front) (Err e) → FailsBehind old front (told_of old.at e)
+fails_field old n front steps.Memory is within long s = tt
+fails_field old n front (steps.Wrong w) is within long s = record {
+  stays = λ more. field_is_refused (left_of old.state) old.limit old.at n (held_of old) front more w is within (length-append (held_of old) front ∙ long) s;
+  other = refused_other old.state (held_of old ++ front) w s;
+}

@@ -62,11 +62,11 @@ fails_behind old mid front rest errors.Memory t b = tt
 
 -- ---- turns
 
-pub turns_more : (old mid : Reading) (piece : List ℕ) (used : ℕ) (t : Turn) → Went old mid piece used → Turns mid (drop used piece) t → Turns old piece (behind_of used t)
-turns_more old mid piece used (turns.GoesOn new n) w v = went_more old mid new piece used n w v
-turns_more old mid piece used (turns.Waits new n) w v =
+pub turns_more : (old mid new : Reading) (piece : List ℕ) (used : ℕ) (t : Turn) → Went old mid piece used → Turns mid new (drop used piece) t → Turns old new piece (behind_of used t)
+turns_more old mid new piece used (turns.GoesOn n) w v = went_more old mid new piece used n w v
+turns_more old mid new piece used (turns.Waits n) w v =
     (went_more old mid new piece used n w v.0, v.1, λ k is. omega (arith, v.2 k is, length-drop used piece, w.within))
-turns_more old mid piece used (turns.Fails e) w v = (
+turns_more old mid new piece used (turns.Fails e) w v = (
   subst (λ (x : List ℕ). FailsBehind old x e) (take-append-drop used piece) (fails_behind old mid (take used piece) (drop used piece) e w.takes v.0),
   λ is. omega (arith, v.1 is, w.takes.long, length-take-le used piece w.within, length-drop used piece, w.within),
 )

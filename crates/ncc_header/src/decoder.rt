@@ -45,29 +45,28 @@ fn fed(reading: &Reading, used: usize) -> Fed
 }
 
 /// Takes a piece.
-fn advance(alloc: Global, standing: Standing, piece: &[u8]) -> (Standing, Result<Fed, HeaderError>)
-    ensures limit { limit_at result.0 ≡ limit_at standing }
-    ensures answers { (taken : List ℕ) → TookAt standing taken → Feeds taken piece.now (limit_at standing) result.1 }
-    ensures takes { (taken : List ℕ) → TookAt standing taken → TookAt result.0 (taken ++ front_taken result.1 piece.now) }
-    ensures spent { IsSpentAt standing → result.1 ≡ Err HeaderError.Memory }
-    ensures spends { result.1 ≡ Err HeaderError.Memory → IsSpentAt result.0 }
-    ensures fresh { IfOk result.1 (λ _. ¬ IsSpentAt result.0) }
+fn advance(alloc: Global, standing: &mut Standing, piece: &[u8]) -> Result<Fed, HeaderError>
+    ensures limit { limit_at standing.new ≡ limit_at standing.old }
+    ensures answers { (taken : List ℕ) → TookAt standing.old taken → Feeds taken piece.now (limit_at standing.old) result }
+    ensures takes { (taken : List ℕ) → TookAt standing.old taken → TookAt standing.new (taken ++ front_taken result piece.now) }
+    ensures spent { IsSpentAt standing.old → result ≡ Err HeaderError.Memory }
+    ensures spends { result ≡ Err HeaderError.Memory → IsSpentAt standing.new }
+    ensures fresh { IfOk result (λ _. ¬ IsSpentAt standing.new) }
     // Eight bytes fit a decoder without memory.
-    ensures few { (taken : List ℕ) → TookAt standing taken → length taken + length piece.now ≤ 8 → result.1 ≡ Err HeaderError.Memory → IsSpentAt standing }
+    ensures few { (taken : List ℕ) → TookAt standing.old taken → length taken + length piece.now ≤ 8 → result ≡ Err HeaderError.Memory → IsSpentAt standing.old }
 {
-    match standing {
-        Standing::Failed(limit, error) => (Standing::Failed(limit, error), Err(error)),
+    let (limit, error) = match standing {
+        Standing::Failed(_, error) => return Err(*error),
         Standing::Reading(reading) => {
             let limit = reading.limit;
             match take(alloc, reading, piece) {
-                Ok((reading, used)) => {
-                    let fed = fed(&reading, used);
-                    (Standing::Reading(reading), Ok(fed))
-                }
-                Err(error) => (Standing::Failed(limit, error), Err(error)),
+                Ok(used) => return Ok(fed(reading, used)),
+                Err(error) => (limit, error),
             }
         }
-    }
+    };
+    discard_standing(mem::replace(standing, Standing::Failed(limit, error)));
+    Err(error)
 }
 
 impl Decoder {
@@ -104,14 +103,7 @@ impl Decoder {
         ensures fresh { IfOk result (λ _. ¬ IsSpent self.new) }
         ensures few { (taken : List ℕ) → Took self.old taken → length taken + length piece.now ≤ 8 → result ≡ Err HeaderError.Memory → IsSpent self.old }
     {
-        let unused = Standing::Failed(0, HeaderError::Memory);
-        let (standing, answer) = advance(
-            self.alloc,
-            mem::replace(&mut self.standing, unused),
-            piece,
-        );
-        self.standing = standing;
-        answer
+        advance(self.alloc, &mut self.standing, piece)
     }
 
     /// How many bytes the field in which the input ends early still lacks. It is 0 where the header is

@@ -1,6 +1,6 @@
 //! Gathering the bytes of the next field, as they come.
 
-ghost use Rattle.std.specs.Prelude.{◌≡◌, ◌+◌, ◌%◌, ◌≤◌, ◌<◌, [], ◌++◌, length, IfOk, IfErr};
+ghost use Rattle.std.specs.Prelude.{◌≡◌, ◌+◌, ◌%◌, ◌≤◌, ◌<◌, [], ◌++◌, length, OnOk, OnErr};
 ghost use Rattle.ncc_values.specs.Values.{type_of, bytes_of};
 ghost use Rattle.ncc_values.specs.XType.{size_of as bytes_each};
 ghost use Rattle.ncc_header.specs.declared.state.State.TheVariants as states;
@@ -20,45 +20,43 @@ fn hold(held: &mut ArrayVec<u8, 8>, bytes: &[u8])
 }
 
 /// Adds the bytes of whole values.
-fn add_values(body: Body, bytes: &[u8]) -> Result<Body, AllocError>
-    requires { length bytes.now % bytes_each (type_of body.values) ≡ 0 }
-    ensures left { IfOk result (λ new. left_of (states.AttrValues new) ≡ left_of (states.AttrValues body)) }
-    ensures begins { IfOk result (λ new. begins_of (states.AttrValues new) ≡ begins_of (states.AttrValues body)) }
-    ensures xtype { IfOk result (λ new. type_of new.values ≡ type_of body.values) }
-    ensures bytes { IfOk result (λ new. bytes_of new.values ≡ bytes_of body.values ++ bytes.now) }
+fn add_values(body: &mut Body, bytes: &[u8]) -> Result<(), AllocError>
+    requires { length bytes.now % bytes_each (type_of body.old.values) ≡ 0 }
+    ensures left { OnOk result (left_of (states.AttrValues body.new) ≡ left_of (states.AttrValues body.old)) }
+    ensures begins { OnOk result (begins_of (states.AttrValues body.new) ≡ begins_of (states.AttrValues body.old)) }
+    ensures xtype { OnOk result (type_of body.new.values ≡ type_of body.old.values) }
+    ensures bytes { OnOk result (bytes_of body.new.values ≡ bytes_of body.old.values ++ bytes.now) }
 {
-    let mut values = body.values;
-    values.push_from(bytes)?;
-    Ok(Body {
-        attrs: body.attrs,
-        name: body.name,
-        number: body.number,
-        values,
-    })
+    body.values.push_from(bytes)?;
+    Ok(())
 }
 
 /// Adds the values that the bytes spell, and holds the bytes behind the last whole one.
-fn add_whole(body: Body, held: &mut ArrayVec<u8, 8>, bytes: &[u8]) -> Result<Body, AllocError>
+fn add_whole(body: &mut Body, held: &mut ArrayVec<u8, 8>, bytes: &[u8]) -> Result<(), AllocError>
     requires { held.old.items ≡ [] }
-    ensures left { IfOk result (λ new. left_of (states.AttrValues new) ≡ left_of (states.AttrValues body)) }
-    ensures begins { IfOk result (λ new. begins_of (states.AttrValues new) ≡ begins_of (states.AttrValues body)) }
-    ensures part { IfOk result (λ new. length held.new.items < bytes_each (type_of new.values)) }
-    ensures bytes { IfOk result (λ new. bytes_of new.values ++ held.new.items ≡ bytes_of body.values ++ bytes.now) }
+    ensures left { OnOk result (left_of (states.AttrValues body.new) ≡ left_of (states.AttrValues body.old)) }
+    ensures begins { OnOk result (begins_of (states.AttrValues body.new) ≡ begins_of (states.AttrValues body.old)) }
+    ensures part { OnOk result (length held.new.items < bytes_each (type_of body.new.values)) }
+    ensures bytes { OnOk result (bytes_of body.new.values ++ held.new.items ≡ bytes_of body.old.values ++ bytes.now) }
 {
     let part = bytes.len() % body.values.xtype().size();
     let (whole, rest) = bytes.split_at(bytes.len() - part);
-    let body = add_values(body, whole)?;
+    add_values(body, whole)?;
     hold(held, rest);
-    Ok(body)
+    Ok(())
 }
 
 /// Adds bytes of values to those of a value whose first bytes are held.
-fn gather_values(body: Body, held: &mut ArrayVec<u8, 8>, front: &[u8]) -> Result<Body, AllocError>
-    requires { length held.old.items < bytes_each (type_of body.values) }
-    ensures left { IfOk result (λ new. left_of (states.AttrValues new) ≡ left_of (states.AttrValues body)) }
-    ensures begins { IfOk result (λ new. begins_of (states.AttrValues new) ≡ begins_of (states.AttrValues body)) }
-    ensures part { IfOk result (λ new. length held.new.items < bytes_each (type_of new.values)) }
-    ensures bytes { IfOk result (λ new. bytes_of new.values ++ held.new.items ≡ (bytes_of body.values ++ held.old.items) ++ front.now) }
+fn gather_values(
+    body: &mut Body,
+    held: &mut ArrayVec<u8, 8>,
+    front: &[u8],
+) -> Result<(), AllocError>
+    requires { length held.old.items < bytes_each (type_of body.old.values) }
+    ensures left { OnOk result (left_of (states.AttrValues body.new) ≡ left_of (states.AttrValues body.old)) }
+    ensures begins { OnOk result (begins_of (states.AttrValues body.new) ≡ begins_of (states.AttrValues body.old)) }
+    ensures part { OnOk result (length held.new.items < bytes_each (type_of body.new.values)) }
+    ensures bytes { OnOk result (bytes_of body.new.values ++ held.new.items ≡ (bytes_of body.old.values ++ held.old.items) ++ front.now) }
 {
     if held.is_empty() {
         return add_whole(body, held, front);
@@ -66,45 +64,31 @@ fn gather_values(body: Body, held: &mut ArrayVec<u8, 8>, front: &[u8]) -> Result
     let lacking = body.values.xtype().size() - held.len();
     if front.len() < lacking {
         hold(held, front);
-        return Ok(body);
+        return Ok(());
     }
     let (first, rest) = front.split_at(lacking);
     hold(held, first);
-    let body = add_values(body, held.as_slice())?;
+    add_values(body, held.as_slice())?;
     held.clear();
     add_whole(body, held, rest)
 }
 
 /// Adds bytes to those of the next field that have come.
-pub fn gather(
-    state: State,
-    held: ArrayVec<u8, 8>,
-    front: &[u8],
-) -> Result<(State, ArrayVec<u8, 8>), AllocError>
-    requires room { held_length state held.items + length front.now ≤ next_size state }
-    requires part { length held.items < part_of state }
-    ensures state { IfOk result (λ new. left_of new.0 ≡ left_of state) }
-    ensures begins { IfOk result (λ new. begins_of new.0 ≡ begins_of state) }
-    ensures held { IfOk result (λ new. front_of new.0 new.1.items ≡ front_of state held.items ++ front.now) }
-    ensures part { IfOk result (λ new. length new.1.items < part_of new.0) }
-    ensures idle { IfOk result (λ new. idle_of new.0 ≡ idle_of state) }
-    ensures at { IfOk result (λ new. first_at new.0 ≡ first_at state) }
-    ensures memory { IfErr result (λ _. 12 ≤ first_at state) }
+pub fn gather(state: &mut State, held: &mut ArrayVec<u8, 8>, front: &[u8]) -> Result<(), AllocError>
+    requires room { held_length state.old held.old.items + length front.now ≤ next_size state.old }
+    requires part { length held.old.items < part_of state.old }
+    ensures state { OnOk result (left_of state.new ≡ left_of state.old) }
+    ensures begins { OnOk result (begins_of state.new ≡ begins_of state.old) }
+    ensures held { OnOk result (front_of state.new held.new.items ≡ front_of state.old held.old.items ++ front.now) }
+    ensures part { OnOk result (length held.new.items < part_of state.new) }
+    ensures idle { OnOk result (idle_of state.new ≡ idle_of state.old) }
+    ensures at { OnOk result (first_at state.new ≡ first_at state.old) }
+    ensures memory { OnErr result (12 ≤ first_at state.old) }
 {
-    let mut all = held;
     match state {
-        State::NameText(named, n, name) => {
-            let mut text = name;
-            text.extend_from_slice(front)?;
-            Ok((State::NameText(named, n, text), all))
-        }
-        State::AttrValues(body) => {
-            let body = gather_values(body, &mut all, front)?;
-            Ok((State::AttrValues(body), all))
-        }
-        other => {
-            hold(&mut all, front);
-            Ok((other, all))
-        }
+        State::NameText(_, _, name) => name.extend_from_slice(front)?,
+        State::AttrValues(body) => gather_values(body, held, front)?,
+        _ => hold(held, front),
     }
+    Ok(())
 }

@@ -1,8 +1,9 @@
 //! Taking the bytes of one field.
 
-ghost use Rattle.std.specs.Prelude.{◌≡◌, ◌+◌, ◌≤◌, ◌<◌, ◌^◌, ◌++◌, ℕ, length, take, Some, Err, IfOk, IfErr};
+ghost use Rattle.std.specs.Prelude.{◌≡◌, ◌+◌, ◌≤◌, ◌<◌, ◌^◌, ◌++◌, ℕ, [], length, take, Some, Err, OnOk, OnErr, IfErr};
 ghost use Rattle.ncc_header.specs.Marks.{mark_of};
-ghost use Rattle.ncc_header.specs.States.{left_of, label_of, size_of, front_of, part_of, idle_of, first_at, StepsTo, Steps};
+ghost use Rattle.ncc_header.specs.declared.state.State.TheVariants as states;
+ghost use Rattle.ncc_header.specs.States.{left_of, begins_of, label_of, size_of, front_of, part_of, idle_of, first_at, StepsTo, Steps};
 ghost use Rattle.ncc_header.specs.Held.{next_size, held_length};
 ghost use Rattle.ncc_header.specs.Reading.{held_of, told_of, Takes, FailsBehind, Waits};
 
@@ -15,7 +16,8 @@ use crate::state::{State, StepError};
 use crate::step::step;
 use arrayvec::ArrayVec;
 use ncc_schema::Mark;
-use std::alloc::Global;
+use std::alloc::{AllocError, Global};
+use std::mem;
 
 /// How many bytes of the next field have come.
 pub fn held_len(reading: &Reading) -> u128
@@ -44,76 +46,115 @@ fn told(at: u64, error: StepError) -> HeaderError
     }
 }
 
-/// The state behind the next field, and the marks with those that the field shows.
-fn stepped(
-    alloc: Global,
-    state: State,
-    marks: Vec<Mark>,
-    at: u64,
-    held: &[u8],
-) -> Result<(State, Vec<Mark>), StepError>
-    requires whole { size_of (left_of state) ≡ Some (length (front_of state held.now)) }
-    requires part { length held.now < part_of state }
-    requires small { length (front_of state held.now) < 2 ^ 64 }
-    ensures ok { IfOk result (λ new. StepsTo state at (front_of state held.now) new.0) }
-    ensures marks { IfOk result (λ new. new.1.items ≡ marks.items ++ mark_of (label_of (left_of state)) at (front_of state held.now)) }
-    ensures idle { size_of (left_of state) ≡ Some 0 → IfOk result (λ new. idle_of new.0 < idle_of state) }
-    ensures err { IfErr result (λ e. Steps state at (front_of state held.now) (Err e)) }
+/// Leaves nothing behind an error.
+fn fail(state: &mut State, held: &mut ArrayVec<u8, 8>)
+    ensures state { state.new ≡ states.Magic }
+    ensures held { held.new.items ≡ [] }
 {
-    let mut all = marks;
-    if let Err(error) = push_mark(&mut all, &state, at, held) {
-        discard(state);
-        return Err(error.into());
-    }
-    let new = step(alloc, state, at, held)?;
-    Ok((new, all))
+    discard(mem::replace(state, State::Magic));
+    held.clear();
 }
 
-/// Takes the last bytes of the next field, and so the field.
+/// Gathers the last bytes of the next field, and adds its mark.
+fn marked(
+    state: &mut State,
+    held: &mut ArrayVec<u8, 8>,
+    marks: &mut Vec<Mark>,
+    at: u64,
+    front: &[u8],
+) -> Result<(), AllocError>
+    requires room { held_length state.old held.old.items + length front.now ≤ next_size state.old }
+    requires part { length held.old.items < part_of state.old }
+    ensures state { OnOk result (left_of state.new ≡ left_of state.old) }
+    ensures begins { OnOk result (begins_of state.new ≡ begins_of state.old) }
+    ensures held { OnOk result (front_of state.new held.new.items ≡ front_of state.old held.old.items ++ front.now) }
+    ensures part { OnOk result (length held.new.items < part_of state.new) }
+    ensures idle { OnOk result (idle_of state.new ≡ idle_of state.old) }
+    ensures at { OnOk result (first_at state.new ≡ first_at state.old) }
+    ensures marks { OnOk result (marks.new.items ≡ marks.old.items ++ mark_of (label_of (left_of state.old)) at (front_of state.old held.old.items ++ front.now)) }
+    ensures memory { OnErr result (12 ≤ first_at state.old) }
+{
+    gather(state, held, front)?;
+    push_mark(marks, state, at, held.as_slice())
+}
+
+/// Takes the last bytes of the next field, its mark, and the step over it.
+fn stepped(
+    alloc: Global,
+    state: &mut State,
+    held: &mut ArrayVec<u8, 8>,
+    marks: &mut Vec<Mark>,
+    at: u64,
+    front: &[u8],
+) -> Result<(), StepError>
+    requires whole { size_of (left_of state.old) ≡ Some (length (front_of state.old held.old.items ++ front.now)) }
+    requires part { length held.old.items < part_of state.old }
+    requires small { length (front_of state.old held.old.items ++ front.now) < 2 ^ 64 }
+    ensures held { held.new.items ≡ [] }
+    ensures ok { OnOk result (StepsTo state.old at (front_of state.old held.old.items ++ front.now) state.new) }
+    ensures marks { OnOk result (marks.new.items ≡ marks.old.items ++ mark_of (label_of (left_of state.old)) at (front_of state.old held.old.items ++ front.now)) }
+    ensures idle { size_of (left_of state.old) ≡ Some 0 → OnOk result (idle_of state.new < idle_of state.old) }
+    ensures none { OnErr result (state.new ≡ states.Magic) }
+    ensures err { IfErr result (λ e. Steps state.old at (front_of state.old held.old.items ++ front.now) (Err e)) }
+{
+    if let Err(error) = marked(state, held, marks, at, front) {
+        fail(state, held);
+        return Err(error.into());
+    }
+    let answer = step(
+        alloc,
+        mem::replace(state, State::Magic),
+        at,
+        held.as_slice(),
+    );
+    held.clear();
+    // What stands there owns nothing.
+    mem::forget(mem::replace(state, answer?));
+    Ok(())
+}
+
+/// Takes the last bytes of the next field, and so the field. After an error nothing is left of what
+/// was taken.
 pub fn take_field(
     alloc: Global,
-    reading: Reading,
+    reading: &mut Reading,
     size: u64,
     front: &[u8],
-) -> Result<Reading, HeaderError>
-    requires size { size_of (left_of reading.state) ≡ Some size }
-    requires last { length (held_of reading) + length front.now ≡ size }
-    requires within { reading.at + size ≤ reading.limit }
-    ensures takes { IfOk result (λ new. Takes reading new front.now) }
-    ensures idle { size ≡ 0 → IfOk result (λ new. idle_of new.state < idle_of reading.state) }
-    ensures fails { IfErr result (FailsBehind reading front.now) }
-    ensures memory { result ≡ Err HeaderError.Memory → 12 ≤ reading.at }
+) -> Result<(), HeaderError>
+    requires size { size_of (left_of reading.old.state) ≡ Some size }
+    requires last { length (held_of reading.old) + length front.now ≡ size }
+    requires within { reading.old.at + size ≤ reading.old.limit }
+    ensures takes { OnOk result (Takes reading.old reading.new front.now) }
+    ensures idle { size ≡ 0 → OnOk result (idle_of reading.new.state < idle_of reading.old.state) }
+    ensures fails { IfErr result (FailsBehind reading.old front.now) }
+    ensures memory { result ≡ Err HeaderError.Memory → 12 ≤ reading.old.at }
 {
-    let (limit, at) = (reading.limit, reading.at);
-    let (state, held) = gather(reading.state, reading.held, front)?;
-    match stepped(alloc, state, reading.marks, at, held.as_slice()) {
-        Ok((state, marks)) => Ok(Reading {
-            limit,
-            at: at + size,
-            state,
-            held: ArrayVec::new(),
-            marks,
-        }),
+    let at = reading.at;
+    let (state, held, marks) = (&mut reading.state, &mut reading.held, &mut reading.marks);
+    match stepped(alloc, state, held, marks, at, front) {
+        Ok(()) => {
+            reading.at = at + size;
+            Ok(())
+        }
         Err(error) => Err(told(at, error)),
     }
 }
 
-/// Takes bytes that don't make the next field whole.
-pub fn hold(reading: Reading, front: &[u8]) -> Result<Reading, HeaderError>
-    requires { length (held_of reading) + length front.now < next_size reading.state }
-    ensures takes { IfOk result (λ new. Takes reading new front.now) }
-    ensures left { IfOk result (λ new. left_of new.state ≡ left_of reading.state) }
-    ensures at { IfOk result (λ new. new.at ≡ reading.at) }
-    ensures held { IfOk result (λ new. held_of new ≡ held_of reading ++ front.now) }
-    ensures memory { IfErr result (λ e. (e ≡ HeaderError.Memory) × (12 ≤ reading.at)) }
+/// Takes bytes that don't make the next field whole. After an error nothing is left of what was
+/// taken.
+pub fn hold(reading: &mut Reading, front: &[u8]) -> Result<(), HeaderError>
+    requires { length (held_of reading.old) + length front.now < next_size reading.old.state }
+    ensures takes { OnOk result (Takes reading.old reading.new front.now) }
+    ensures left { OnOk result (left_of reading.new.state ≡ left_of reading.old.state) }
+    ensures at { OnOk result (reading.new.at ≡ reading.old.at) }
+    ensures held { OnOk result (held_of reading.new ≡ held_of reading.old ++ front.now) }
+    ensures memory { IfErr result (λ e. (e ≡ HeaderError.Memory) × (12 ≤ reading.old.at)) }
 {
-    let (limit, at) = (reading.limit, reading.at);
-    let (state, held) = gather(reading.state, reading.held, front)?;
-    Ok(Reading {
-        limit,
-        at,
-        state,
-        held,
-        marks: reading.marks,
-    })
+    match gather(&mut reading.state, &mut reading.held, front) {
+        Ok(()) => Ok(()),
+        Err(_) => {
+            fail(&mut reading.state, &mut reading.held);
+            Err(HeaderError::Memory)
+        }
+    }
 }

@@ -1,4 +1,4 @@
-use Rattle.std.proofs.Common.{ℕ, ◌++◌, take, Ok, refl, sym, ap, subst, subst₂, arith}
+use Rattle.std.proofs.Common.{ℕ, ◌++◌, take, Ok, refl, sym, ap, subst, subst₂, ◌∙◌, arith}
 use Rattle.ncc_values.specs.Numbers.{IsBytes}
 use Rattle.ncc_values.specs.BigEndian.{bytes-take, bytes-by_index}
 use Rattle.ncc_header.specs.declared.standing.Fed.{Fed}
@@ -10,36 +10,40 @@ use Rattle.ncc_header.proofs.decoder.advance.Goals as goal
 
 pub returns-in-Failed-clause-answers : goal.returns-in-Failed-clause-answers
 returns-in-Failed-clause-answers c = λ taken t.
-    let failed : FailedOn taken c.in-Failed.limit c.in-Failed.error = subst (λ (s : Standing). TookAt s taken) c.in-Failed.is t in
-    subst (λ (limit : ℕ). FailedOn (taken ++ c.args.piece.now) limit c.in-Failed.error) (sym (ap limit_at c.in-Failed.is)) (fails_again taken c.args.piece.now c.in-Failed.limit c.in-Failed.error failed)
+    let failed : FailedOn taken c.in-Failed.field-0 c.in-Failed.error = subst (λ (s : Standing). TookAt s taken) c.in-Failed.is t in
+    subst (λ (limit : ℕ). FailedOn (taken ++ c.args.piece.now) limit c.in-Failed.error) (sym (ap limit_at c.in-Failed.is)) (fails_again taken c.args.piece.now c.in-Failed.field-0 c.in-Failed.error failed)
 
 pub returns-in-Failed-clause-takes : goal.returns-in-Failed-clause-takes
-returns-in-Failed-clause-takes c = λ taken t. fails_again taken c.args.piece.now c.in-Failed.limit c.in-Failed.error (subst (λ (s : Standing). TookAt s taken) c.in-Failed.is t)
+returns-in-Failed-clause-takes c = λ taken t. fails_again taken c.args.piece.now c.in-Failed.field-0 c.in-Failed.error (subst (λ (s : Standing). TookAt s taken) c.in-Failed.is t)
 
 pub returns-in-Ok-clause-answers : goal.returns-in-Ok-clause-answers
 returns-in-Ok-clause-answers c = λ taken t.
     let old = c.in-Reading.reading in
-    let new = c.in-Ok.reading in
+    let new = c.take.new.reading in
     let took : HasTaken old taken = subst (λ (s : Standing). TookAt s taken) c.in-Reading.is t in
     let bytes : IsBytes c.args.piece.now = bytes-by_index c.args.piece.now (λ i. omega (arith, c.type_inv.piece i)) in
-    subst₂ (λ (limit : ℕ) (fed : Fed). Feeds taken c.args.piece.now limit (Ok fed)) (sym (ap limit_at c.in-Reading.is)) (sym c.fed-fed.ensures)
+    subst₂ (λ (limit : ℕ) (fed : Fed). Feeds taken c.args.piece.now limit (Ok fed)) (sym (ap limit_at c.in-Reading.is)) (sym c.fed.ensures)
     (feeds old new taken c.args.piece.now c.in-Ok.used (size_of (left_of new.state)) bytes took c.in-Ok.ensures.takes c.in-Ok.ensures.waits c.in-Ok.ensures.within c.in-Ok.ensures.all refl)
 
 pub returns-in-Ok-clause-takes : goal.returns-in-Ok-clause-takes
 returns-in-Ok-clause-takes c = λ taken t.
     let old = c.in-Reading.reading in
-    let new = c.in-Ok.reading in
+    let new = c.take.new.reading in
     let took : HasTaken old taken = subst (λ (s : Standing). TookAt s taken) c.in-Reading.is t in
     let bytes : IsBytes c.args.piece.now = bytes-by_index c.args.piece.now (λ i. omega (arith, c.type_inv.piece i)) in
-    rw c.fed-fed.ensures
+    rw c.fed.ensures
     (takes_fed new taken c.args.piece.now c.in-Ok.used (size_of (left_of new.state)) c.in-Ok.ensures.all refl
     (has_taken_more old new taken (take c.in-Ok.used c.args.piece.now) (bytes-take c.in-Ok.used c.args.piece.now bytes) took c.in-Ok.ensures.takes c.in-Ok.ensures.waits))
 
-pub returns-in-Err-clause-answers : goal.returns-in-Err-clause-answers
-returns-in-Err-clause-answers c = λ taken t.
+pub returns-clause-limit : goal.returns-clause-limit
+returns-clause-limit c = ap limit_at c.replace.ensures.after ∙ sym (ap limit_at c.in-Reading.is)
+
+pub returns-clause-answers : goal.returns-clause-answers
+returns-clause-answers c = λ taken t.
     let took : HasTaken c.in-Reading.reading taken = subst (λ (s : Standing). TookAt s taken) c.in-Reading.is t in
     subst (λ (limit : ℕ). FailedOn (taken ++ c.args.piece.now) limit c.in-Err.error) (sym (ap limit_at c.in-Reading.is)) (fails_after c.in-Reading.reading taken c.args.piece.now c.in-Err.error took c.in-Err.ensures.fails)
 
-pub returns-in-Err-clause-takes : goal.returns-in-Err-clause-takes
-returns-in-Err-clause-takes c = λ taken t.
-    fails_after c.in-Reading.reading taken c.args.piece.now c.in-Err.error (subst (λ (s : Standing). TookAt s taken) c.in-Reading.is t) c.in-Err.ensures.fails
+pub returns-clause-takes : goal.returns-clause-takes
+returns-clause-takes c = λ taken t.
+    subst (λ (s : Standing). TookAt s (taken ++ c.args.piece.now)) (sym c.replace.ensures.after)
+    (fails_after c.in-Reading.reading taken c.args.piece.now c.in-Err.error (subst (λ (s : Standing). TookAt s taken) c.in-Reading.is t) c.in-Err.ensures.fails)

@@ -6,5 +6,6 @@ use Rattle.ncc_header.proofs.turning.one_turn.Goals as goal
 
 pub returns-in-Some-clause-turns : goal.returns-in-Some-clause-turns
 returns-in-Some-clause-turns c =
-    subst (λ (t : Turn). Turns c.args.reading c.args.rest.now t) (sym c.too_long.ensures)
-    (too_long c.args.reading c.in-Some.size c.args.rest.now (sym c.size.ensures ∙ c.in-Some.is) (omega arith), λ h. cc)
+    let r = c.args.reading.now in
+    subst (λ (t : Turn). Turns r r c.args.rest.now t) (sym c.too_long.ensures)
+    (too_long r c.in-Some.size c.args.rest.now (sym c.size.ensures ∙ c.in-Some.is) (omega arith), λ h. cc)
