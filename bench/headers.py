@@ -1,5 +1,6 @@
 #!/usr/bin/env python3
-"""Writes files with large headers into the folder given, for bench/list.sh and bench/place.sh."""
+"""Writes files with large headers: `headers.py listed FOLDER` those of bench/list.sh, and `headers.py
+placed FOLDER` those of bench/place.sh."""
 
 import struct
 import sys
@@ -56,18 +57,25 @@ def descending(count):
     return header([], variables) + bytes(count)
 
 
-def main(folder):
+def listed_files():
     twenty = [attribute(b"attribute_%d" % i, b"some text of it") for i in range(20)]
-    files = {
-        "2000_variables_of_20_attributes.nc": scalars(2000, twenty),
-        "24000_variables.nc": scalars(24000, []),
-        "20000_variables_in_descending_order.nc": descending(20000),
-        "80000_variables_in_descending_order.nc": descending(80000),
-        "one_attribute_of_60_MiB.nc": header([attribute(b"text", b"a" * (60 << 20))], []),
+    return {
+        "2000_variables_of_20_attributes": scalars(2000, twenty),
+        "24000_variables": scalars(24000, []),
+        "one_attribute_of_60_MiB": header([attribute(b"text", b"a" * (60 << 20))], []),
     }
-    for file, data in files.items():
-        with open(f"{folder}/{file}", "wb") as out:
+
+
+def placed_files():
+    """Files that ncdump doesn't take, since it wants the variables in order."""
+    return {f"{count}_variables_in_descending_order": descending(count) for count in (20000, 80000)}
+
+
+def main(which, folder):
+    files = {"listed": listed_files, "placed": placed_files}[which]()
+    for name, data in files.items():
+        with open(f"{folder}/{name}.nc", "wb") as out:
             out.write(data)
 
 
-main(sys.argv[1])
+main(sys.argv[1], sys.argv[2])

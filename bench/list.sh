@@ -1,12 +1,12 @@
 #!/usr/bin/env bash
-# Times `ncc list` on large headers, and `ncdump -h` beside it where that is installed.
+# Times `ncc list` on three large headers, and `ncdump -h` beside it where that is installed.
 # The program is the first word, or the ncc of the path. The aim is a third of ncdump's time.
 set -euo pipefail
 ncc=${1:-ncc}
 here=$(cd "$(dirname "$0")" && pwd)
 folder=$(mktemp -d)
 trap 'rm -rf "$folder"' EXIT
-python3 "$here/headers.py" "$folder"
+python3 "$here/headers.py" listed "$folder"
 
 # The least time of five runs, in milliseconds.
 least() {

@@ -11,7 +11,7 @@ echo "ncc_place: ncc_header ncc_layout" >> "$folder/crates.txt"
 mkdir -p "$folder/crates/ncc_place/src"
 cd "$folder/crates/ncc_place"
 cp "$top/bench/place.rs" src/main.rt
-python3 "$top/bench/headers.py" .
-for file in *_in_descending_order.nc; do
+python3 "$top/bench/headers.py" placed .
+for file in *.nc; do
     rt try -- "$file" | grep judge
 done

@@ -3,7 +3,7 @@
 ghost use Rattle.std.specs.Prelude.{◌≡◌, ◌+◌, ◌≤◌, ◌<◌, ◌^◌, ◌++◌, ℕ, [], length, take, Some, Err, OnOk, OnErr, IfErr};
 ghost use Rattle.ncc_header.specs.Marks.{mark_of};
 ghost use Rattle.ncc_header.specs.declared.state.State.TheVariants as states;
-ghost use Rattle.ncc_header.specs.States.{left_of, begins_of, label_of, size_of, front_of, part_of, idle_of, first_at, StepsTo, Steps};
+ghost use Rattle.ncc_header.specs.States.{left_of, label_of, size_of, front_of, part_of, idle_of, first_at, StepsTo, Steps};
 ghost use Rattle.ncc_header.specs.Held.{next_size, held_length};
 ghost use Rattle.ncc_header.specs.Reading.{held_of, told_of, Takes, FailsBehind, Waits};
 
@@ -16,7 +16,7 @@ use crate::state::{State, StepError};
 use crate::step::step;
 use arrayvec::ArrayVec;
 use ncc_schema::Mark;
-use std::alloc::{AllocError, Global};
+use std::alloc::Global;
 use std::mem;
 
 /// How many bytes of the next field have come.
@@ -55,29 +55,6 @@ fn fail(state: &mut State, held: &mut ArrayVec<u8, 8>)
     held.clear();
 }
 
-/// Gathers the last bytes of the next field, and adds its mark.
-fn marked(
-    state: &mut State,
-    held: &mut ArrayVec<u8, 8>,
-    marks: &mut Vec<Mark>,
-    at: u64,
-    front: &[u8],
-) -> Result<(), AllocError>
-    requires room { held_length state.old held.old.items + length front.now ≤ next_size state.old }
-    requires part { length held.old.items < part_of state.old }
-    ensures state { OnOk result (left_of state.new ≡ left_of state.old) }
-    ensures begins { OnOk result (begins_of state.new ≡ begins_of state.old) }
-    ensures held { OnOk result (front_of state.new held.new.items ≡ front_of state.old held.old.items ++ front.now) }
-    ensures part { OnOk result (length held.new.items < part_of state.new) }
-    ensures idle { OnOk result (idle_of state.new ≡ idle_of state.old) }
-    ensures at { OnOk result (first_at state.new ≡ first_at state.old) }
-    ensures marks { OnOk result (marks.new.items ≡ marks.old.items ++ mark_of (label_of (left_of state.old)) at (front_of state.old held.old.items ++ front.now)) }
-    ensures memory { OnErr result (12 ≤ first_at state.old) }
-{
-    gather(state, held, front)?;
-    push_mark(marks, state, at, held.as_slice())
-}
-
 /// Takes the last bytes of the next field, its mark, and the step over it.
 fn stepped(
     alloc: Global,
@@ -97,7 +74,11 @@ fn stepped(
     ensures none { OnErr result (state.new ≡ states.Magic) }
     ensures err { IfErr result (λ e. Steps state.old at (front_of state.old held.old.items ++ front.now) (Err e)) }
 {
-    if let Err(error) = marked(state, held, marks, at, front) {
+    if let Err(error) = gather(state, held, front) {
+        fail(state, held);
+        return Err(error.into());
+    }
+    if let Err(error) = push_mark(marks, state, at, held.as_slice()) {
         fail(state, held);
         return Err(error.into());
     }
