@@ -19,7 +19,8 @@ use crate::step_vars::{
 use ncc_values::{Seq, Version, pad};
 use std::alloc::Global;
 
-/// Takes the next field, at the offset `at`: its bytes are `held`, behind those in the state.
+/// Takes the next field: its bytes are `held`, behind those in the state. It stands at the offset
+/// `at`, which only the step over a begin field keeps; of the others only the contracts speak of it.
 pub fn step(alloc: Global, state: State, at: u64, held: &[u8]) -> Result<State, StepError>
     requires whole { size_of (left_of state) ≡ Some (length (front_of state held.now)) }
     requires part { length held.now < part_of state }
