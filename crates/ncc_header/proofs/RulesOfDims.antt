@@ -65,7 +65,7 @@ dims_from v before (d ∷ dims) h le =
 abbrev pub AfterId : List Dim → List ℕ → ℕ → Type 0
 AfterId dims before n = (n < length dims) × ((is_record dims n && ltb 0 (length before)) ≡ false)
 
-exact_dimid : (v : Version) (dims : List Dim) → length dims < count_limit v → (before : List ℕ) → Exact (dimid v dims before) (AfterId dims before) (spelled.count v)
+exact_dimid : (v : Version) (dims : List Dim) → length dims < count_limit v → (before : List ℕ) → Exact (dimid v dims before) (AfterId dims before) (spelled.non_neg v)
 exact_dimid v dims few before = exact_fits (exact_number Plain (count_width_of v) (dimid_wrong dims before))
     (λ n f. let j = first-none _ _ f.1 in (below-none n (length dims) BadDimId j.0, not-true _ (unless-none _ RecordDimNotFirst j.1)))
     (λ n f. (omega (arith, f.0, few, count_limit-fits v), rw (lt-ltb n (length dims) f.0, f.1) refl))

@@ -19,7 +19,7 @@ use Rattle.ncc_schema.specs.declared.schema.Schema.{Schema}
 use Rattle.ncc_header.specs.Grammar.{Plain, CountOfTagged, Begin, Grammar, done, Spells, Field, fields, ◌>>=◌, ◌into◌, repeat}
 use Rattle.ncc_schema.specs.Schema.{Place}
 use Rattle.ncc_schema.specs.Header.{IsHeader, list_tag, exactly, zeros, canon_name, canon_head, canon_list, canon_dimids, canon_dim, canon_attr, canon_var, canon}
-use Rattle.ncc_header.specs.Fields.{magic, version, numrecs, count_wrong, tag_wrong, list_count_wrong, length_wrong, dimid_wrong, begin_wrong, at_tag_if, number, number_field, padding, name, label_of_count, list_count, list_head, list, dim, attr, attrs, dimid, dimids, var, header}
+use Rattle.ncc_header.specs.Fields.{magic, version, numrecs, nelems_wrong, tag_wrong, list_nelems_wrong, length_wrong, dimid_wrong, begin_wrong, at_tag_if, number, number_field, padding, name, label_of_count, list_nelems, list_head, list, dim, attr, attrs, dimid, dimids, var, header}
 use Rattle.ncc_header.specs.Marks.{marks, mark_of, all_zero, header_marks}
 use Rattle.ncc_header.proofs.GrammarLaws.{joined}
 use Rattle.ncc_header.proofs.FieldsLaws.{fields-join}
@@ -131,7 +131,7 @@ unmarked_padding n = record { canonical = canonical }
 
 -- the number behind a tag, labelled so
 abbrev labelled : Version → (t : ℕ) → Bool → Grammar ℕ
-labelled v t z = number_field (if z then Plain else CountOfTagged) (count_width_of v) (list_count_wrong v t)
+labelled v t z = number_field (if z then Plain else CountOfTagged) (count_width_of v) (list_nelems_wrong v t)
 
 -- a tag that isn't zero is marked where its list is empty
 tagged_empty : (v : Version) (t at : ℕ) → marks (fields (labelled v t false) at (big_endian (count_width_of v) 0)) ≡ [] → ⊥
@@ -151,12 +151,12 @@ unmarked_head v own = record { canonical = canonical }
   where
     canonical : (n : ℕ) (b : List ℕ) (at : ℕ) → Spells (list_head v own) n b → marks (fields (list_head v own) at b) ≡ [] → b ≡ canon_head v own n
     canonical n b at sp none =
-        let j = parts_of (number 4 (tag_wrong own)) (list_count v) n b at sp none in
+        let j = parts_of (number 4 (tag_wrong own)) (list_nelems v) n b at sp none in
         let one = (exact_number Plain 4 (tag_wrong own)).takes j.0 j.1 j.4 in
-        let two = (exact_number (label_of_count j.0) (count_width_of v) (list_count_wrong v j.0)).takes n j.2 j.5 in
-        let both = first-none (count_wrong v n) (at_tag_if ((j.0 == 0) && not (n == 0)) BadTag) two.0.1 in
+        let two = (exact_number (label_of_count j.0) (count_width_of v) (list_nelems_wrong v j.0)).takes n j.2 j.5 in
+        let both = first-none (nelems_wrong v n) (at_tag_if ((j.0 == 0) && not (n == 0)) BadTag) two.0.1 in
         let tags = tag_takes own j.0 n (j.0 == 0) (j.0 == own) refl refl one.0.1 both.1 in
-        j.3 ∙ ap₂ (λ (s t : List ℕ). s ++ t) one.1 two.1 ∙ head_is v own j.0 n (at + length j.1) (j.0 == 0) refl tags (subst (λ (y : List ℕ). marks (fields (list_count v j.0) (at + length j.1) y) ≡ []) two.1 j.7)
+        j.3 ∙ ap₂ (λ (s t : List ℕ). s ++ t) one.1 two.1 ∙ head_is v own j.0 n (at + length j.1) (j.0 == 0) refl tags (subst (λ (y : List ℕ). marks (fields (list_nelems v j.0) (at + length j.1) y) ≡ []) two.1 j.7)
 
 -- ---- the rules
 
