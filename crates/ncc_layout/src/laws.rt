@@ -37,3 +37,6 @@ pub fn room_for_one_more()
 pub fn one_more_is_placed()
     ensures { (s : Schema) (places : List Place) (header file more n : ℕ) (p q : Placed) → s.count ≡ Known n → Holds s places header file p → HasOneMore p more q → Holds (with_count s (n + 1)) places header more q }
 {}
+
+#[cfg(test)]
+mod tests;

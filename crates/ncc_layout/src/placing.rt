@@ -7,15 +7,15 @@ ghost use Rattle.ncc_layout.specs.Extents.{extents_of};
 ghost use Rattle.ncc_layout.specs.Elements.{shape, placed_on, AreLaid};
 ghost use Rattle.ncc_layout.specs.Placed.{fault_at, IsFrame, HasLaid, PlacedAs};
 
-use crate::bounds::record_count;
 use crate::extent::Extent;
 use crate::fault::{LayoutFault, LayoutFaultKind, PlaceError};
 use crate::judging::{Frame, first_fault};
 use crate::placed_file::Placed;
 use crate::placed_var::PlacedVar;
+use crate::records::record_count;
 use crate::size_list::Sizes;
 use crate::sizing::{inner_dims, is_record_var};
-use ncc_header::{Dim, Header, Schema, Var, VarPlace};
+use ncc_schema::{Dim, Header, Schema, Var, VarPlace};
 use ncc_values::Seq;
 use std::alloc::{AllocError, Global};
 

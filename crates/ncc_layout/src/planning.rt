@@ -7,10 +7,12 @@ ghost use Rattle.ncc_layout.specs.Sizes.{is_record_var, rounded};
 ghost use Rattle.ncc_layout.specs.Standard.{FitsVersion};
 ghost use Rattle.ncc_layout.specs.Plans.{IsKnown, known, AreEnds, IsStandard, IsPlan, PlanFails};
 
-use crate::fitting::{fits_version, offsets_fit, records_begin};
+mod fitting;
+
 use crate::plan_fault::PlanFault;
 use crate::sizing::{is_record_var, sizes};
-use ncc_header::{Count, Dim, Schema, Var, VarPlace, header_length, var_size, vars_start};
+use fitting::{fits_version, offsets_fit, records_begin};
+use ncc_schema::{Count, Dim, Schema, Var, VarPlace, header_length, var_size, vars_start};
 use std::alloc::{AllocError, Global};
 
 /// Where the variables so far end.
@@ -120,6 +122,3 @@ pub fn standard(alloc: Global, schema: &Schema) -> Result<Vec<VarPlace>, PlanFau
     }
     Ok(places)
 }
-
-#[cfg(test)]
-mod tests;

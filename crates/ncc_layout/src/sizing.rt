@@ -8,7 +8,7 @@ ghost use Rattle.ncc_schema.specs.declared.schema.Var.{Var};
 
 use crate::fault::SizeError;
 use crate::size_list::Sizes;
-use ncc_header::{Dim, Schema, Var};
+use ncc_schema::{Dim, Schema, Var};
 use ncc_values::{Seq, pad};
 use std::alloc::Global;
 

@@ -1,7 +1,7 @@
 //! What is said of files by their headers and their lengths.
 
 use super::fixtures::*;
-use crate::LayoutFaultKind::*;
+use ncc_layout::LayoutFaultKind::*;
 use std::test::*;
 
 #[test]
@@ -69,12 +69,6 @@ fn sizes_that_are_too_large(rt: HostRuntime) {
 }
 
 #[test]
-fn many_variables(rt: HostRuntime) {
-    assert!(rt; said_of_scalars(rt.alloc(), 2_000, None) == Said::Records(0));
-    assert!(rt; said_of_scalars(rt.alloc(), 2_000, Some(1_000)) == fault(Overlap, 1_000));
-}
-
-#[test]
 fn places_of_elements(rt: HostRuntime) {
     assert!(rt; place_in(rt.alloc(), &TWO_RECORD_VARIABLES, 132, 1, &[1]) == Some(128));
     assert!(rt; place_in(rt.alloc(), &RECORDS, 86, 0, &[2]) == Some(84));
@@ -83,34 +77,4 @@ fn places_of_elements(rt: HostRuntime) {
     assert!(rt; place_in(rt.alloc(), &TABLE, 108, 0, &[1, 2]) == Some(106));
     assert!(rt; place_in(rt.alloc(), &TABLE, 108, 0, &[2, 0]) == None);
     assert!(rt; place_in(rt.alloc(), &TABLE, 108, 0, &[1]) == None);
-}
-
-#[test]
-fn sizes_of_variables(rt: HostRuntime) {
-    assert!(rt; sizes_of(rt.alloc(), &FIXED) == Some((6, 8, 0)));
-    assert!(rt; sizes_of(rt.alloc(), &RECORDS) == Some((2, 4, 2)));
-    assert!(rt; sizes_of(rt.alloc(), &TWO_RECORD_VARIABLES) == Some((1, 4, 8)));
-    assert!(rt; sizes_of(rt.alloc(), &TABLE) == Some((12, 12, 0)));
-    let mut scalar = TWO_SCALARS;
-    scalar[7] = 1;
-    assert!(rt; sizes_of(rt.alloc(), &scalar) == Some((1, 4, 0)));
-}
-
-#[test]
-fn sizes_past_four_bytes(rt: HostRuntime) {
-    assert!(rt;
-        sizes_of(rt.alloc(), &doubles(536_870_911)) == Some((4_294_967_288, 4_294_967_288, 0))
-    );
-    assert!(rt;
-        sizes_of(rt.alloc(), &doubles(536_870_912)) == Some((4_294_967_296, 4_294_967_296, 0))
-    );
-}
-
-#[test]
-fn laws_are_there() {
-    crate::laws::placed_elements_are_apart();
-    crate::laws::placed_or_fault();
-    crate::laws::one_fault();
-    crate::laws::room_for_one_more();
-    crate::laws::one_more_is_placed();
 }

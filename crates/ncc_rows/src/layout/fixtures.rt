@@ -1,13 +1,10 @@
 //! Headers in words of four bytes, and what becomes of them.
 
-use crate::{
-    LayoutFault, LayoutFaultKind, PlaceError, Placed, PlanFault, SizeError, Sizes, place, placed,
-    sizes, standard,
+use ncc_header::{HeaderError, decode};
+use ncc_layout::{
+    LayoutFault, LayoutFaultKind, PlaceError, Placed, SizeError, place, placed, sizes,
 };
-use ncc_header::{
-    Count, Header, HeaderError, Schema, Var, VarPlace, Version, XType, decode, legal, sound,
-};
-use ncc_values::Seq;
+use ncc_schema::{Header, VarPlace, legal};
 use std::alloc::{AllocError, Global};
 
 /// The usual limit.
@@ -124,14 +121,6 @@ pub fn said_of_file(alloc: Global, words: &[u32], length: u64) -> Said {
     }
 }
 
-/// The variable double d(x) in CDF-2, with x of this length.
-pub fn doubles(length: u32) -> [u32; 21] {
-    [
-        0x43444602, 0, 0x0a, 1, 1, 0x78000000, length, 0, 0, 0x0b, 1, 1, 0x64000000, 1, 0, 0, 0, 6,
-        0, 0, 84,
-    ]
-}
-
 /// The place of an element of a file of this length that begins with these words.
 pub fn place_in(
     alloc: Global,
@@ -154,90 +143,5 @@ fn placed_of(alloc: Global, header: &Header, length: u64) -> Option<Placed> {
     match sizes(alloc, &header.schema) {
         Ok(sizes) => placed(alloc, header, &sizes, length).ok(),
         Err(_) => None,
-    }
-}
-
-/// Of the first variable the slab and its padded size, and the size of a record.
-pub fn sizes_of(alloc: Global, words: &[u32]) -> Option<(u64, u64, u64)> {
-    match header_of(alloc, words) {
-        Ok(header) if sound(&header.schema) => first_sizes(&sizes(alloc, &header.schema).ok()?),
-        _ => None,
-    }
-}
-
-fn first_sizes(sizes: &Sizes) -> Option<(u64, u64, u64)> {
-    let slab = *sizes.slabs.as_slice().first()?;
-    let rounded = *sizes.rounded.as_slice().first()?;
-    Some((slab, rounded, sizes.record_size))
-}
-
-/// Scalar bytes, each before the one before it in the header, but the twin at the place of that.
-fn scalars(alloc: Global, count: u16, twin: Option<u16>) -> Result<Header, AllocError> {
-    let mut vars = Vec::new(alloc);
-    let mut places = Vec::new(alloc);
-    for number in 0..count {
-        let before = (count - number) as u64;
-        let begin = if twin == Some(number) { 101 } else { 100 };
-        vars.push(scalar(alloc))?;
-        places.push(VarPlace {
-            vsize: 4,
-            begin: begin + before,
-            begin_at: number as u64,
-        })?;
-    }
-    Ok(header_with(alloc, Seq::from_vec(vars), Seq::from_vec(places)))
-}
-
-fn scalar(alloc: Global) -> Var {
-    Var {
-        name: Seq::new(alloc),
-        dims: Seq::new(alloc),
-        attrs: Seq::new(alloc),
-        xtype: XType::Byte,
-    }
-}
-
-fn header_with(alloc: Global, vars: Seq<Var>, places: Seq<VarPlace>) -> Header {
-    Header {
-        schema: Schema {
-            version: Version::V1,
-            count: Count::Known(0),
-            dims: Seq::new(alloc),
-            gatts: Seq::new(alloc),
-            vars,
-        },
-        places,
-        length: 100,
-        marks: Seq::new(alloc),
-    }
-}
-
-/// What is said of so many scalar bytes in descending order.
-pub fn said_of_scalars(alloc: Global, count: u16, twin: Option<u16>) -> Said {
-    match scalars(alloc, count, twin) {
-        Ok(header) => judged(alloc, &header, count as u64 + 102),
-        Err(_) => Said::Memory,
-    }
-}
-
-/// Where the first variable begins in the standard placement of a file with this header.
-pub fn standard_begin(alloc: Global, words: &[u32]) -> Result<u64, PlanFault> {
-    match header_of(alloc, words) {
-        Ok(header) => first_standard_begin(alloc, &header.schema),
-        Err(_) => Err(PlanFault::Memory),
-    }
-}
-
-fn first_standard_begin(alloc: Global, schema: &Schema) -> Result<u64, PlanFault> {
-    match schema.count {
-        Count::Known(_) if sound(schema) => begin_of(&standard(alloc, schema)?),
-        _ => Err(PlanFault::SizeForVersion),
-    }
-}
-
-fn begin_of(places: &[VarPlace]) -> Result<u64, PlanFault> {
-    match places.first() {
-        Some(place) => Ok(place.begin),
-        None => Err(PlanFault::SizeForVersion),
     }
 }

@@ -9,7 +9,7 @@ ghost use Rattle.ncc_layout.specs.Standard.{size_limit, fixed_sum, FitsVersion};
 
 use crate::size_list::Sizes;
 use crate::sizing::{ROOM, is_record_var};
-use ncc_header::{Schema, VarPlace, limit_of_offsets};
+use ncc_schema::{Schema, VarPlace, limit_of_offsets};
 use ncc_values::Version;
 
 /// The greatest size that the word of a variable tells.

@@ -1,12 +1,14 @@
-//! Where the records begin, where their first slabs end, and how many records there are.
+//! Where the records begin, where their first slabs end, and how many records there are and may be.
 
 ghost use Rattle.std.specs.Prelude.{◌≡◌, ◌<◌};
 ghost use Rattle.std.specs.List.{AllByRecursion};
 ghost use Rattle.ncc_layout.specs.Extents.{records_of, counted};
+ghost use Rattle.ncc_layout.specs.Standard.{next_count};
 ghost use Rattle.ncc_layout.specs.Bounds.{HasBytes, first_begin, last_end, begin_sooner, end_later, records_by};
 
 use crate::extent::Extent;
-use ncc_header::Count;
+use ncc_schema::{Count, streaming_mark};
+use ncc_values::Version;
 
 fn sooner(first: Option<u64>, begin: u64) -> u64
     ensures { result ≡ begin_sooner first begin }
@@ -79,3 +81,16 @@ pub fn record_count(extents: &[Extent], count: Count, record_size: u64, length: 
         None => 0,
     }
 }
+
+/// One record more, where that isn't the mark of a file that is still written.
+pub fn next_count(version: Version, n: u64) -> Option<u64>
+    ensures { result ≡ next_count version n }
+{
+    if n >= streaming_mark(version) - 1 {
+        return None;
+    }
+    Some(n + 1)
+}
+
+#[cfg(test)]
+mod tests;

@@ -1,7 +1,7 @@
 //! Counts next to the mark.
 
 use super::next_count;
-use ncc_header::Version;
+use ncc_values::Version;
 use std::test::*;
 
 #[test]

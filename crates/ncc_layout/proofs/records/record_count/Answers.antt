@@ -4,7 +4,7 @@ use Rattle.ncc_layout.specs.Extents.{records_of, counted}
 use Rattle.ncc_layout.specs.Bounds.{HasBytes}
 use Rattle.ncc_layout.proofs.Membership.{all_filter}
 use Rattle.ncc_layout.proofs.Counting.{streamed_is, last_positive, stride_positive}
-use Rattle.ncc_layout.proofs.bounds.record_count.Goals as goal
+use Rattle.ncc_layout.proofs.records.record_count.Goals as goal
 
 pub whole_records-requires : goal.whole_records-requires
 whole_records-requires c =

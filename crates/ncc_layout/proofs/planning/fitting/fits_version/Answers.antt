@@ -5,7 +5,7 @@ use Rattle.ncc_schema.specs.Names.{capped}
 use Rattle.ncc_layout.specs.Standard.{size_limit, FitsVersion}
 use Rattle.ncc_layout.specs.Plans.{fixed_end}
 use Rattle.ncc_layout.proofs.VersionFits.{words_of, fits_from, file_of}
-use Rattle.ncc_layout.proofs.fitting.fits_version.Goals as goal
+use Rattle.ncc_layout.proofs.planning.fitting.fits_version.Goals as goal
 
 pub returns-then-not-words_fit : goal.returns-then-not-words_fit
 returns-then-not-words_fit c =

@@ -1,0 +1,55 @@
+//! Sizes of variables and of a record.
+
+use super::schemas::*;
+use crate::{Sizes, sizes};
+use ncc_schema::{Schema, sound};
+use ncc_values::{Version, XType};
+use std::alloc::Global;
+use std::test::*;
+
+fn first_sizes(sizes: &Sizes) -> Option<(u64, u64, u64)> {
+    let slab = *sizes.slabs.as_slice().first()?;
+    let rounded = *sizes.rounded.as_slice().first()?;
+    Some((slab, rounded, sizes.record_size))
+}
+
+/// Of the first variable the slab and its padded size, and the size of a record.
+fn sizes_of(alloc: Global, schema: &Schema) -> Option<(u64, u64, u64)> {
+    if !sound(schema) {
+        return None;
+    }
+    first_sizes(&sizes(alloc, schema).ok()?)
+}
+
+/// The sizes of one variable over all dimensions.
+fn sizes_of_one(
+    alloc: Global,
+    version: Version,
+    lengths: &[u64],
+    xtype: XType,
+) -> Option<(u64, u64, u64)> {
+    sizes_of(alloc, &one(alloc, version, lengths, xtype).ok()?)
+}
+
+#[test]
+fn sizes_of_variables(rt: HostRuntime) -> Result<(), Fail> {
+    let alloc = rt.alloc();
+    let v = Version::V1;
+    assert!(rt; sizes_of_one(alloc, v, &[], XType::Byte) == Some((1, 4, 0)));
+    assert!(rt; sizes_of_one(alloc, v, &[3], XType::Short) == Some((6, 8, 0)));
+    assert!(rt; sizes_of_one(alloc, v, &[0], XType::Short) == Some((2, 4, 2)));
+    assert!(rt; sizes_of_one(alloc, v, &[0, 5], XType::Char) == Some((5, 8, 5)));
+    assert!(rt; sizes_of_one(alloc, v, &[2, 3], XType::Int) == Some((24, 24, 0)));
+    assert!(rt; sizes_of(alloc, &records(alloc, v, 3)?) == Some((3, 4, 8)));
+    Ok(())
+}
+
+#[test]
+fn sizes_past_four_bytes(rt: HostRuntime) {
+    let alloc = rt.alloc();
+    let v = Version::V2;
+    let below = Some((4_294_967_288, 4_294_967_288, 0));
+    assert!(rt; sizes_of_one(alloc, v, &[536_870_911], XType::Double) == below);
+    let above = Some((4_294_967_296, 4_294_967_296, 0));
+    assert!(rt; sizes_of_one(alloc, v, &[536_870_912], XType::Double) == above);
+}
