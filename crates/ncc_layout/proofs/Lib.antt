@@ -1,6 +1,7 @@
 mod Membership
 mod RowMajor
 mod Own
+mod PlacedFiles
 mod Searching
 mod Counting
 mod Products
@@ -8,6 +9,7 @@ mod Summing
 mod Sharing
 mod Indexing
 mod TestsOfRules
+mod LeastBegins
 mod FirstFaults
 mod Laying
 mod OneFault

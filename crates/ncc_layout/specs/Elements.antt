@@ -1,5 +1,5 @@
 -- Where each element lies, and what belongs to each (NetCDF Classic Format Specification, "Computing File Offsets").
-use Rattle.std.specs.Prelude.{◌≡◌, ℕ, suc, ◌+◌, ◌*◌, ◌<◌, ◌≤◌, List, [], ◌∷◌, map, length, get_or, Option, Some, None, Contains, Bool, true, false, if◌then◌else◌}
+use Rattle.std.specs.Prelude.{◌≡◌, ℕ, suc, ◌+◌, ◌*◌, ◌<◌, ◌≤◌, List, [], ◌∷◌, map, length, get_or, sum_by, Option, Some, None, Contains, Bool, true, false, if◌then◌else◌}
 use Rattle.std.specs.List.{AllByRecursion}
 use Rattle.ncc_values.specs.XType.{size_of}
 use Rattle.ncc_values.specs.declared.xtype.XType.TheVariants.{Byte}
@@ -9,8 +9,8 @@ use Rattle.ncc_schema.specs.declared.schema.Schema.{Schema}
 use Rattle.ncc_schema.specs.Schema.{Place}
 use Rattle.ncc_layout.specs.declared.extent.Extent.{Extent}
 use Rattle.ncc_layout.specs.declared.placed_var.PlacedVar.{PlacedVar}
-use Rattle.ncc_layout.specs.Sizes.{product, is_record_var, inner}
-use Rattle.ncc_layout.specs.Extents.{extent_of, record_count, NumberedFrom}
+use Rattle.ncc_layout.specs.Sizes.{up, product, is_record_var, inner, record_bytes, room}
+use Rattle.ncc_layout.specs.Extents.{extent_of, end, slabs_of_records, record_count, NumberedFrom}
 use Rattle.ncc_layout.specs.Rules.{Rules}
 
 -- ---- variables at their places
@@ -75,6 +75,15 @@ offset_in record_size size false ls is = row_major ls is * size
 abbrev pub place_of : (record_size : ℕ) → PlacedVar → (index : List ℕ) → ℕ
 place_of record_size x index = x.extent.begin + offset_in record_size (size_of x.xtype) x.extent.is_record x.shape index
 
+-- the record of an element, and its number in the slab
+abbrev pub record_in : Bool → (index : List ℕ) → ℕ
+record_in true [] = 0
+record_in true (i ∷ is) = i
+record_in false is = 0
+
+abbrev pub record_of : PlacedVar → (index : List ℕ) → ℕ
+record_of x index = record_in x.extent.is_record index
+
 -- as many indices as lengths, each below its own
 abbrev pub Inside : (lengths index : List ℕ) → Type 0
 Inside [] [] = Unit {0}
@@ -99,6 +108,15 @@ abbrev pub IsPlace : (record_size : ℕ) → List PlacedVar → (number : ℕ) �
 IsPlace record_size vars n index None = (n < length vars) × Inside (var_at vars n).shape index → ⊥
 IsPlace record_size vars n index (Some place) = (n < length vars) × Inside (var_at vars n).shape index × (place ≡ place_of record_size (var_at vars n) index)
 
+-- the element's bytes lie past the header and in the file
+abbrev pub LiesInFile : (header length : ℕ) → PlacedVar → (place : ℕ) → Type 0
+LiesInFile header length x place = (header ≤ place) × (place + size_of x.xtype ≤ length)
+
+-- the element's bytes lie in the slab of its variable in its record
+pub record LiesInSlab (record_size : ℕ) (x : PlacedVar) (index : List ℕ) : Type 0 where
+  pub begins : x.extent.begin + record_of x index * record_size ≤ place_of record_size x index
+  pub ends : place_of record_size x index + size_of x.xtype ≤ end x.extent + record_of x index * record_size
+
 -- ---- what holds of variables that are placed
 
 -- the lengths are those of a slab, behind the number of records
@@ -115,6 +133,12 @@ pub record AreLaid (header length record_size records : ℕ) (vars : List Placed
   pub shaped : AllByRecursion (HasShape records) vars
   pub numbered : NumberedFrom 0 (map (λ x. x.extent) vars)
   pub rules : Rules header length record_size records (map (λ x. x.extent) vars)
+
+-- no size is too large, and the size of a record is that of its variables
+pub record AreSized (record_size : ℕ) (vars : List PlacedVar) : Type 0 where
+  pub each : AllByRecursion (λ x. up x.extent.slab ≤ room) vars
+  pub together : sum_by up (slabs_of_records (map (λ x. x.extent) vars)) ≤ room
+  pub record_size_is : record_size ≡ record_bytes (slabs_of_records (map (λ x. x.extent) vars))
 
 -- every element has bytes of its own, past the header and inside the file
 pub record Own (header length record_size : ℕ) (vars : List PlacedVar) : Type 0 where

@@ -56,14 +56,17 @@ record_vars dims vars = filter (is_record_var dims) vars
 abbrev pub record_sum : List Dim → List Var → ℕ
 record_sum dims vars = sum_by (rounded dims) (record_vars dims vars)
 
--- the slabs of one record, each with its padding; a lone one has none
-abbrev pub record_bytes : List Dim → List Var → ℕ
-record_bytes dims [] = 0
-record_bytes dims (x ∷ []) = slab dims x
-record_bytes dims (x ∷ y ∷ vars) = sum_by (rounded dims) (x ∷ y ∷ vars)
+-- the bytes of a record with these slabs, each with its padding; a lone one has none
+abbrev pub record_bytes : (slabs : List ℕ) → ℕ
+record_bytes [] = 0
+record_bytes (n ∷ []) = n
+record_bytes (m ∷ n ∷ slabs) = sum_by up (m ∷ n ∷ slabs)
+
+abbrev pub record_slabs : List Dim → List Var → List ℕ
+record_slabs dims vars = map (slab dims) (record_vars dims vars)
 
 abbrev pub record_size_of : Schema → ℕ
-record_size_of s = record_bytes s.dims (record_vars s.dims s.vars)
+record_size_of s = record_bytes (record_slabs s.dims s.vars)
 
 -- ---- what fits
 
@@ -104,7 +107,7 @@ is_nil (x ∷ vars) = false
 pub record Sums (dims : List Dim) (vars : List Var) (t : Totals) : Type 0 where
   pub any : t.any ≡ not (is_nil (record_vars dims vars))
   pub sum_is : t.sum ≡ record_sum dims vars
-  pub size_is : t.size ≡ record_bytes dims (record_vars dims vars)
+  pub size_is : t.size ≡ record_bytes (record_slabs dims vars)
 
 -- what becomes of sums over the variables before, with this one
 abbrev pub Adds : List Dim → List Var → Var → Option (ℕ × Totals) → Type 0

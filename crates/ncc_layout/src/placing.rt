@@ -4,8 +4,8 @@ ghost use Rattle.std.specs.Prelude.{◌≡◌, ◌<◌, IfOk, length};
 ghost use Rattle.ncc_schema.specs.Schema.{places_of, LegalDims, Sound, Legal};
 ghost use Rattle.ncc_layout.specs.Sizes.{AreSizes};
 ghost use Rattle.ncc_layout.specs.Extents.{extents_of};
-ghost use Rattle.ncc_layout.specs.Elements.{shape, placed_on, AreLaid};
-ghost use Rattle.ncc_layout.specs.Placed.{fault_at, IsFrame, HasLaid, PlacedAs};
+ghost use Rattle.ncc_layout.specs.Elements.{shape, placed_on, AreSized};
+ghost use Rattle.ncc_layout.specs.Placed.{fault_at, IsFrame, IsLaid, HasLaid, PlacedAs};
 
 use crate::extent::Extent;
 use crate::fault::{LayoutFault, LayoutFaultKind, PlaceError};
@@ -117,7 +117,8 @@ fn lay(
 ) -> Result<Placed, AllocError>
     requires sound { Sound schema.now }
     requires long { length extents.now ≡ length schema.now.vars }
-    requires laid { AreLaid frame.header_length frame.file_length frame.record_size frame.records (placed_on schema.now.dims frame.records schema.now.vars extents.now) }
+    requires laid { IsLaid frame (placed_on schema.now.dims frame.records schema.now.vars extents.now) }
+    requires sized { AreSized frame.record_size (placed_on schema.now.dims frame.records schema.now.vars extents.now) }
     ensures { IfOk result (HasLaid frame (placed_on schema.now.dims frame.records schema.now.vars extents.now)) }
 {
     let vars = vars_of(alloc, schema, extents, frame.records)?;

@@ -1,12 +1,13 @@
 //! Where the records begin, where their first slabs end, and how many records there are and may be.
 
-ghost use Rattle.std.specs.Prelude.{◌≡◌, ◌<◌};
+ghost use Rattle.std.specs.Prelude.{◌≡◌, ◌<◌, map};
 ghost use Rattle.std.specs.List.{AllByRecursion};
 ghost use Rattle.ncc_layout.specs.Extents.{records_of, counted};
 ghost use Rattle.ncc_layout.specs.Standard.{next_count};
 ghost use Rattle.ncc_layout.specs.Bounds.{HasBytes, first_begin, last_end, begin_sooner, end_later, records_by};
 
 use crate::extent::Extent;
+use crate::placed_var::PlacedVar;
 use ncc_schema::{Count, streaming_mark};
 use ncc_values::Version;
 
@@ -27,6 +28,19 @@ pub fn first_begin(extents: &[Extent]) -> Option<u64>
     for extent in extents {
         if extent.is_record {
             first = Some(sooner(first, extent.begin));
+        }
+    }
+    first
+}
+
+/// The least begin of a record variable.
+pub fn first_begin_of(vars: &[PlacedVar]) -> Option<u64>
+    ensures { result ≡ first_begin (records_of (map (λ x. x.extent) vars.now)) }
+{
+    let mut first = None;
+    for var in vars {
+        if var.extent.is_record {
+            first = Some(sooner(first, var.extent.begin));
         }
     }
     first
