@@ -126,7 +126,7 @@ laid header length record_size records s places rules =
 
 -- ---- sizes of placed variables
 
-slab_kept : (dims : List Dim) (b : Bool) (e : Extent) (x : Var) (es : List Extent) (vars : List Var) → e.slab ≡ slab dims x → map (λ d. d.slab) es ≡ map (slab dims) vars
+pub slab_kept : (dims : List Dim) (b : Bool) (e : Extent) (x : Var) (es : List Extent) (vars : List Var) → e.slab ≡ slab dims x → map (λ d. d.slab) es ≡ map (slab dims) vars
     → map (λ d. d.slab) (cond b (e ∷ es) es) ≡ map (slab dims) (cond b (x ∷ vars) vars)
 slab_kept dims true e x es vars same rest = ap₂ (λ (m : ℕ) (l : List ℕ). m ∷ l) same rest
 slab_kept dims false e x es vars same rest = rest

@@ -13,6 +13,9 @@ mod LeastBegins
 mod FirstFaults
 mod Laying
 mod OneFault
+mod Neighbours
+mod RecordWindows
+mod StandardRules
 mod Lengthening
 mod OneMore
 mod StandardPlaces

@@ -37,6 +37,11 @@ LastWithin length record_size (suc n) e = end e + n * record_size ≤ length
 abbrev pub Within : (length record_size records : ℕ) → Extent → Type 0
 Within length record_size records e = ByKind e.is_record (LastWithin length record_size records e) (end e ≤ length)
 
+-- the slab of this record lies in its record, where the records begin
+pub record InRecord (record_size begin number : ℕ) (e : Extent) : Type 0 where
+  pub begins : begin + number * record_size ≤ e.begin + number * record_size
+  pub ends : end e + number * record_size ≤ begin + (number + 1) * record_size
+
 -- ---- two extents
 
 -- no byte lies in both

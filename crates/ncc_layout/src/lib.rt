@@ -18,6 +18,7 @@ mod size_list;
 mod sizing;
 #[cfg(test)]
 mod tests;
+mod vsize;
 
 pub use element::place;
 pub use extent::Extent;
@@ -30,3 +31,4 @@ pub use planning::standard;
 pub use records::next_count;
 pub use size_list::Sizes;
 pub use sizing::sizes;
+pub use vsize::vsize_word;

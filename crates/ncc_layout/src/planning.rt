@@ -11,6 +11,7 @@ mod fitting;
 
 use crate::plan_fault::PlanFault;
 use crate::sizing::{is_record_var, sizes};
+use crate::vsize::vsize_word;
 use fitting::{fits_version, offsets_fit, records_begin};
 use ncc_schema::{Count, Dim, Schema, Var, VarPlace, header_length, var_size, vars_start};
 use std::alloc::{AllocError, Global};
@@ -77,7 +78,7 @@ fn placed(
         let begin = begin_of(ends, dims, var);
         ends = with_var(ends, schema, var, sizes[number]);
         places.push(VarPlace {
-            vsize: sizes[number],
+            vsize: vsize_word(schema.version, sizes[number]),
             begin,
             begin_at: ends.header - width,
         })?;

@@ -9,6 +9,7 @@ ghost use Rattle.ncc_layout.specs.Standard.{size_limit, fixed_sum, FitsVersion};
 
 use crate::size_list::Sizes;
 use crate::sizing::{ROOM, is_record_var};
+use crate::vsize::MOST_VSIZE;
 use ncc_schema::{Schema, VarPlace, limit_of_offsets};
 use ncc_values::Version;
 
@@ -17,7 +18,7 @@ fn size_limit(version: Version) -> u64
     ensures { result ≡ size_limit version }
 {
     match version {
-        Version::V1 | Version::V2 => (1 << 32) - 4,
+        Version::V1 | Version::V2 => MOST_VSIZE,
         Version::V5 => ROOM,
     }
 }
