@@ -68,3 +68,24 @@ fn record_variables(rt: HostRuntime) -> Result<(), Fail> {
     assert!(rt; last_place(alloc, &many) == Err(PlanFault::OffsetForVersion));
     Ok(())
 }
+
+#[test]
+fn size_before_offset(rt: HostRuntime) -> Result<(), Fail> {
+    let alloc = rt.alloc();
+    let both = two(alloc, Version::V1, 2147483647, XType::Short)?;
+    assert!(rt; last_place(alloc, &both) == Err(PlanFault::SizeForVersion));
+    let offset = two(alloc, Version::V1, 2147483646, XType::Short)?;
+    assert!(rt; last_place(alloc, &offset) == Err(PlanFault::OffsetForVersion));
+    Ok(())
+}
+
+#[test]
+fn longest_files(rt: HostRuntime) -> Result<(), Fail> {
+    let alloc = rt.alloc();
+    let mut lone = one(alloc, Version::V5, &[0], XType::Byte)?;
+    lone.count = Count::Known((1 << 63) - 129);
+    assert!(rt; last_place(alloc, &lone) == place(4, 128, 120));
+    lone.count = Count::Known((1 << 63) - 128);
+    assert!(rt; last_place(alloc, &lone) == Err(PlanFault::SizeForVersion));
+    Ok(())
+}

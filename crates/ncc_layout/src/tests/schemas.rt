@@ -69,6 +69,19 @@ pub fn two(
     schema(alloc, version, &[length], vars)
 }
 
+/// The variables byte a(t, x) and b(t, y), with t the record dimension.
+pub fn two_records(
+    alloc: Global,
+    version: Version,
+    first: u64,
+    second: u64,
+) -> Result<Schema, AllocError> {
+    let mut vars = Vec::new(alloc);
+    vars.push(var(alloc, &[0, 1], XType::Byte)?)?;
+    vars.push(var(alloc, &[0, 2], XType::Byte)?)?;
+    schema(alloc, version, &[0, first, second], vars)
+}
+
 /// The variables byte f(x), a(t, x) and b(t), with t the record dimension.
 pub fn records(alloc: Global, version: Version, length: u64) -> Result<Schema, AllocError> {
     let mut vars = Vec::new(alloc);

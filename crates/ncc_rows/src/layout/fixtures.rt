@@ -45,6 +45,21 @@ pub const TWO_SCALARS: [u32; 24] = [
     1, 4, 96,
 ];
 
+/// The scalar byte s and the variables byte a(t) and short b(t) without records, with their begins at
+/// words 18, 27 and 36, at offsets 72, 108 and 144.
+pub const SCALAR_AND_RECORDS: [u32; 37] = [
+    0x43444601, 0, 0x0a, 1, 1, 0x74000000, 0, 0, 0, 0x0b, 3, 1, 0x73000000, 0, 0, 0, 1, 4, 148, 1,
+    0x61000000, 1, 0, 0, 0, 1, 4, 149, 1, 0x62000000, 1, 0, 0, 0, 3, 4, 151,
+];
+
+/// The variables byte a(t) and short b(t) without records and the scalar bytes s and u, with their
+/// begins at words 19, 28, 36 and 44, at offsets 76, 112, 144 and 176.
+pub const TWO_OF_EACH_KIND: [u32; 45] = [
+    0x43444601, 0, 0x0a, 1, 1, 0x74000000, 0, 0, 0, 0x0b, 4, 1, 0x61000000, 1, 0, 0, 0, 1, 4, 184,
+    1, 0x62000000, 1, 0, 0, 0, 3, 4, 186, 1, 0x73000000, 0, 0, 0, 1, 4, 180, 1, 0x75000000, 0, 0,
+    0, 1, 4, 181,
+];
+
 /// The variable double v(x, y), with x of length 2^31 and y of length 2^30, in CDF-2.
 pub const TOO_LARGE: [u32; 25] = [
     0x43444602, 0, 0x0a, 2, 1, 0x78000000, 0x80000000, 1, 0x79000000, 0x40000000, 0, 0, 0x0b, 1, 1,
@@ -133,6 +148,17 @@ pub fn place_in(
         Ok(header) => place(&placed_of(alloc, &header, length)?, variable, index),
         Err(_) => None,
     }
+}
+
+/// The lengths of the header and of a file that begins with these words, and where its records begin.
+pub fn read_of_file(alloc: Global, words: &[u32], length: u64) -> Option<(u64, u64, Option<u64>)> {
+    let header = header_of(alloc, words).ok()?;
+    let placed = placed_of(alloc, &header, length)?;
+    Some((
+        placed.header_length(),
+        placed.file_length(),
+        placed.records_begin(),
+    ))
 }
 
 /// The placed file, where all rules hold.

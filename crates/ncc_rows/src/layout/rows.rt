@@ -57,6 +57,56 @@ fn fixed_variables_and_records(rt: HostRuntime) {
 }
 
 #[test]
+fn fixed_variables_that_end_where_the_records_begin(rt: HostRuntime) {
+    let mut words = SCALAR_AND_RECORDS;
+    assert!(rt; said_of_file(rt.alloc(), &words, 149) == Said::Records(0));
+    words[18] = 149;
+    assert!(rt; said_of_file(rt.alloc(), &words, 150) == fault(FixedAfterRecords, 72));
+}
+
+#[test]
+fn header_before_overlap(rt: HostRuntime) {
+    let mut words = TWO_SCALARS;
+    words[15] = 95;
+    words[23] = 95;
+    assert!(rt; said_of_file(rt.alloc(), &words, 101) == fault(InHeader, 60));
+    words[15] = 96;
+    words[23] = 96;
+    assert!(rt; said_of_file(rt.alloc(), &words, 101) == fault(Overlap, 92));
+}
+
+#[test]
+fn overlaps_of_fixed_variables_come_first(rt: HostRuntime) {
+    let mut words = TWO_OF_EACH_KIND;
+    assert!(rt; said_of_file(rt.alloc(), &words, 182) == Said::Records(0));
+    words[28] = 184;
+    words[44] = 180;
+    assert!(rt; said_of_file(rt.alloc(), &words, 182) == fault(Overlap, 176));
+    words[44] = 181;
+    assert!(rt; said_of_file(rt.alloc(), &words, 182) == fault(Overlap, 112));
+}
+
+#[test]
+fn window_before_fixed_variables(rt: HostRuntime) {
+    let mut words = SCALAR_AND_RECORDS;
+    words[18] = 160;
+    words[27] = 148;
+    words[36] = 155;
+    assert!(rt; said_of_file(rt.alloc(), &words, 161) == fault(RecordWindow, 144));
+    words[36] = 154;
+    assert!(rt; said_of_file(rt.alloc(), &words, 161) == fault(FixedAfterRecords, 72));
+}
+
+#[test]
+fn lengths_and_begins(rt: HostRuntime) {
+    assert!(rt;
+        read_of_file(rt.alloc(), &TWO_RECORD_VARIABLES, 132) == Some((116, 132, Some(116)))
+    );
+    assert!(rt; read_of_file(rt.alloc(), &FIXED, 88) == Some((80, 88, None)));
+    assert!(rt; read_of_file(rt.alloc(), &TWO_OF_EACH_KIND, 190) == Some((180, 190, Some(184))));
+}
+
+#[test]
 fn variables_in_any_order(rt: HostRuntime) {
     assert!(rt; said_of_file(rt.alloc(), &TWO_SCALARS, 101) == Said::Records(0));
     assert!(rt; said_of_file(rt.alloc(), &TWO_SCALARS, 100) == fault(Truncated, 60));
