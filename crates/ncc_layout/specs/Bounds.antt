@@ -93,7 +93,8 @@ AreNumbered es = IsDistinct (λ d e. d.variable == e.variable) es
 abbrev pub RecordsJudged : (record_size : ℕ) → List Extent → Option (LayoutFaultKind × ℕ) → Type 0
 RecordsJudged record_size es None = AllByRecursion (InWindow record_size es) es × AllByRecursion (BeforeRecords es) es
 RecordsJudged record_size es (Some (RecordWindow, n)) = FailsFirst (InWindow record_size es) es n
-RecordsJudged record_size es (Some (FixedAfterRecords, n)) = AllByRecursion (InWindow record_size es) es × FailsFirst (BeforeRecords es) es n
+RecordsJudged record_size es (Some (FixedAfterRecords, n)) =
+    AllByRecursion (InWindow record_size es) es × FailsFirst (BeforeRecords es) es n
 RecordsJudged record_size es (Some (_, n)) = ⊥
 
 abbrev pub Judged : (header length record_size records : ℕ) → List Extent → Option (LayoutFaultKind × ℕ) → Type 0

@@ -23,7 +23,8 @@ abbrev pub placed_var : List Dim → (records number : ℕ) → Var → Place �
 placed_var dims records n x p = record { xtype = x.xtype; shape = shape dims records x; extent = extent_of dims n x p }
 
 abbrev pub placed_from : List Dim → (records number : ℕ) → List Var → List Place → List PlacedVar
-placed_from dims records n (x ∷ vars) (p ∷ places) = placed_var dims records n x p ∷ placed_from dims records (suc n) vars places
+placed_from dims records n (x ∷ vars) (p ∷ places) =
+    placed_var dims records n x p ∷ placed_from dims records (suc n) vars places
 placed_from dims records n _ _ = []
 
 -- with so many records
@@ -35,7 +36,8 @@ placed_vars s places length = placed_with s places (record_count s places length
 
 -- the same over extents that were found before
 abbrev pub placed_on : List Dim → (records : ℕ) → List Var → List Extent → List PlacedVar
-placed_on dims records (x ∷ vars) (e ∷ es) = record { xtype = x.xtype; shape = shape dims records x; extent = e } ∷ placed_on dims records vars es
+placed_on dims records (x ∷ vars) (e ∷ es) =
+    record { xtype = x.xtype; shape = shape dims records x; extent = e } ∷ placed_on dims records vars es
 placed_on dims records _ _ = []
 
 -- a variable that isn't there
@@ -56,7 +58,8 @@ lengthened records false ls = ls
 
 -- the same variable where there are so many records
 abbrev pub with_records : (records : ℕ) → PlacedVar → PlacedVar
-with_records records x = record { xtype = x.xtype; shape = lengthened records x.extent.is_record x.shape; extent = x.extent }
+with_records records x =
+    record { xtype = x.xtype; shape = lengthened records x.extent.is_record x.shape; extent = x.extent }
 
 -- ---- places
 
@@ -71,9 +74,12 @@ offset_in record_size size true (n ∷ ls) (i ∷ is) = i * record_size + row_ma
 offset_in record_size size true _ _ = 0
 offset_in record_size size false ls is = row_major ls is * size
 
+abbrev pub offset_of : (record_size : ℕ) → PlacedVar → (index : List ℕ) → ℕ
+offset_of record_size x index = offset_in record_size (size_of x.xtype) x.extent.is_record x.shape index
+
 -- the first byte of an element
 abbrev pub place_of : (record_size : ℕ) → PlacedVar → (index : List ℕ) → ℕ
-place_of record_size x index = x.extent.begin + offset_in record_size (size_of x.xtype) x.extent.is_record x.shape index
+place_of record_size x index = x.extent.begin + offset_of record_size x index
 
 -- the record of an element, and its number in the slab
 abbrev pub record_in : Bool → (index : List ℕ) → ℕ
@@ -106,7 +112,8 @@ Owns record_size e byte =
 -- the variable and the index list are there, and this is the element's place
 abbrev pub IsPlace : (record_size : ℕ) → List PlacedVar → (number : ℕ) → (index : List ℕ) → Option ℕ → Type 0
 IsPlace record_size vars n index None = (n < length vars) × Inside (var_at vars n).shape index → ⊥
-IsPlace record_size vars n index (Some place) = (n < length vars) × Inside (var_at vars n).shape index × (place ≡ place_of record_size (var_at vars n) index)
+IsPlace record_size vars n index (Some place) =
+    (n < length vars) × Inside (var_at vars n).shape index × (place ≡ place_of record_size (var_at vars n) index)
 
 -- the element's bytes lie past the header and in the file
 abbrev pub LiesInFile : (header length : ℕ) → PlacedVar → (place : ℕ) → Type 0
@@ -143,4 +150,5 @@ pub record AreSized (record_size : ℕ) (vars : List PlacedVar) : Type 0 where
 -- every element has bytes of its own, past the header and inside the file
 pub record Own (header length record_size : ℕ) (vars : List PlacedVar) : Type 0 where
   pub inside : (e : Element vars) (byte : ℕ) → Owns record_size e byte → (header ≤ byte) × (byte < length)
-  pub apart : (d e : Element vars) (byte : ℕ) → Owns record_size d byte → Owns record_size e byte → (d.var ≡ e.var) × (d.index ≡ e.index)
+  pub apart : (d e : Element vars) (byte : ℕ) → Owns record_size d byte → Owns record_size e byte
+      → (d.var ≡ e.var) × (d.index ≡ e.index)

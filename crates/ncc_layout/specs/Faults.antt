@@ -76,7 +76,8 @@ RuleFails header length record_size records es Truncated n =
 
 abbrev pub PlaceFails : Schema → List Place → (header length : ℕ) → LayoutFaultKind → ℕ → Type 0
 PlaceFails s places header length kind n =
-    Fit s.dims s.vars × RuleFails header length (record_size_of s) (record_count s places length) (extents_of s places) kind n
+    Fit s.dims s.vars
+    × RuleFails header length (record_size_of s) (record_count s places length) (extents_of s places) kind n
 
 -- the first fault of a file of this length, with this header, and the number of the variable that has it
 abbrev pub FirstFault : Schema → List Place → (header length : ℕ) → LayoutFaultKind → ℕ → Type 0

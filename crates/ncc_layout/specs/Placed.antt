@@ -76,9 +76,11 @@ pub record HasOneMore (p : Placed) (file : ℕ) (q : Placed) : Type 0 where
 
 -- the placed file, or the first fault and the begin field of its variable
 abbrev pub PlacedAs : Schema → List VarPlace → (header file : ℕ) → Result Placed PlaceError → Type 0
-PlacedAs s places header file (Ok p) = IsPlaced s (places_of places) header file × Holds s (places_of places) header file p
+PlacedAs s places header file (Ok p) =
+    IsPlaced s (places_of places) header file × Holds s (places_of places) header file p
 PlacedAs s places header file (Err (Fault f)) =
-    (n : ℕ) × FirstFault s (places_of places) header file f.kind n × (n < length places) × (f.offset ≡ begin_field places n)
+    (n : ℕ) × FirstFault s (places_of places) header file f.kind n
+    × (n < length places) × (f.offset ≡ begin_field places n)
 PlacedAs s places header file (Err Memory) = Unit {0}
 
 -- ---- on the way to it

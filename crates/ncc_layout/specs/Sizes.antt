@@ -74,7 +74,7 @@ record_size_of s = record_bytes (record_slabs s.dims s.vars)
 abbrev pub room : ℕ
 room = 2 ^ 63 - 4
 
--- no size is too large
+-- TooLarge: no padded size, nor the sum of those of the record variables, is more than the greatest size
 pub record Fit (dims : List Dim) (vars : List Var) : Type 0 where
   pub each : AllByRecursion (λ x. rounded dims x ≤ room) vars
   pub together : record_sum dims vars ≤ room
@@ -112,7 +112,9 @@ pub record Sums (dims : List Dim) (vars : List Var) (t : Totals) : Type 0 where
 -- what becomes of sums over the variables before, with this one
 abbrev pub Adds : List Dim → List Var → Var → Option (ℕ × Totals) → Type 0
 Adds dims before x None = Fit dims (before ++ x ∷ []) → ⊥
-Adds dims before x (Some (n, t)) = (n ≡ slab dims x) × (n ≤ room) × (t.sum ≤ room) × Sums dims (before ++ x ∷ []) t × Fit dims (before ++ x ∷ [])
+Adds dims before x (Some (n, t)) =
+    (n ≡ slab dims x) × (n ≤ room) × (t.sum ≤ room)
+    × Sums dims (before ++ x ∷ []) t × Fit dims (before ++ x ∷ [])
 
 -- a size that is not too large
 abbrev pub in_room : ℕ → Option ℕ

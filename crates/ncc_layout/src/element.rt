@@ -1,8 +1,7 @@
 //! Where an element lies.
 
 ghost use Rattle.std.specs.Prelude.{◌↔◌, ◌<◌, ◌^◌, ◌≡◌, IfSome, IsTrue};
-ghost use Rattle.ncc_values.specs.XType.{size_of};
-ghost use Rattle.ncc_layout.specs.Elements.{row_major, offset_in, Inside, IsPlace};
+ghost use Rattle.ncc_layout.specs.Elements.{row_major, offset_of, Inside, IsPlace};
 ghost use Rattle.ncc_layout.specs.Placed.{record_size_of_file, vars_of, IsInFile};
 
 use crate::placed_file::Placed;
@@ -39,8 +38,8 @@ fn row_major(lengths: &[u64], index: &[u64]) -> u64
 /// How far from its variable's begin an element lies.
 fn offset_in(var: &PlacedVar, record_size: u64, index: &[u64]) -> u64
     requires inside { Inside var.now.shape index.now }
-    requires fits { offset_in record_size (size_of var.now.xtype) var.now.extent.is_record var.now.shape index.now < 2 ^ 64 }
-    ensures { result ≡ offset_in record_size (size_of var.now.xtype) var.now.extent.is_record var.now.shape index.now }
+    requires fits { offset_of record_size var.now index.now < 2 ^ 64 }
+    ensures { result ≡ offset_of record_size var.now index.now }
 {
     let lengths = var.shape.as_slice();
     let size = var.xtype.size() as u64;

@@ -20,28 +20,34 @@ ghost use Rattle.ncc_layout.specs.Placed.{header_length_of, file_length_of, reco
 
 /// Index lists inside a shape have different row-major numbers.
 pub fn indices_have_numbers_of_their_own()
-    ensures { (lengths is js : List ℕ) → Inside lengths is → Inside lengths js → row_major lengths is ≡ row_major lengths js → is ≡ js }
+    ensures { (lengths is js : List ℕ)
+        → Inside lengths is → Inside lengths js → row_major lengths is ≡ row_major lengths js → is ≡ js }
 {}
 
 /// An element stays in the slab of its variable in its record.
 pub fn element_stays_in_its_slab()
-    ensures { (record_size records : ℕ) (x : PlacedVar) (index : List ℕ) → HasShape records x → Inside x.shape index → LiesInSlab record_size x index }
+    ensures { (record_size records : ℕ) (x : PlacedVar) (index : List ℕ)
+        → HasShape records x → Inside x.shape index → LiesInSlab record_size x index }
 {}
 
 /// A slab stays in its record: between where that record and the next one begin.
 pub fn slab_stays_in_its_record()
-    ensures { (record_size : ℕ) (es : List Extent) (begin number : ℕ) (e : Extent) → AllByRecursion (InWindow record_size es) es → LeastBegin (records_of es) (Some begin) → Contains (records_of es) e → InRecord record_size begin number e }
+    ensures { (record_size : ℕ) (es : List Extent) (begin number : ℕ) (e : Extent)
+        → AllByRecursion (InWindow record_size es) es → LeastBegin (records_of es) (Some begin)
+        → Contains (records_of es) e → InRecord record_size begin number e }
 {}
 
 /// Where all layout rules hold, every element of every variable and record has bytes of its own,
 /// past the header, inside the file and shared with no other.
 pub fn placed_elements_are_apart()
-    ensures { (s : Schema) (places : List Place) (header file : ℕ) → IsPlaced s places header file → Own header file (record_size_of s) (placed_vars s places file) }
+    ensures { (s : Schema) (places : List Place) (header file : ℕ)
+        → IsPlaced s places header file → Own header file (record_size_of s) (placed_vars s places file) }
 {}
 
 /// Where all layout rules hold, there is no fault.
 pub fn placed_or_fault()
-    ensures { (s : Schema) (places : List Place) (header file : ℕ) (kind : LayoutFaultKind) (number : ℕ) → IsPlaced s places header file → FirstFault s places header file kind number → ⊥ }
+    ensures { (s : Schema) (places : List Place) (header file : ℕ) (kind : LayoutFaultKind) (number : ℕ)
+        → IsPlaced s places header file → FirstFault s places header file kind number → ⊥ }
 {}
 
 /// Every value of a placed file keeps its elements apart.
@@ -51,18 +57,23 @@ pub fn placed_file_keeps_elements_apart()
 
 /// There is one first fault at most, and of one variable.
 pub fn one_fault()
-    ensures { (s : Schema) (places : List Place) (header file : ℕ) (kind other : LayoutFaultKind) (number also : ℕ) → FirstFault s places header file kind number → FirstFault s places header file other also → (kind ≡ other) × (number ≡ also) }
+    ensures { (s : Schema) (places : List Place) (header file : ℕ) (kind other : LayoutFaultKind)
+        (number also : ℕ) → FirstFault s places header file kind number → FirstFault s places header file other also
+        → (kind ≡ other) × (number ≡ also) }
 {}
 
 /// As no extent is empty, the first that shares a byte with one before it is the first, in order of begin
 /// and number, that begins before the one before it ends.
 pub fn neighbours_tell_the_first_overlap()
-    ensures { (es sorted : List Extent) (number : ℕ) → AllByRecursion (λ e. 0 < e.slab) sorted → IsPermutation es sorted → InOrder sorted → FirstShared es number ↔ FirstInside sorted number }
+    ensures { (es sorted : List Extent) (number : ℕ)
+        → AllByRecursion (λ e. 0 < e.slab) sorted → IsPermutation es sorted → InOrder sorted
+        → FirstShared es number ↔ FirstInside sorted number }
 {}
 
 /// A standard placement that the version can tell keeps all rules in a file of its own length.
 pub fn standard_places_keep_all_rules()
-    ensures { (s : Schema) (n : ℕ) → s.count ≡ Known n → FitsVersion s n → IsPlaced s (standard_places s) (header_length s) (file_length s n) }
+    ensures { (s : Schema) (n : ℕ) → s.count ≡ Known n → FitsVersion s n
+        → IsPlaced s (standard_places s) (header_length s) (file_length s n) }
 {}
 
 /// In a standard placement each variable begins where the one before it of its kind ends with its padding,
@@ -83,12 +94,16 @@ pub fn standard_places_are_aligned()
 
 /// A placed file has room for one record more where a file of this length has it by its schema.
 pub fn room_for_one_more()
-    ensures { (s : Schema) (places : List Place) (header file more n : ℕ) (p : Placed) → s.count ≡ Known n → Holds s places header file p → IsPlaced (with_count s (n + 1)) places header more → HasRoom p more }
+    ensures { (s : Schema) (places : List Place) (header file more n : ℕ) (p : Placed)
+        → s.count ≡ Known n → Holds s places header file p
+        → IsPlaced (with_count s (n + 1)) places header more → HasRoom p more }
 {}
 
 /// With one record more a placed file is that of the schema with that count.
 pub fn one_more_is_placed()
-    ensures { (s : Schema) (places : List Place) (header file more n : ℕ) (p q : Placed) → s.count ≡ Known n → Holds s places header file p → HasOneMore p more q → Holds (with_count s (n + 1)) places header more q }
+    ensures { (s : Schema) (places : List Place) (header file more n : ℕ) (p q : Placed)
+        → s.count ≡ Known n → Holds s places header file p → HasOneMore p more q
+        → Holds (with_count s (n + 1)) places header more q }
 {}
 
 #[cfg(test)]

@@ -43,7 +43,8 @@ fn begin_of(ends: Ends, dims: &[Dim], var: &Var) -> u64
 fn with_var(ends: Ends, schema: &Schema, var: &Var, size: u64) -> Ends
     requires legal { LegalDims schema.now.dims var.now.dims }
     requires size { size ≡ rounded schema.now.dims var.now }
-    ensures { (before : List Var) → AreEnds schema.now before ends → AreEnds schema.now (before ++ var.now ∷ []) result }
+    ensures { (before : List Var) → AreEnds schema.now before ends
+        → AreEnds schema.now (before ++ var.now ∷ []) result }
 {
     let mut more = ends;
     more.header = ends.header.saturating_add(var_size(schema.version, var));
@@ -102,7 +103,9 @@ fn known(count: Count) -> u64
 pub fn standard(alloc: Global, schema: &Schema) -> Result<Vec<VarPlace>, PlanFault>
     requires sound { Sound schema.now }
     requires known { IsKnown schema.now.count }
-    ensures plan { MatchResult result (λ places. IsPlan schema.now (known schema.now.count) places.items) (PlanFails schema.now (known schema.now.count)) }
+    ensures plan { MatchResult result
+        (λ places. IsPlan schema.now (known schema.now.count) places.items)
+        (PlanFails schema.now (known schema.now.count)) }
     ensures legal { IfOk result (λ places. Legal schema.now (places_of places.items)) }
 {
     let records = known(schema.count);

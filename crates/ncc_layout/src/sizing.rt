@@ -109,7 +109,8 @@ fn with_slab(totals: Totals, slab: u64) -> Option<Totals>
 fn add_var(totals: Totals, dims: &[Dim], var: &Var) -> Option<(u64, Totals)>
     requires legal { LegalDims dims.now var.now.dims }
     requires room { totals.sum ≤ room }
-    ensures { (before : List Var) → Sums dims.now before totals → Fit dims.now before → Adds dims.now before var.now result }
+    ensures { (before : List Var) → Sums dims.now before totals → Fit dims.now before
+        → Adds dims.now before var.now result }
 {
     let slab = fitting_slab(dims, var)?;
     if !is_record_var(dims, var) {
