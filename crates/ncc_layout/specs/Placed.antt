@@ -13,7 +13,7 @@ use Rattle.ncc_layout.specs.declared.placed_var.PlacedVar.{PlacedVar}
 use Rattle.ncc_layout.specs.declared.placed_file.Placed.{Placed}
 use Rattle.ncc_layout.specs.Sizes.{record_size_of}
 use Rattle.ncc_layout.specs.Extents.{record_count}
-use Rattle.ncc_layout.specs.Elements.{var_at, placed_vars, with_records, AreLaid, LiesInFile}
+use Rattle.ncc_layout.specs.Elements.{var_at, placed_vars, with_records, AreLaid, AreSized, LiesInFile}
 use Rattle.ncc_layout.specs.Rules.{Rules, IsPlaced}
 use Rattle.ncc_layout.specs.Faults.{FirstFault}
 
@@ -40,6 +40,11 @@ extents_of_file p = map (λ x. x.extent) (vars_of p)
 -- an element of this variable at this place lies past the header and in the file
 abbrev pub IsInFile : Placed → (number place : ℕ) → Type 0
 IsInFile p n place = LiesInFile (header_length_of p) (file_length_of p) (var_at (vars_of p) n) place
+
+-- all rules hold, and the sizes are those of its variables
+pub record KeepsRules (p : Placed) : Type 0 where
+  pub rules : Rules (header_length_of p) (file_length_of p) (record_size_of_file p) (records_of_file p) (extents_of_file p)
+  pub sized : AreSized (record_size_of_file p) (vars_of p)
 
 -- all rules hold with one record more, in a file of this length
 abbrev pub HasRoom : Placed → (file : ℕ) → Type 0

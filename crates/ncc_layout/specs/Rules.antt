@@ -1,4 +1,4 @@
--- The layout rules of a file.
+-- The layout rules of a file. Above the definition of each stands the name of its fault.
 use Rattle.std.specs.Prelude.{◌≡◌, ℕ, zero, suc, ◌+◌, ◌*◌, ◌<◌, ◌≤◌, List, Contains, Bool, true, false}
 use Rattle.std.specs.List.{AllByRecursion}
 use Rattle.ncc_schema.specs.declared.schema.Schema.{Schema}

@@ -1,4 +1,4 @@
--- Sizes of variables and of a record (NetCDF Classic Format Specification, "Note on vsize" and "Note on padding").
+-- Sizes of variables and of a record (The NetCDF Classic Format Specification, "Note on vsize" and "Note on padding").
 use Rattle.std.specs.Prelude.{◌≡◌, ℕ, ◌+◌, ◌-◌, ◌*◌, ◌^◌, ◌<◌, ◌≤◌, ltb, not, Option, Some, None, Result, Ok, Err, List, [], ◌∷◌, ◌++◌, length, map, take, drop, filter, get_or, sum_by, Bool, true, false, if◌then◌else◌}
 use Rattle.std.specs.List.{AllByRecursion}
 use Rattle.ncc_values.specs.Padding.{padding_of}

@@ -1,4 +1,4 @@
--- The standard placement of a schema that is to be written.
+-- The standard placement of a schema that is to be written (The NetCDF Classic Format Specification, "The Format in Detail").
 use Rattle.std.specs.Prelude.{◌≡◌, ℕ, suc, ◌+◌, ◌-◌, ◌*◌, ◌%◌, ◌^◌, ◌<◌, ◌≤◌, ltb, map, AllPairs, Option, Some, None, List, [], ◌∷◌, take, filter, sum_by, not, if◌then◌else◌}
 use Rattle.std.specs.List.{AllByRecursion}
 use Rattle.ncc_values.specs.declared.version.Version.{Version}
@@ -14,7 +14,7 @@ use Rattle.ncc_layout.specs.Extents.{fixed_of, records_of}
 
 -- ---- the word for a size
 
--- the greatest size that a word of four bytes tells ("Note on vsize")
+-- the greatest size that a word of four bytes tells, in CDF-1 and CDF-2 ("Note on vsize")
 abbrev pub most_vsize : ℕ
 most_vsize = 2 ^ 32 - 4
 

@@ -16,7 +16,7 @@ ghost use Rattle.ncc_layout.specs.Rules.{InWindow, InRecord, IsPlaced};
 ghost use Rattle.ncc_layout.specs.Faults.{FirstShared, InOrder, FirstInside, FirstFault};
 ghost use Rattle.ncc_layout.specs.Elements.{row_major, placed_vars, Inside, HasShape, LiesInSlab, Own};
 ghost use Rattle.ncc_layout.specs.Standard.{standard_places, file_length, FitsVersion, ArePacked, AreInTurn, AreAligned};
-ghost use Rattle.ncc_layout.specs.Placed.{header_length_of, file_length_of, record_size_of_file, vars_of, Holds, HasRoom, HasOneMore, with_count};
+ghost use Rattle.ncc_layout.specs.Placed.{header_length_of, file_length_of, record_size_of_file, vars_of, KeepsRules, Holds, HasRoom, HasOneMore, with_count};
 
 /// Index lists inside a shape have different row-major numbers.
 pub fn indices_have_numbers_of_their_own()
@@ -48,6 +48,11 @@ pub fn placed_elements_are_apart()
 pub fn placed_or_fault()
     ensures { (s : Schema) (places : List Place) (header file : ℕ) (kind : LayoutFaultKind) (number : ℕ)
         → IsPlaced s places header file → FirstFault s places header file kind number → ⊥ }
+{}
+
+/// Every value of a placed file keeps all rules, and has the record size of its variables.
+pub fn placed_file_keeps_all_rules()
+    ensures { (p : Placed) → KeepsRules p }
 {}
 
 /// Every value of a placed file keeps its elements apart.

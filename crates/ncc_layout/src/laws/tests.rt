@@ -8,6 +8,7 @@ fn laws_are_there() {
     element_stays_in_its_slab();
     slab_stays_in_its_record();
     placed_elements_are_apart();
+    placed_file_keeps_all_rules();
     placed_file_keeps_elements_apart();
     placed_or_fault();
     one_fault();
