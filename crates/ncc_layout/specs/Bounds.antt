@@ -38,10 +38,6 @@ last_end_from (Some m) es = Some (greatest_from m es)
 abbrev pub last_end : List Extent → Option ℕ
 last_end es = last_end_from None es
 
-abbrev pub begin_sooner : Option ℕ → ℕ → ℕ
-begin_sooner None n = n
-begin_sooner (Some m) n = min m n
-
 abbrev pub end_later : Option ℕ → ℕ → ℕ
 end_later None n = n
 end_later (Some m) n = max m n

@@ -2,7 +2,7 @@
 
 ghost use Rattle.std.specs.Prelude.{◌≡◌, ◌+◌, ◌<◌, ◌^◌, length, map};
 ghost use Rattle.std.specs.List.{AllByRecursion};
-ghost use Rattle.ncc_layout.specs.Extents.{records_of, LeastBegin};
+ghost use Rattle.ncc_layout.specs.Extents.{records_of, least_begin, LeastBegin};
 ghost use Rattle.ncc_layout.specs.Elements.{AreLaid, AreSized, HasLengths, var_at, with_records};
 
 use crate::placed_var::PlacedVar;
@@ -80,7 +80,8 @@ impl Placed {
 
     /// Where the records begin: the least begin of a record variable, where there is one.
     pub fn records_begin(&self) -> Option<u64>
-        ensures { LeastBegin (records_of (extents_of_file self.now)) result }
+        ensures value { result ≡ least_begin (records_of (extents_of_file self.now)) }
+        ensures least { LeastBegin (records_of (extents_of_file self.now)) result }
     {
         first_begin_of(self.vars.as_slice())
     }

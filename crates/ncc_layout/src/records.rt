@@ -2,9 +2,9 @@
 
 ghost use Rattle.std.specs.Prelude.{◌≡◌, ◌<◌, map};
 ghost use Rattle.std.specs.List.{AllByRecursion};
-ghost use Rattle.ncc_layout.specs.Extents.{records_of, counted};
+ghost use Rattle.ncc_layout.specs.Extents.{records_of, begin_sooner, counted};
 ghost use Rattle.ncc_layout.specs.Standard.{next_count};
-ghost use Rattle.ncc_layout.specs.Bounds.{HasBytes, first_begin, last_end, begin_sooner, end_later, records_by};
+ghost use Rattle.ncc_layout.specs.Bounds.{HasBytes, first_begin, last_end, end_later, records_by};
 
 use crate::extent::Extent;
 use crate::placed_var::PlacedVar;
