@@ -1,6 +1,6 @@
 -- The extents and the placed variables of a schema.
-use Rattle.std.proofs.Common.{◌≡◌, ℕ, zero, suc, ◌+◌, ◌*◌, ◌<◌, ◌≤◌, ◌^◌, Bool, true, false, not, List, [], ◌∷◌, ◌++◌, map, length, get_or, drop, drop-cons, Option, Some, None, refl, sym, ap, subst, ◌∙◌, append_assoc, arith, inl, inr}
-use Rattle.std.specs.Prelude.{filter, ◌==◌, if◌then◌else◌}
+use Rattle.std.proofs.Common.{◌≡◌, ℕ, zero, suc, ◌+◌, ◌*◌, ◌<◌, ◌≤◌, ◌^◌, Bool, true, false, not, cond, List, [], ◌∷◌, ◌++◌, map, length, get_or, drop, drop-cons, Option, Some, None, refl, sym, ap, ap₂, subst, ◌∙◌, append_assoc, arith, inl, inr}
+use Rattle.std.specs.Prelude.{filter, sum_by, ◌==◌, if◌then◌else◌}
 use Rattle.std.specs.List.{AllByRecursion, IsDistinct}
 use Rattle.std.proofs.lemmas.List.{get_or-map, length-map}
 use Rattle.std.proofs.lemmas.List.Sums.{sum_by-cons}
@@ -14,8 +14,8 @@ use Rattle.ncc_schema.specs.declared.schema.Schema.{Schema}
 use Rattle.ncc_schema.specs.Schema.{Place, place_of, places_of, is_record, count_limit, LegalDims, LegalVar, Sound}
 use Rattle.ncc_layout.specs.declared.extent.Extent.{Extent}
 use Rattle.ncc_layout.specs.declared.placed_var.PlacedVar.{PlacedVar}
-use Rattle.ncc_layout.specs.Sizes.{product, length_of, starts_with_record, is_record_var, inner, slab, rounded, record_vars, record_bytes, record_size_of, Fit}
-use Rattle.ncc_layout.specs.Extents.{extent_of, extents_from, extents_of, NumberedFrom, records_of, record_count}
+use Rattle.ncc_layout.specs.Sizes.{up, product, length_of, starts_with_record, is_record_var, inner, slab, rounded, record_vars, record_slabs, record_bytes, record_size_of, room, Fit}
+use Rattle.ncc_layout.specs.Extents.{extent_of, extents_from, extents_of, NumberedFrom, records_of, slabs_of_records, record_count}
 use Rattle.ncc_layout.specs.Rules.{PastHeader, InWindow, BeforeRecords, Within, Rules}
 use Rattle.ncc_layout.specs.Faults.{FailsFirst, FirstShared, FirstOverlap, RuleFails, PlaceFails, FirstFault}
 use Rattle.ncc_layout.specs.declared.fault.LayoutFaultKind.{LayoutFaultKind}
@@ -26,10 +26,11 @@ use Rattle.ncc_layout.specs.Bounds.{HasBytes, AreNumbered, Judged}
 use Rattle.ncc_layout.specs.declared.judging.Frame.{Frame}
 use Rattle.ncc_layout.specs.declared.placed_file.Placed.{Placed}
 use Rattle.ncc_layout.specs.Placed.{IsFrame, HasLaid, Holds}
-use Rattle.ncc_layout.specs.Elements.{placed_var, placed_from, placed_on, placed_with, placed_vars, IsShaped, HasShape, AreLaid}
+use Rattle.ncc_layout.specs.Elements.{placed_var, placed_from, placed_on, placed_with, placed_vars, IsShaped, HasShape, AreLaid, AreSized}
 use Rattle.ncc_layout.proofs.Membership.{In, in_from_contains, in_filter, filter_in, all_in}
 use Rattle.ncc_layout.proofs.Products.{product_positive}
 use Rattle.ncc_layout.proofs.Own.{size_positive}
+use Rattle.ncc_layout.proofs.Summing.{sum_of_slabs}
 
 -- ---- sizes are positive
 
@@ -123,6 +124,35 @@ laid header length record_size records s places rules =
       rules = subst (Rules header length record_size records) same rules;
     }
 
+-- ---- sizes of placed variables
+
+pub slab_kept : (dims : List Dim) (b : Bool) (e : Extent) (x : Var) (es : List Extent) (vars : List Var) → e.slab ≡ slab dims x → map (λ d. d.slab) es ≡ map (slab dims) vars
+    → map (λ d. d.slab) (cond b (e ∷ es) es) ≡ map (slab dims) (cond b (x ∷ vars) vars)
+slab_kept dims true e x es vars same rest = ap₂ (λ (m : ℕ) (l : List ℕ). m ∷ l) same rest
+slab_kept dims false e x es vars same rest = rest
+
+pub slabs_same : (dims : List Dim) (n : ℕ) (vars : List Var) (places : List Place) → length places ≡ length vars → slabs_of_records (extents_from dims n vars places) ≡ record_slabs dims vars
+slabs_same dims n [] places e = refl
+slabs_same dims n (x ∷ vars) [] e = absurd (omega (arith, e))
+slabs_same dims n (x ∷ vars) (p ∷ places) e =
+    slab_kept dims (is_record_var dims x) (extent_of dims n x p) x (records_of (extents_from dims (suc n) vars places)) (record_vars dims vars) refl
+    (slabs_same dims (suc n) vars places (omega (arith, e)))
+
+each_sized : (dims : List Dim) (records n : ℕ) (vars : List Var) (places : List Place) → AllByRecursion (λ x. rounded dims x ≤ room) vars → AllByRecursion (λ y. up y.extent.slab ≤ room) (placed_from dims records n vars places)
+each_sized dims records n [] places all = tt
+each_sized dims records n (x ∷ vars) [] all = tt
+each_sized dims records n (x ∷ vars) (p ∷ places) all = (all.0, each_sized dims records (suc n) vars places all.1)
+
+pub sized : (s : Schema) (places : List Place) (records : ℕ) → length places ≡ length s.vars → Fit s.dims s.vars → AreSized (record_size_of s) (placed_with s places records)
+sized s places records long fit =
+    let slabs : slabs_of_records (map (λ y. y.extent) (placed_with s places records)) ≡ record_slabs s.dims s.vars =
+    ap slabs_of_records (extents_same s.dims records 0 s.vars places) ∙ slabs_same s.dims 0 s.vars places long in
+    record {
+      each = each_sized s.dims records 0 s.vars places fit.each;
+      together = omega (arith, fit.together, ap (sum_by up) slabs, sum_of_slabs s.dims (record_vars s.dims s.vars));
+      record_size_is = ap record_bytes (sym slabs);
+    }
+
 -- ---- what holds of each extent
 
 all_in_list : {A : Type 0} (P : A → Type 0) (xs : List A) → ((a : A) → In xs a → P a) → AllByRecursion P xs
@@ -147,10 +177,10 @@ bytes_from dims n (x ∷ vars) (p ∷ places) all few =
 pub extents_have_bytes : (s : Schema) (places : List Place) → Sound s → AllByRecursion HasBytes (extents_of s places)
 extents_have_bytes s places sound = bytes_from s.dims 0 s.vars places (dims_legal s.version s.dims s.vars sound.vars) (omega (arith, sound.vars_number, small_count s.version))
 
-record_bytes_positive : (dims : List Dim) (rs : List Var) (x : Var) → In rs x → AllByRecursion (λ y. 0 < slab dims y) rs → 0 < record_bytes dims rs
+record_bytes_positive : (dims : List Dim) (rs : List Var) (x : Var) → In rs x → AllByRecursion (λ y. 0 < slab dims y) rs → 0 < record_bytes (map (slab dims) rs)
 record_bytes_positive dims [] x there all = absurd there
 record_bytes_positive dims (y ∷ []) x there all = all.0
-record_bytes_positive dims (y ∷ z ∷ rs) x there all = omega (arith, all.0, sum_by-cons (rounded dims) y (z ∷ rs))
+record_bytes_positive dims (y ∷ z ∷ rs) x there all = omega (arith, all.0, sum_by-cons up (slab dims y) (map (slab dims) (z ∷ rs)))
 
 extent_var : (dims : List Dim) (n : ℕ) (vars : List Var) (places : List Place) (e : Extent) → In (extents_from dims n vars places) e → (x : Var) × In vars x × (is_record_var dims x ≡ e.is_record)
 extent_var dims n [] places e there = absurd there
@@ -260,6 +290,11 @@ module _ (s : Schema) (places : List Place) (header file : ℕ) (es : List Exten
       let all = laid f.header_length f.file_length f.record_size f.records s places rules in
       subst (AreLaid f.header_length f.file_length f.record_size f.records)
       (sym (ap (placed_on s.dims f.records s.vars) is ∙ placed_same s.dims f.records 0 s.vars places)) all
+
+  pub sized_so : length places ≡ length s.vars → Fit s.dims s.vars → AreSized f.record_size (placed_on s.dims f.records s.vars es)
+  sized_so long fit =
+      subst (AreSized f.record_size) (sym (ap (placed_on s.dims f.records s.vars) is ∙ placed_same s.dims f.records 0 s.vars places))
+      (subst (λ (n : ℕ). AreSized n (placed_with s places f.records)) (sym frame.size_is) (sized s places f.records long fit))
 
   pub holds : (p : Placed) → HasLaid f (placed_on s.dims f.records s.vars es) p → Holds s places header file p
   holds p h = record {

@@ -1,13 +1,14 @@
 -- Placed variables with another number of records.
 use Rattle.std.proofs.Common.{◌≡◌, ℕ, zero, suc, ◌+◌, ◌<◌, ◌≤◌, Bool, true, false, List, [], ◌∷◌, ◌++◌, map, length, get_or, set, take, drop, refl, sym, ap, subst, ◌∙◌, arith}
-use Rattle.std.specs.Prelude.{if◌then◌else◌}
+use Rattle.std.specs.Prelude.{sum_by, if◌then◌else◌}
 use Rattle.std.specs.List.{AllByRecursion}
 use Rattle.ncc_values.specs.XType.{size_of}
 use Rattle.ncc_layout.specs.declared.extent.Extent.{Extent}
 use Rattle.ncc_layout.specs.declared.placed_var.PlacedVar.{PlacedVar}
-use Rattle.ncc_layout.specs.Extents.{NumberedFrom}
+use Rattle.ncc_layout.specs.Sizes.{up, record_bytes, room}
+use Rattle.ncc_layout.specs.Extents.{NumberedFrom, slabs_of_records}
 use Rattle.ncc_layout.specs.Rules.{Rules}
-use Rattle.ncc_layout.specs.Elements.{IsShaped, HasShape, AreLaid, HasLengths, lengthened, with_records}
+use Rattle.ncc_layout.specs.Elements.{IsShaped, HasShape, AreLaid, AreSized, HasLengths, lengthened, with_records}
 
 -- ---- a loop over the variables
 
@@ -68,4 +69,17 @@ laid_with_more header length file record_size records more vars laid rules =
       shaped = all_reshaped records more vars laid.shaped;
       numbered = subst (NumberedFrom 0) same laid.numbered;
       rules = subst (Rules header file record_size more) same rules;
+    }
+
+all_sized : (more : ℕ) (vars : List PlacedVar) → AllByRecursion (λ x. up x.extent.slab ≤ room) vars → AllByRecursion (λ x. up x.extent.slab ≤ room) (map (with_records more) vars)
+all_sized more [] all = tt
+all_sized more (x ∷ vars) all = (all.0, all_sized more vars all.1)
+
+pub sized_with_more : (record_size more : ℕ) (vars : List PlacedVar) → AreSized record_size vars → AreSized record_size (map (with_records more) vars)
+sized_with_more record_size more vars sized =
+    let same = sym (extents_stay more vars) in
+    record {
+      each = all_sized more vars sized.each;
+      together = subst (λ (es : List Extent). sum_by up (slabs_of_records es) ≤ room) same sized.together;
+      record_size_is = subst (λ (es : List Extent). record_size ≡ record_bytes (slabs_of_records es)) same sized.record_size_is;
     }

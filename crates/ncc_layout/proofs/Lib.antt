@@ -1,6 +1,7 @@
 mod Membership
 mod RowMajor
 mod Own
+mod PlacedFiles
 mod Searching
 mod Counting
 mod Products
@@ -8,9 +9,13 @@ mod Summing
 mod Sharing
 mod Indexing
 mod TestsOfRules
+mod LeastBegins
 mod FirstFaults
 mod Laying
 mod OneFault
+mod Neighbours
+mod RecordWindows
+mod StandardRules
 mod Lengthening
 mod OneMore
 mod StandardPlaces

@@ -25,6 +25,13 @@ in_map f [] a h = absurd h
 in_map f (x ∷ xs) a (inl e) = inl (ap f e)
 in_map f (x ∷ xs) a (inr h) = inr (in_map f xs a h)
 
+pub in_mapped : {A B : Type 0} (f : A → B) (xs : List A) (b : B) → In (map f xs) b → (a : A) × In xs a × (f a ≡ b)
+in_mapped f [] b h = absurd h
+in_mapped f (x ∷ xs) b (inl e) = (x, inl refl, e)
+in_mapped f (x ∷ xs) b (inr h) =
+    let found = in_mapped f xs b h in
+    (found.0, inr found.1, found.2)
+
 kept : {A : Type 0} (b : Bool) (x : A) (ys : List A) (a : A) → In ys a → In (cond b (x ∷ ys) ys) a
 kept true x ys a h = inr h
 kept false x ys a h = h

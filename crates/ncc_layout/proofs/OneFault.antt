@@ -63,7 +63,7 @@ one_number m n h k = by_order (cases_lt m n) (cases_lt n m)
 one_extent : (es : List Extent) (x y : Extent) → NumberedFrom 0 es → In es x → In es y → x.variable ≡ y.variable → x ≡ y
 one_extent es x y h = one_numbered (λ e. e) 0 es x y (subst (NumberedFrom 0) (sym (map-id es)) h)
 
-not_before_itself : (x : Extent) → Before x x → ⊥
+pub not_before_itself : (x : Extent) → Before x x → ⊥
 not_before_itself x (inl l) = omega (arith, l)
 not_before_itself x (inr l) = omega (arith, l.1)
 
@@ -78,7 +78,7 @@ order x y = by_begin (cases_lt x.begin y.begin) (cases_lt y.begin x.begin) (case
     by_begin (inr a) (inr b) (inr c) (inl d) = inr (inl (inr (omega (arith, a, b), d)))
     by_begin (inr a) (inr b) (inr c) (inr d) = inr (inr (omega (arith, c, d)))
 
-one_shared : (es : List Extent) (m n : ℕ) → FirstShared es m → FirstShared es n → m ≡ n
+pub one_shared : (es : List Extent) (m n : ℕ) → FirstShared es m → FirstShared es n → m ≡ n
 one_shared es m n h k = by_order (order h.later k.later)
   where
     by_order : Before h.later k.later ⊎ (Before k.later h.later ⊎ (h.later.variable ≡ k.later.variable)) → m ≡ n

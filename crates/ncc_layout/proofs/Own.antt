@@ -11,18 +11,13 @@ use Rattle.ncc_layout.specs.declared.placed_var.PlacedVar.{PlacedVar}
 use Rattle.ncc_layout.specs.Sizes.{product}
 use Rattle.ncc_layout.specs.Extents.{NumberedFrom, end, fixed_of, records_of}
 use Rattle.ncc_layout.specs.Rules.{ByKind, PastHeader, EndsBy, InWindow, BeforeRecords, LastWithin, Within, Apart}
-use Rattle.ncc_layout.specs.Elements.{row_major, offset_in, place_of, Inside, Element, Owns, IsShaped, HasShape, AreLaid, Own}
+use Rattle.ncc_layout.specs.Elements.{row_major, offset_in, place_of, record_in, record_of, Inside, Element, Owns, LiesInFile, LiesInSlab, IsShaped, HasShape, AreLaid, Own}
 use Rattle.ncc_layout.proofs.Membership.{In, in_from_contains, contains_from_in, in_map, in_filter, all_in}
 use Rattle.ncc_layout.proofs.RowMajor.{row_major_below, one_index}
 
 -- ---- an element in its slab
 
--- the record of an element, and its number in the slab
-abbrev record_in : Bool → (index : List ℕ) → ℕ
-record_in true [] = 0
-record_in true (i ∷ is) = i
-record_in false is = 0
-
+-- its number in the slab
 abbrev number_in : Bool → (lengths index : List ℕ) → ℕ
 number_in true (l ∷ ls) (i ∷ is) = row_major ls is
 number_in true _ _ = 0
@@ -98,9 +93,6 @@ record Has (record_size records : ℕ) (x : PlacedVar) (index : List ℕ) (byte 
   low : place_of record_size x index ≤ byte
   high : byte < place_of record_size x index + size_of x.xtype
 
-abbrev record_of : PlacedVar → List ℕ → ℕ
-record_of x index = record_in x.extent.is_record index
-
 abbrev number_of : PlacedVar → List ℕ → ℕ
 number_of x index = number_in x.extent.is_record x.shape index
 
@@ -123,6 +115,14 @@ in_slab record_size records x index byte h =
       high = omega (arith, l.offset, h.high);
       below = l.below;
       none = l.none;
+    }
+
+pub lies_in_slab : (record_size records : ℕ) (x : PlacedVar) (index : List ℕ) → HasShape records x → Inside x.shape index → LiesInSlab record_size x index
+lies_in_slab record_size records x index shaped inside =
+    let l = lies record_size records (size_of x.xtype) x.extent.slab x.extent.is_record x.shape index shaped inside in
+    record {
+      begins = omega (arith, l.offset);
+      ends = omega (arith, l.offset, l.fits);
     }
 
 -- a byte in the same record of two slabs
@@ -295,12 +295,20 @@ module _ (header length record_size records : ℕ) (vars : List PlacedVar) (laid
     apart = λ d e byte first second. one_owner d.var e.var d.index e.index byte (in_from_contains vars d.var d.there) (in_from_contains vars e.var e.there) (has d byte first) (has e byte second);
   }
 
-  -- where an element begins, in numbers of the machine where the file's length is one
-  pub element_in_file : (x : PlacedVar) (is : List ℕ) → Contains vars x → Inside x.shape is → place_of record_size x is < length
-  element_in_file x is h inside =
-      (in_file x is (place_of record_size x is) (in_from_contains vars x h) (record {
-        shaped = all_in (HasShape records) vars x laid.shaped (in_from_contains vars x h);
-        inside = inside;
-        low = omega arith;
-        high = omega (arith, size_positive x.xtype);
-      })).1
+  pub element_in_file : (x : PlacedVar) (is : List ℕ) → Contains vars x → Inside x.shape is → LiesInFile header length x (place_of record_size x is)
+  element_in_file x is h inside = (omega (arith, first.0), omega (arith, last.1, size_positive x.xtype))
+    where
+      byte_in_file : (byte : ℕ) → place_of record_size x is ≤ byte → byte < place_of record_size x is + size_of x.xtype → (header ≤ byte) × (byte < length)
+      byte_in_file byte low high =
+          in_file x is byte (in_from_contains vars x h) (record {
+            shaped = all_in (HasShape records) vars x laid.shaped (in_from_contains vars x h);
+            inside = inside;
+            low = low;
+            high = high;
+          })
+
+      first : (header ≤ place_of record_size x is) × (place_of record_size x is < length)
+      first = byte_in_file (place_of record_size x is) (omega arith) (omega (arith, size_positive x.xtype))
+
+      last : (header ≤ place_of record_size x is + (size_of x.xtype - 1)) × (place_of record_size x is + (size_of x.xtype - 1) < length)
+      last = byte_in_file (place_of record_size x is + (size_of x.xtype - 1)) (omega arith) (omega (arith, size_positive x.xtype))

@@ -7,6 +7,7 @@ use Rattle.std.proofs.lemmas.List.Elements.{filter-append, All-from_recursion}
 use Rattle.std.proofs.lemmas.List.Sums.{sum_by-append}
 use Rattle.ncc_values.specs.Version.{offset_width_of}
 use Rattle.ncc_values.specs.declared.version.Version.{Version}
+use Rattle.ncc_values.specs.declared.version.Version.TheVariants.{V1, V2, V5}
 use Rattle.ncc_schema.specs.declared.schema.Dim.{Dim}
 use Rattle.ncc_schema.specs.declared.schema.Schema.{Schema}
 use Rattle.ncc_schema.specs.declared.schema.Var.{Var}
@@ -15,7 +16,7 @@ use Rattle.ncc_schema.specs.Schema.{place_of, places_of}
 use Rattle.ncc_schema.specs.Names.{capped, list_size, vars_at, begin_at, no_place, unplaced, canon_unplaced, header_length}
 use Rattle.ncc_schema.proofs.Sizes.{length-canon, before-placed, first_size}
 use Rattle.ncc_layout.specs.Sizes.{is_record_var, rounded, record_sum}
-use Rattle.ncc_layout.specs.Standard.{size_limit, past_limit, vsize_word, fixed_sum, standard_place, standard_from, standard_places, begin_fields_from, FitsVersion}
+use Rattle.ncc_layout.specs.Standard.{most_vsize, past_vsize, short_word, size_limit, vsize_word, fixed_sum, standard_place, standard_from, standard_places, begin_fields_from, FitsVersion}
 use Rattle.ncc_layout.specs.Plans.{header_end, fixed_end, slabs_end, AreEnds}
 use Rattle.ncc_layout.specs.declared.planning.Ends.{Ends}
 
@@ -65,10 +66,13 @@ begin_fields_from_more s n (y ∷ vars) x =
 
 -- ---- one variable
 
-pub word_is : (v : Version) (dims : List Dim) (x : Var) → rounded dims x ≤ size_limit v → rounded dims x ≡ vsize_word v dims x
-word_is v dims x small =
-    let n = rounded dims x in
-    ap (λ b. if b then past_limit v n else n) (sym (le-ltb (size_limit v) n small))
+short_word_is : (n : ℕ) → n ≤ most_vsize → n ≡ short_word n
+short_word_is n small = ap (λ b. if b then past_vsize else n) (sym (le-ltb most_vsize n small))
+
+pub word_is : (v : Version) (n : ℕ) → n ≤ size_limit v → n ≡ vsize_word v n
+word_is V1 n small = short_word_is n small
+word_is V2 n small = short_word_is n small
+word_is V5 n small = refl
 
 module _ (s : Schema) (records : ℕ) (fits : FitsVersion s records) (n : ℕ) (x : Var) (there : n < length s.vars) (is : x ≡ get_or s.vars n x) where
   -- the variables before it
@@ -81,19 +85,16 @@ module _ (s : Schema) (records : ℕ) (fits : FitsVersion s records) (n : ℕ) (
   number_is : n ≡ 0 + length before
   number_is = omega (arith, length-take-le n s.vars (omega arith))
 
-  small : rounded s.dims x ≤ size_limit s.version
-  small = subst (λ y. rounded s.dims y ≤ size_limit s.version) (sym is) (All-from_recursion (λ y. rounded s.dims y ≤ size_limit s.version) s.vars fits.words n x there)
-
   fixed_is : (e : Ends) → AreEnds s before e → e.fixed ≡ fixed_end s before
   fixed_is e ends = omega (arith, ends.fixed, fits.file, fixed_sum_first s.dims n s.vars)
 
   slabs_is : (e : Ends) → AreEnds s before e → e.slabs ≡ slabs_end s before
   slabs_is e ends = omega (arith, ends.slabs, fits.file, fits.fit.together, record_sum_first s.dims n s.vars)
 
-  pub place_is : (e : Ends) → AreEnds s before e → (vsize begin : ℕ) → vsize ≡ rounded s.dims x → begin ≡ (if is_record_var s.dims x then e.slabs else e.fixed) → record { vsize = vsize; begin = begin } ≡ standard_place s n x
+  pub place_is : (e : Ends) → AreEnds s before e → (vsize begin : ℕ) → vsize ≡ vsize_word s.version (rounded s.dims x) → begin ≡ (if is_record_var s.dims x then e.slabs else e.fixed) → record { vsize = vsize; begin = begin } ≡ standard_place s n x
   place_is e ends vsize begin size_is begin_is =
       let ends_are = ap₂ (λ a b. if is_record_var s.dims x then a else b) (slabs_is e ends) (fixed_is e ends) in
-      ap₂ (λ (a b : ℕ). record { vsize = a; begin = b }) (size_is ∙ word_is s.version s.dims x small) (begin_is ∙ ends_are)
+      ap₂ (λ (a b : ℕ). record { vsize = a; begin = b }) size_is (begin_is ∙ ends_are)
 
   pub field_is : (e : Ends) → AreEnds s (before ++ x ∷ []) e → e.header - offset_width_of s.version ≡ begin_at s (standard_places s) n
   field_is e ends =

@@ -1,9 +1,9 @@
 -- Sums over variables, with one variable more.
-use Rattle.std.proofs.Common.{◌≡◌, ℕ, ◌+◌, ◌≤◌, Bool, true, false, cond, not, List, [], ◌∷◌, ◌++◌, Some, None, refl, sym, ap, ◌∙◌, arith}
+use Rattle.std.proofs.Common.{◌≡◌, ℕ, ◌+◌, ◌≤◌, Bool, true, false, cond, not, List, [], ◌∷◌, ◌++◌, map, Some, None, refl, sym, ap, ◌∙◌, arith}
 use Rattle.std.specs.Prelude.{sum_by, ltb, if◌then◌else◌}
 use Rattle.std.specs.List.{AllByRecursion}
 use Rattle.std.proofs.lemmas.List.Elements.{filter-append}
-use Rattle.std.proofs.lemmas.List.Sums.{sum_by_push}
+use Rattle.std.proofs.lemmas.List.Sums.{sum_by-cons, sum_by_push}
 use Rattle.std.proofs.lemmas.Bool.{ltb-false}
 use Rattle.ncc_schema.specs.declared.schema.Dim.{Dim}
 use Rattle.ncc_schema.specs.declared.schema.Var.{Var}
@@ -20,6 +20,12 @@ up_in_room n h = omega arith
 all_more : {A : Type 0} (P : A → Type 0) (xs : List A) (x : A) → AllByRecursion P xs → P x → AllByRecursion P (xs ++ x ∷ [])
 all_more P [] x all h = (h, tt)
 all_more P (y ∷ xs) x all h = (all.0, all_more P xs x all.1 h)
+
+-- the padded sizes are those of the slabs
+pub sum_of_slabs : (dims : List Dim) (vars : List Var) → sum_by up (map (slab dims) vars) ≡ sum_by (rounded dims) vars
+sum_of_slabs dims [] = refl
+sum_of_slabs dims (x ∷ vars) =
+    sum_by-cons up (slab dims x) (map (slab dims) vars) ∙ ap (λ (n : ℕ). rounded dims x + n) (sum_of_slabs dims vars) ∙ sym (sum_by-cons (rounded dims) x vars)
 
 -- ---- the record variables with one variable more
 
@@ -44,10 +50,10 @@ module _ (dims : List Dim) (xs : List Var) (x : Var) where
   not_nil [] = refl
   not_nil (y ∷ ys) = refl
 
-  bytes_more : (ys : List Var) → record_bytes dims (ys ++ x ∷ []) ≡ (if not (is_nil ys) then sum_by (rounded dims) ys + rounded dims x else slab dims x)
+  bytes_more : (ys : List Var) → record_bytes (map (slab dims) (ys ++ x ∷ [])) ≡ (if not (is_nil ys) then sum_by (rounded dims) ys + rounded dims x else slab dims x)
   bytes_more [] = refl
-  bytes_more (y ∷ []) = sum_by_push (rounded dims) (y ∷ []) x
-  bytes_more (y ∷ z ∷ ys) = sum_by_push (rounded dims) (y ∷ z ∷ ys) x
+  bytes_more (y ∷ []) = sum_of_slabs dims (y ∷ x ∷ []) ∙ sum_by_push (rounded dims) (y ∷ []) x
+  bytes_more (y ∷ z ∷ ys) = sum_of_slabs dims (y ∷ z ∷ (ys ++ x ∷ [])) ∙ sum_by_push (rounded dims) (y ∷ z ∷ ys) x
 
   pub sums_with_record : is_record_var dims x ≡ true → (t u : Totals) → Sums dims xs t → u.any ≡ true → u.sum ≡ t.sum + rounded dims x → u.size ≡ (if t.any then u.sum else slab dims x) → Sums dims (xs ++ x ∷ []) u
   sums_with_record is t u sums any sum_is size_is = record {
@@ -56,7 +62,7 @@ module _ (dims : List Dim) (xs : List Var) (x : Var) where
     size_is =
         let total : u.sum ≡ sum_by (rounded dims) (record_vars dims xs) + rounded dims x = sum_is ∙ ap (λ (n : ℕ). n + rounded dims x) sums.sum_is in
         size_is ∙ ap (λ (b : Bool). if b then u.sum else slab dims x) sums.any ∙ ap (λ (n : ℕ). if not (is_nil (record_vars dims xs)) then n else slab dims x) total
-        ∙ sym (ap (record_bytes dims) (with_record is) ∙ bytes_more (record_vars dims xs));
+        ∙ sym (ap (λ (ys : List Var). record_bytes (map (slab dims) ys)) (with_record is) ∙ bytes_more (record_vars dims xs));
   }
 
 -- ---- what the tests of the program say

@@ -10,17 +10,17 @@ use Rattle.ncc_layout.proofs.Searching.{Tells}
 
 -- ---- lists
 
-all_from : {A : Type 0} (P Q : A → Type 0) → ((a : A) → P a → Q a) → (xs : List A) → AllByRecursion P xs → AllByRecursion Q xs
+pub all_from : {A : Type 0} (P Q : A → Type 0) → ((a : A) → P a → Q a) → (xs : List A) → AllByRecursion P xs → AllByRecursion Q xs
 all_from P Q step [] all = tt
 all_from P Q step (x ∷ xs) all = (step x all.0, all_from P Q step xs all.1)
 
 -- ---- the first begin
 
-least_below : (m : ℕ) (rs : List Extent) → least_from m rs ≤ m
+pub least_below : (m : ℕ) (rs : List Extent) → least_from m rs ≤ m
 least_below m [] = omega arith
 least_below m (r ∷ rs) = omega (arith, least_below (min m r.begin) rs)
 
-least_all : (m : ℕ) (rs : List Extent) → AllByRecursion (λ r. least_from m rs ≤ r.begin) rs
+pub least_all : (m : ℕ) (rs : List Extent) → AllByRecursion (λ r. least_from m rs ≤ r.begin) rs
 least_all m [] = tt
 least_all m (r ∷ rs) = (omega (arith, least_below (min m r.begin) rs), least_all (min m r.begin) rs)
 

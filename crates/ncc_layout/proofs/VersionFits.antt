@@ -76,7 +76,7 @@ places_legal : (s : Schema) (n : ℕ) (vars : List Var) → AllByRecursion (λ x
 places_legal s n [] words begins = tt
 places_legal s n (x ∷ vars) words begins = (
   record {
-    vsize = subst (λ w. w < 256 ^ count_width_of s.version) (word_is s.version s.dims x words.0) (small_word s.version (rounded s.dims x) words.0);
+    vsize = subst (λ w. w < 256 ^ count_width_of s.version) (word_is s.version (rounded s.dims x) words.0) (small_word s.version (rounded s.dims x) words.0);
     begin = begins.0;
   },
   places_legal s (suc n) vars words.1 begins.1,

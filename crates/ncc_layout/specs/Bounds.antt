@@ -38,10 +38,6 @@ last_end_from (Some m) es = Some (greatest_from m es)
 abbrev pub last_end : List Extent → Option ℕ
 last_end es = last_end_from None es
 
-abbrev pub begin_sooner : Option ℕ → ℕ → ℕ
-begin_sooner None n = n
-begin_sooner (Some m) n = min m n
-
 abbrev pub end_later : Option ℕ → ℕ → ℕ
 end_later None n = n
 end_later (Some m) n = max m n
@@ -93,7 +89,8 @@ AreNumbered es = IsDistinct (λ d e. d.variable == e.variable) es
 abbrev pub RecordsJudged : (record_size : ℕ) → List Extent → Option (LayoutFaultKind × ℕ) → Type 0
 RecordsJudged record_size es None = AllByRecursion (InWindow record_size es) es × AllByRecursion (BeforeRecords es) es
 RecordsJudged record_size es (Some (RecordWindow, n)) = FailsFirst (InWindow record_size es) es n
-RecordsJudged record_size es (Some (FixedAfterRecords, n)) = AllByRecursion (InWindow record_size es) es × FailsFirst (BeforeRecords es) es n
+RecordsJudged record_size es (Some (FixedAfterRecords, n)) =
+    AllByRecursion (InWindow record_size es) es × FailsFirst (BeforeRecords es) es n
 RecordsJudged record_size es (Some (_, n)) = ⊥
 
 abbrev pub Judged : (header length record_size records : ℕ) → List Extent → Option (LayoutFaultKind × ℕ) → Type 0

@@ -1,5 +1,5 @@
--- Where each element lies, and what belongs to each (NetCDF Classic Format Specification, "Computing File Offsets").
-use Rattle.std.specs.Prelude.{◌≡◌, ℕ, suc, ◌+◌, ◌*◌, ◌<◌, ◌≤◌, List, [], ◌∷◌, map, length, get_or, Option, Some, None, Contains, Bool, true, false, if◌then◌else◌}
+-- Where each element lies, and what belongs to each (The NetCDF Classic Format Specification, "Notes on Computing File Offsets").
+use Rattle.std.specs.Prelude.{◌≡◌, ℕ, suc, ◌+◌, ◌*◌, ◌<◌, ◌≤◌, List, [], ◌∷◌, map, length, get_or, sum_by, Option, Some, None, Contains, Bool, true, false, if◌then◌else◌}
 use Rattle.std.specs.List.{AllByRecursion}
 use Rattle.ncc_values.specs.XType.{size_of}
 use Rattle.ncc_values.specs.declared.xtype.XType.TheVariants.{Byte}
@@ -9,8 +9,8 @@ use Rattle.ncc_schema.specs.declared.schema.Schema.{Schema}
 use Rattle.ncc_schema.specs.Schema.{Place}
 use Rattle.ncc_layout.specs.declared.extent.Extent.{Extent}
 use Rattle.ncc_layout.specs.declared.placed_var.PlacedVar.{PlacedVar}
-use Rattle.ncc_layout.specs.Sizes.{product, is_record_var, inner}
-use Rattle.ncc_layout.specs.Extents.{extent_of, record_count, NumberedFrom}
+use Rattle.ncc_layout.specs.Sizes.{up, product, is_record_var, inner, record_bytes, room}
+use Rattle.ncc_layout.specs.Extents.{extent_of, end, slabs_of_records, record_count, NumberedFrom}
 use Rattle.ncc_layout.specs.Rules.{Rules}
 
 -- ---- variables at their places
@@ -23,7 +23,8 @@ abbrev pub placed_var : List Dim → (records number : ℕ) → Var → Place �
 placed_var dims records n x p = record { xtype = x.xtype; shape = shape dims records x; extent = extent_of dims n x p }
 
 abbrev pub placed_from : List Dim → (records number : ℕ) → List Var → List Place → List PlacedVar
-placed_from dims records n (x ∷ vars) (p ∷ places) = placed_var dims records n x p ∷ placed_from dims records (suc n) vars places
+placed_from dims records n (x ∷ vars) (p ∷ places) =
+    placed_var dims records n x p ∷ placed_from dims records (suc n) vars places
 placed_from dims records n _ _ = []
 
 -- with so many records
@@ -35,7 +36,8 @@ placed_vars s places length = placed_with s places (record_count s places length
 
 -- the same over extents that were found before
 abbrev pub placed_on : List Dim → (records : ℕ) → List Var → List Extent → List PlacedVar
-placed_on dims records (x ∷ vars) (e ∷ es) = record { xtype = x.xtype; shape = shape dims records x; extent = e } ∷ placed_on dims records vars es
+placed_on dims records (x ∷ vars) (e ∷ es) =
+    record { xtype = x.xtype; shape = shape dims records x; extent = e } ∷ placed_on dims records vars es
 placed_on dims records _ _ = []
 
 -- a variable that isn't there
@@ -56,7 +58,8 @@ lengthened records false ls = ls
 
 -- the same variable where there are so many records
 abbrev pub with_records : (records : ℕ) → PlacedVar → PlacedVar
-with_records records x = record { xtype = x.xtype; shape = lengthened records x.extent.is_record x.shape; extent = x.extent }
+with_records records x =
+    record { xtype = x.xtype; shape = lengthened records x.extent.is_record x.shape; extent = x.extent }
 
 -- ---- places
 
@@ -71,9 +74,21 @@ offset_in record_size size true (n ∷ ls) (i ∷ is) = i * record_size + row_ma
 offset_in record_size size true _ _ = 0
 offset_in record_size size false ls is = row_major ls is * size
 
+abbrev pub offset_of : (record_size : ℕ) → PlacedVar → (index : List ℕ) → ℕ
+offset_of record_size x index = offset_in record_size (size_of x.xtype) x.extent.is_record x.shape index
+
 -- the first byte of an element
 abbrev pub place_of : (record_size : ℕ) → PlacedVar → (index : List ℕ) → ℕ
-place_of record_size x index = x.extent.begin + offset_in record_size (size_of x.xtype) x.extent.is_record x.shape index
+place_of record_size x index = x.extent.begin + offset_of record_size x index
+
+-- the record of an element, and its number in the slab
+abbrev pub record_in : Bool → (index : List ℕ) → ℕ
+record_in true [] = 0
+record_in true (i ∷ is) = i
+record_in false is = 0
+
+abbrev pub record_of : PlacedVar → (index : List ℕ) → ℕ
+record_of x index = record_in x.extent.is_record index
 
 -- as many indices as lengths, each below its own
 abbrev pub Inside : (lengths index : List ℕ) → Type 0
@@ -97,7 +112,17 @@ Owns record_size e byte =
 -- the variable and the index list are there, and this is the element's place
 abbrev pub IsPlace : (record_size : ℕ) → List PlacedVar → (number : ℕ) → (index : List ℕ) → Option ℕ → Type 0
 IsPlace record_size vars n index None = (n < length vars) × Inside (var_at vars n).shape index → ⊥
-IsPlace record_size vars n index (Some place) = (n < length vars) × Inside (var_at vars n).shape index × (place ≡ place_of record_size (var_at vars n) index)
+IsPlace record_size vars n index (Some place) =
+    (n < length vars) × Inside (var_at vars n).shape index × (place ≡ place_of record_size (var_at vars n) index)
+
+-- the element's bytes lie past the header and in the file
+abbrev pub LiesInFile : (header length : ℕ) → PlacedVar → (place : ℕ) → Type 0
+LiesInFile header length x place = (header ≤ place) × (place + size_of x.xtype ≤ length)
+
+-- the element's bytes lie in the slab of its variable in its record
+pub record LiesInSlab (record_size : ℕ) (x : PlacedVar) (index : List ℕ) : Type 0 where
+  pub begins : x.extent.begin + record_of x index * record_size ≤ place_of record_size x index
+  pub ends : place_of record_size x index + size_of x.xtype ≤ end x.extent + record_of x index * record_size
 
 -- ---- what holds of variables that are placed
 
@@ -116,7 +141,14 @@ pub record AreLaid (header length record_size records : ℕ) (vars : List Placed
   pub numbered : NumberedFrom 0 (map (λ x. x.extent) vars)
   pub rules : Rules header length record_size records (map (λ x. x.extent) vars)
 
+-- no size is too large, and the size of a record is that of its variables
+pub record AreSized (record_size : ℕ) (vars : List PlacedVar) : Type 0 where
+  pub each : AllByRecursion (λ x. up x.extent.slab ≤ room) vars
+  pub together : sum_by up (slabs_of_records (map (λ x. x.extent) vars)) ≤ room
+  pub record_size_is : record_size ≡ record_bytes (slabs_of_records (map (λ x. x.extent) vars))
+
 -- every element has bytes of its own, past the header and inside the file
 pub record Own (header length record_size : ℕ) (vars : List PlacedVar) : Type 0 where
   pub inside : (e : Element vars) (byte : ℕ) → Owns record_size e byte → (header ≤ byte) × (byte < length)
-  pub apart : (d e : Element vars) (byte : ℕ) → Owns record_size d byte → Owns record_size e byte → (d.var ≡ e.var) × (d.index ≡ e.index)
+  pub apart : (d e : Element vars) (byte : ℕ) → Owns record_size d byte → Owns record_size e byte
+      → (d.var ≡ e.var) × (d.index ≡ e.index)

@@ -1,5 +1,6 @@
--- Where variables lie, and how many records there are (NetCDF Classic Format Specification, "Computing File Offsets").
-use Rattle.std.specs.Prelude.{◌≡◌, ℕ, suc, ◌+◌, ◌-◌, ◌/◌, ltb, List, [], ◌∷◌, max, filter, not, if◌then◌else◌}
+-- Where variables lie, and how many records there are (The NetCDF Classic Format Specification, "Notes on Computing File Offsets" and "Note on streaming data").
+use Rattle.std.specs.Prelude.{◌≡◌, ℕ, suc, ◌+◌, ◌-◌, ◌/◌, ◌≤◌, ltb, List, [], ◌∷◌, map, Contains, Option, Some, None, min, max, filter, not, if◌then◌else◌}
+use Rattle.std.specs.List.{AllByRecursion}
 use Rattle.ncc_schema.specs.declared.schema.Count.{Count}
 use Rattle.ncc_schema.specs.declared.schema.Count.TheVariants.{Known, Streaming}
 use Rattle.ncc_schema.specs.declared.schema.Dim.{Dim}
@@ -38,6 +39,24 @@ abbrev pub records_of : List Extent → List Extent
 records_of es = filter (λ e. e.is_record) es
 
 -- ---- records
+
+-- the slabs of a record
+abbrev pub slabs_of_records : List Extent → List ℕ
+slabs_of_records es = map (λ e. e.slab) (records_of es)
+
+abbrev pub begin_sooner : Option ℕ → ℕ → ℕ
+begin_sooner None n = n
+begin_sooner (Some m) n = min m n
+
+-- the least begin, where there is one
+abbrev pub least_begin : List Extent → Option ℕ
+least_begin [] = None
+least_begin (e ∷ es) = Some (begin_sooner (least_begin es) e.begin)
+
+-- it is the begin of one of them, and no begin is less
+abbrev pub LeastBegin : List Extent → Option ℕ → Type 0
+LeastBegin es None = es ≡ []
+LeastBegin es (Some begin) = AllByRecursion (λ e. begin ≤ e.begin) es × Contains (map (λ e. e.begin) es) begin
 
 abbrev pub greatest_end : List Extent → ℕ
 greatest_end [] = 0

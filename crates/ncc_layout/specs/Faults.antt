@@ -1,5 +1,5 @@
 -- Which layout rule fails first, and for which variable.
-use Rattle.std.specs.Prelude.{◌≡◌, ℕ, zero, suc, ◌<◌, ◌⊎◌, List, [], ◌∷◌, Contains}
+use Rattle.std.specs.Prelude.{◌≡◌, ℕ, zero, suc, ◌<◌, ◌≤◌, ◌⊎◌, List, [], ◌∷◌, Contains}
 use Rattle.std.specs.List.{AllByRecursion}
 use Rattle.ncc_schema.specs.declared.schema.Schema.{Schema}
 use Rattle.ncc_schema.specs.Schema.{Place}
@@ -7,7 +7,7 @@ use Rattle.ncc_layout.specs.declared.extent.Extent.{Extent}
 use Rattle.ncc_layout.specs.declared.fault.LayoutFaultKind.{LayoutFaultKind}
 use Rattle.ncc_layout.specs.declared.fault.LayoutFaultKind.TheVariants.{TooLarge, InHeader, Overlap, RecordWindow, FixedAfterRecords, Truncated}
 use Rattle.ncc_layout.specs.Sizes.{Fit, FirstTooLarge, record_size_of}
-use Rattle.ncc_layout.specs.Extents.{extents_of, fixed_of, records_of, record_count}
+use Rattle.ncc_layout.specs.Extents.{extents_of, end, fixed_of, records_of, record_count}
 use Rattle.ncc_layout.specs.Rules.{PastHeader, InWindow, BeforeRecords, Within, Apart, AllApart}
 
 -- ---- one rule
@@ -21,6 +21,24 @@ FailsFirst rule (a ∷ items) (suc n) = rule a × FailsFirst rule items n
 -- by begin, and then by number
 abbrev pub Before : Extent → Extent → Type 0
 Before d e = (d.begin < e.begin) ⊎ ((d.begin ≡ e.begin) × (d.variable < e.variable))
+
+abbrev pub InOrderFrom : Extent → List Extent → Type 0
+InOrderFrom d [] = Unit {0}
+InOrderFrom d (e ∷ es) = Before d e × InOrderFrom e es
+
+-- each comes before the next
+abbrev pub InOrder : List Extent → Type 0
+InOrder [] = Unit {0}
+InOrder (d ∷ es) = InOrderFrom d es
+
+abbrev pub FirstInsideFrom : Extent → List Extent → (number : ℕ) → Type 0
+FirstInsideFrom d [] n = ⊥
+FirstInsideFrom d (e ∷ es) n = ((e.begin < end d) × (e.variable ≡ n)) ⊎ ((end d ≤ e.begin) × FirstInsideFrom e es n)
+
+-- the first that begins before the one before it ends
+abbrev pub FirstInside : List Extent → (number : ℕ) → Type 0
+FirstInside [] n = ⊥
+FirstInside (d ∷ es) n = FirstInsideFrom d es n
 
 -- in that order, the first that shares a byte with one before it
 pub record FirstShared (es : List Extent) (number : ℕ) : Type 0 where
@@ -58,7 +76,8 @@ RuleFails header length record_size records es Truncated n =
 
 abbrev pub PlaceFails : Schema → List Place → (header length : ℕ) → LayoutFaultKind → ℕ → Type 0
 PlaceFails s places header length kind n =
-    Fit s.dims s.vars × RuleFails header length (record_size_of s) (record_count s places length) (extents_of s places) kind n
+    Fit s.dims s.vars
+    × RuleFails header length (record_size_of s) (record_count s places length) (extents_of s places) kind n
 
 -- the first fault of a file of this length, with this header, and the number of the variable that has it
 abbrev pub FirstFault : Schema → List Place → (header length : ℕ) → LayoutFaultKind → ℕ → Type 0

@@ -1,4 +1,4 @@
--- Sizes of variables and of a record (NetCDF Classic Format Specification, "Note on vsize" and "Note on padding").
+-- Sizes of variables and of a record (The NetCDF Classic Format Specification, "Note on vsize" and "Note on padding").
 use Rattle.std.specs.Prelude.{◌≡◌, ℕ, ◌+◌, ◌-◌, ◌*◌, ◌^◌, ◌<◌, ◌≤◌, ltb, not, Option, Some, None, Result, Ok, Err, List, [], ◌∷◌, ◌++◌, length, map, take, drop, filter, get_or, sum_by, Bool, true, false, if◌then◌else◌}
 use Rattle.std.specs.List.{AllByRecursion}
 use Rattle.ncc_values.specs.Padding.{padding_of}
@@ -56,14 +56,17 @@ record_vars dims vars = filter (is_record_var dims) vars
 abbrev pub record_sum : List Dim → List Var → ℕ
 record_sum dims vars = sum_by (rounded dims) (record_vars dims vars)
 
--- the slabs of one record, each with its padding; a lone one has none
-abbrev pub record_bytes : List Dim → List Var → ℕ
-record_bytes dims [] = 0
-record_bytes dims (x ∷ []) = slab dims x
-record_bytes dims (x ∷ y ∷ vars) = sum_by (rounded dims) (x ∷ y ∷ vars)
+-- the bytes of a record with these slabs, each with its padding; a lone one has none
+abbrev pub record_bytes : (slabs : List ℕ) → ℕ
+record_bytes [] = 0
+record_bytes (n ∷ []) = n
+record_bytes (m ∷ n ∷ slabs) = sum_by up (m ∷ n ∷ slabs)
+
+abbrev pub record_slabs : List Dim → List Var → List ℕ
+record_slabs dims vars = map (slab dims) (record_vars dims vars)
 
 abbrev pub record_size_of : Schema → ℕ
-record_size_of s = record_bytes s.dims (record_vars s.dims s.vars)
+record_size_of s = record_bytes (record_slabs s.dims s.vars)
 
 -- ---- what fits
 
@@ -71,7 +74,7 @@ record_size_of s = record_bytes s.dims (record_vars s.dims s.vars)
 abbrev pub room : ℕ
 room = 2 ^ 63 - 4
 
--- no size is too large
+-- TooLarge: no padded size, nor the sum of those of the record variables, is more than the greatest size
 pub record Fit (dims : List Dim) (vars : List Var) : Type 0 where
   pub each : AllByRecursion (λ x. rounded dims x ≤ room) vars
   pub together : record_sum dims vars ≤ room
@@ -104,12 +107,14 @@ is_nil (x ∷ vars) = false
 pub record Sums (dims : List Dim) (vars : List Var) (t : Totals) : Type 0 where
   pub any : t.any ≡ not (is_nil (record_vars dims vars))
   pub sum_is : t.sum ≡ record_sum dims vars
-  pub size_is : t.size ≡ record_bytes dims (record_vars dims vars)
+  pub size_is : t.size ≡ record_bytes (record_slabs dims vars)
 
 -- what becomes of sums over the variables before, with this one
 abbrev pub Adds : List Dim → List Var → Var → Option (ℕ × Totals) → Type 0
 Adds dims before x None = Fit dims (before ++ x ∷ []) → ⊥
-Adds dims before x (Some (n, t)) = (n ≡ slab dims x) × (n ≤ room) × (t.sum ≤ room) × Sums dims (before ++ x ∷ []) t × Fit dims (before ++ x ∷ [])
+Adds dims before x (Some (n, t)) =
+    (n ≡ slab dims x) × (n ≤ room) × (t.sum ≤ room)
+    × Sums dims (before ++ x ∷ []) t × Fit dims (before ++ x ∷ [])
 
 -- a size that is not too large
 abbrev pub in_room : ℕ → Option ℕ

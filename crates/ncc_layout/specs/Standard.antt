@@ -1,5 +1,5 @@
--- The standard placement of a schema that is to be written.
-use Rattle.std.specs.Prelude.{ℕ, suc, ◌+◌, ◌-◌, ◌*◌, ◌^◌, ◌<◌, ◌≤◌, ltb, Option, Some, None, List, [], ◌∷◌, take, filter, sum_by, not, if◌then◌else◌}
+-- The standard placement of a schema that is to be written (The NetCDF Classic Format Specification, "The Format in Detail").
+use Rattle.std.specs.Prelude.{◌≡◌, ℕ, suc, ◌+◌, ◌-◌, ◌*◌, ◌%◌, ◌^◌, ◌<◌, ◌≤◌, ltb, map, AllPairs, Option, Some, None, List, [], ◌∷◌, take, filter, sum_by, not, if◌then◌else◌}
 use Rattle.std.specs.List.{AllByRecursion}
 use Rattle.ncc_values.specs.declared.version.Version.{Version}
 use Rattle.ncc_values.specs.declared.version.Version.TheVariants.{V1, V2, V5}
@@ -8,24 +8,34 @@ use Rattle.ncc_schema.specs.declared.schema.Var.{Var}
 use Rattle.ncc_schema.specs.declared.schema.Schema.{Schema}
 use Rattle.ncc_schema.specs.Schema.{Place, streaming_mark, offset_limit}
 use Rattle.ncc_schema.specs.Names.{begin_at, header_length}
-use Rattle.ncc_layout.specs.Sizes.{is_record_var, rounded, record_sum, record_size_of, room, Fit}
+use Rattle.ncc_layout.specs.Sizes.{up, is_record_var, rounded, record_sum, record_size_of, room, Fit}
+use Rattle.ncc_layout.specs.declared.extent.Extent.{Extent}
+use Rattle.ncc_layout.specs.Extents.{fixed_of, records_of}
 
 -- ---- the word for a size
 
--- the greatest size that a variable's word can tell, and the writer writes
+-- the greatest size that a word of four bytes tells, in CDF-1 and CDF-2 ("Note on vsize")
+abbrev pub most_vsize : ℕ
+most_vsize = 2 ^ 32 - 4
+
+-- the word of four bytes for each size past that ("Note on vsize")
+abbrev pub past_vsize : ℕ
+past_vsize = 2 ^ 32 - 1
+
+abbrev pub short_word : (rounded : ℕ) → ℕ
+short_word n = if ltb most_vsize n then past_vsize else n
+
+-- the word for a variable of this rounded size
+abbrev pub vsize_word : Version → (rounded : ℕ) → ℕ
+vsize_word V1 n = short_word n
+vsize_word V2 n = short_word n
+vsize_word V5 n = n
+
+-- the greatest size that is written
 abbrev pub size_limit : Version → ℕ
-size_limit V1 = 2 ^ 32 - 4
-size_limit V2 = 2 ^ 32 - 4
+size_limit V1 = most_vsize
+size_limit V2 = most_vsize
 size_limit V5 = room
-
--- the word for a size past that, in the versions with four bytes for it
-abbrev pub past_limit : Version → ℕ → ℕ
-past_limit V1 n = 2 ^ 32 - 1
-past_limit V2 n = 2 ^ 32 - 1
-past_limit V5 n = n
-
-abbrev pub vsize_word : Version → List Dim → Var → ℕ
-vsize_word v dims x = let n = rounded dims x in if ltb (size_limit v) n then past_limit v n else n
 
 -- ---- the placement
 
@@ -41,7 +51,7 @@ standard_begin s n x =
     else header_length s + fixed_sum s.dims (take n s.vars)
 
 abbrev pub standard_place : Schema → (number : ℕ) → Var → Place
-standard_place s n x = record { vsize = vsize_word s.version s.dims x; begin = standard_begin s n x }
+standard_place s n x = record { vsize = vsize_word s.version (rounded s.dims x); begin = standard_begin s n x }
 
 abbrev pub standard_from : Schema → (number : ℕ) → List Var → List Place
 standard_from s n [] = []
@@ -72,6 +82,26 @@ pub record FitsVersion (s : Schema) (records : ℕ) : Type 0 where
 -- the version can tell where each variable begins
 abbrev pub OffsetsFit : Schema → Type 0
 OffsetsFit s = AllByRecursion (λ p. p.begin < offset_limit s.version) (standard_places s)
+
+-- ---- what a standard placement keeps besides the rules
+
+-- one behind the other from this offset on, each with its padding
+abbrev pub PackedFrom : (begin : ℕ) → List Extent → Type 0
+PackedFrom begin [] = Unit {0}
+PackedFrom begin (e ∷ es) = (e.begin ≡ begin) × PackedFrom (begin + up e.slab) es
+
+-- the fixed variables one behind the other from the header on, and behind them those of record 0
+pub record ArePacked (header : ℕ) (es : List Extent) : Type 0 where
+  pub fixed : PackedFrom header (fixed_of es)
+  pub records : PackedFrom (header + sum_by up (map (λ e. e.slab) (fixed_of es))) (records_of es)
+
+-- none begins before an earlier one of its kind
+pub record AreInTurn (es : List Extent) : Type 0 where
+  pub fixed : AllPairs (λ d e. d.begin ≤ e.begin) (fixed_of es)
+  pub records : AllPairs (λ d e. d.begin ≤ e.begin) (records_of es)
+
+abbrev pub AreAligned : List Extent → Type 0
+AreAligned es = AllByRecursion (λ e. e.begin % 4 ≡ 0) es
 
 -- ---- one record more
 

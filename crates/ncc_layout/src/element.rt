@@ -1,8 +1,8 @@
 //! Where an element lies.
 
-ghost use Rattle.std.specs.Prelude.{◌↔◌, ◌<◌, ◌^◌, ◌≡◌, IsTrue};
-ghost use Rattle.ncc_values.specs.XType.{size_of};
-ghost use Rattle.ncc_layout.specs.Elements.{row_major, offset_in, Inside, IsPlace};
+ghost use Rattle.std.specs.Prelude.{◌↔◌, ◌<◌, ◌^◌, ◌≡◌, IfSome, IsTrue};
+ghost use Rattle.ncc_layout.specs.Elements.{row_major, offset_of, Inside, IsPlace};
+ghost use Rattle.ncc_layout.specs.Placed.{record_size_of_file, vars_of, IsInFile};
 
 use crate::placed_file::Placed;
 use crate::placed_var::PlacedVar;
@@ -38,8 +38,8 @@ fn row_major(lengths: &[u64], index: &[u64]) -> u64
 /// How far from its variable's begin an element lies.
 fn offset_in(var: &PlacedVar, record_size: u64, index: &[u64]) -> u64
     requires inside { Inside var.now.shape index.now }
-    requires fits { offset_in record_size (size_of var.now.xtype) var.now.extent.is_record var.now.shape index.now < 2 ^ 64 }
-    ensures { result ≡ offset_in record_size (size_of var.now.xtype) var.now.extent.is_record var.now.shape index.now }
+    requires fits { offset_of record_size var.now index.now < 2 ^ 64 }
+    ensures { result ≡ offset_of record_size var.now index.now }
 {
     let lengths = var.shape.as_slice();
     let size = var.xtype.size() as u64;
@@ -55,7 +55,8 @@ fn offset_in(var: &PlacedVar, record_size: u64, index: &[u64]) -> u64
 /// The offset of an element's first byte, by the number of its variable and an index for each of
 /// its dimensions; None where there is no such variable or element.
 pub fn place(placed: &Placed, var: usize, index: &[u64]) -> Option<u64>
-    ensures { IsPlace placed.now.record_size placed.now.vars.items var index.now result }
+    ensures place { IsPlace (record_size_of_file placed.now) (vars_of placed.now) var index.now result }
+    ensures inside { IfSome result (IsInFile placed.now var) }
 {
     let vars = placed.vars();
     if var >= vars.len() {

@@ -4,10 +4,10 @@ ghost use Rattle.std.specs.Prelude.{IfOk};
 ghost use Rattle.std.specs.List.{AllByRecursion};
 ghost use Rattle.ncc_layout.specs.Bounds.{HasBytes, AreNumbered, RecordsJudged, Judged};
 
-use crate::bounds::first_begin;
 use crate::extent::Extent;
 use crate::fault::LayoutFaultKind;
 use crate::overlap::overlap;
+use crate::records::first_begin;
 use crate::rules::{in_header, out_of_window, past_records, truncated};
 use std::alloc::{AllocError, Global};
 

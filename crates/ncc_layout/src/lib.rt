@@ -1,34 +1,34 @@
 //! Where the elements of a netCDF classic file lie: sizes, places, and the rules by which no two share a byte.
 #![tactic(auto)]
 
-mod bounds;
 mod element;
 mod extent;
 mod fault;
-mod fitting;
 mod judging;
 pub mod laws;
-mod numrecs;
 mod overlap;
 mod placed_file;
 mod placed_var;
 mod placing;
 mod plan_fault;
 mod planning;
+mod records;
 mod rules;
 mod size_list;
 mod sizing;
 #[cfg(test)]
 mod tests;
+mod vsize;
 
 pub use element::place;
 pub use extent::Extent;
 pub use fault::{LayoutFault, LayoutFaultKind, PlaceError, SizeError};
-pub use numrecs::next_count;
 pub use placed_file::Placed;
 pub use placed_var::PlacedVar;
 pub use placing::placed;
 pub use plan_fault::PlanFault;
 pub use planning::standard;
+pub use records::next_count;
 pub use size_list::Sizes;
 pub use sizing::sizes;
+pub use vsize::vsize_word;

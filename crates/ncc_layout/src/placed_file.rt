@@ -2,10 +2,11 @@
 
 ghost use Rattle.std.specs.Prelude.{◌≡◌, ◌+◌, ◌<◌, ◌^◌, length, map};
 ghost use Rattle.std.specs.List.{AllByRecursion};
-ghost use Rattle.ncc_layout.specs.Rules.{Rules};
-ghost use Rattle.ncc_layout.specs.Elements.{AreLaid, HasLengths, var_at, with_records};
+ghost use Rattle.ncc_layout.specs.Extents.{records_of, least_begin, LeastBegin};
+ghost use Rattle.ncc_layout.specs.Elements.{AreLaid, AreSized, HasLengths, var_at, with_records};
 
 use crate::placed_var::PlacedVar;
+use crate::records::first_begin_of;
 use ncc_values::XType;
 
 /// The variables of a file at their places. All layout rules hold of them.
@@ -18,9 +19,12 @@ pub struct Placed {
     vars: Vec<PlacedVar>,
     ghost fits: { file_length < 2 ^ 64 },
     ghost laid: { ∥ AreLaid header_length file_length record_size records vars.items ∥₁ },
+    ghost sized: { ∥ AreSized record_size vars.items ∥₁ },
 }
 
 impl Placed {
+    ghost use Rattle.ncc_layout.specs.Placed.{header_length_of, file_length_of, record_size_of_file, records_of_file, vars_of, extents_of_file, HasRoom, HasOneMore};
+
     /// The variables at these places.
     pub(crate) fn new(
         header_length: u64,
@@ -29,12 +33,13 @@ impl Placed {
         records: u64,
         vars: Vec<PlacedVar>,
     ) -> Placed
-        requires { AreLaid header_length file_length record_size records vars.items }
-        ensures header { result.header_length ≡ header_length }
-        ensures file { result.file_length ≡ file_length }
-        ensures stride { result.record_size ≡ record_size }
-        ensures records { result.records ≡ records }
-        ensures vars { result.vars.items ≡ vars.items }
+        requires laid { AreLaid header_length file_length record_size records vars.items }
+        requires sized { AreSized record_size vars.items }
+        ensures header { header_length_of result ≡ header_length }
+        ensures file { file_length_of result ≡ file_length }
+        ensures stride { record_size_of_file result ≡ record_size }
+        ensures records { records_of_file result ≡ records }
+        ensures vars { vars_of result ≡ vars.items }
     {
         Placed {
             header_length,
@@ -45,72 +50,92 @@ impl Placed {
         }
     }
 
+    /// The bytes of the header.
+    pub fn header_length(&self) -> u64
+        ensures { result ≡ header_length_of self.now }
+    {
+        self.header_length
+    }
+
+    /// The bytes of the file.
+    pub fn file_length(&self) -> u64
+        ensures { result ≡ file_length_of self.now }
+    {
+        self.file_length
+    }
+
     /// The number of records.
     pub fn records(&self) -> u64
-        ensures { result ≡ self.now.records }
+        ensures { result ≡ records_of_file self.now }
     {
         self.records
     }
 
     /// The bytes of a record.
     pub fn record_size(&self) -> u64
-        ensures { result ≡ self.now.record_size }
+        ensures { result ≡ record_size_of_file self.now }
     {
         self.record_size
     }
 
+    /// Where the records begin: the least begin of a record variable, where there is one.
+    pub fn records_begin(&self) -> Option<u64>
+        ensures value { result ≡ least_begin (records_of (extents_of_file self.now)) }
+        ensures least { LeastBegin (records_of (extents_of_file self.now)) result }
+    {
+        first_begin_of(self.vars.as_slice())
+    }
+
     /// The variables, in their order.
     pub fn vars(&self) -> &[PlacedVar]
-        ensures { result.now ≡ self.now.vars.items }
+        ensures { result.now ≡ vars_of self.now }
     {
         self.vars.as_slice()
     }
 
     pub fn xtype(&self, var: usize) -> XType
-        requires { var < length self.now.vars.items }
-        ensures { result ≡ (var_at self.now.vars.items var).xtype }
+        requires { var < length (vars_of self.now) }
+        ensures { result ≡ (var_at (vars_of self.now) var).xtype }
     {
         self.vars[var].xtype
     }
 
     /// Is its first dimension the record dimension?
     pub fn is_record(&self, var: usize) -> bool
-        requires { var < length self.now.vars.items }
-        ensures { result ≡ (var_at self.now.vars.items var).extent.is_record }
+        requires { var < length (vars_of self.now) }
+        ensures { result ≡ (var_at (vars_of self.now) var).extent.is_record }
     {
         self.vars[var].extent.is_record
     }
 
     /// The length of each dimension; of a record variable the first is the number of records.
     pub fn shape(&self, var: usize) -> &[u64]
-        requires { var < length self.now.vars.items }
-        ensures { result.now ≡ (var_at self.now.vars.items var).shape }
+        requires { var < length (vars_of self.now) }
+        ensures { result.now ≡ (var_at (vars_of self.now) var).shape }
     {
         self.vars[var].shape.as_slice()
     }
 
     /// The offset in bytes of the variable's first byte.
     pub fn begin(&self, var: usize) -> u64
-        requires { var < length self.now.vars.items }
-        ensures { result ≡ (var_at self.now.vars.items var).extent.begin }
+        requires { var < length (vars_of self.now) }
+        ensures { result ≡ (var_at (vars_of self.now) var).extent.begin }
     {
         self.vars[var].extent.begin
     }
 
     /// The bytes of a fixed variable, or of a record variable in one record, without padding.
     pub fn slab(&self, var: usize) -> u64
-        requires { var < length self.now.vars.items }
-        ensures { result ≡ (var_at self.now.vars.items var).extent.slab }
+        requires { var < length (vars_of self.now) }
+        ensures { result ≡ (var_at (vars_of self.now) var).extent.slab }
     {
         self.vars[var].extent.slab
     }
 
-    ghost use Rattle.ncc_layout.specs.Placed.{HasOneMore};
-
     /// One record more, in a file of this length that has room for it. It takes no memory.
     pub fn one_more(&mut self, file_length: u64)
-        requires countable { self.old.records + 1 < 2 ^ 64 }
-        requires rules { Rules self.old.header_length file_length self.old.record_size (self.old.records + 1) (map (λ x. x.extent) self.old.vars.items) }
+        requires countable { records_of_file self.old + 1 < 2 ^ 64 }
+        requires rules { HasRoom self.old file_length }
         ensures { HasOneMore self.old file_length self.new }
     {
         let records = self.records + 1;

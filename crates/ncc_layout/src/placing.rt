@@ -4,18 +4,18 @@ ghost use Rattle.std.specs.Prelude.{◌≡◌, ◌<◌, IfOk, length};
 ghost use Rattle.ncc_schema.specs.Schema.{places_of, LegalDims, Sound, Legal};
 ghost use Rattle.ncc_layout.specs.Sizes.{AreSizes};
 ghost use Rattle.ncc_layout.specs.Extents.{extents_of};
-ghost use Rattle.ncc_layout.specs.Elements.{shape, placed_on, AreLaid};
-ghost use Rattle.ncc_layout.specs.Placed.{fault_at, IsFrame, HasLaid, PlacedAs};
+ghost use Rattle.ncc_layout.specs.Elements.{shape, placed_on, AreSized};
+ghost use Rattle.ncc_layout.specs.Placed.{fault_at, IsFrame, IsLaid, HasLaid, PlacedAs};
 
-use crate::bounds::record_count;
 use crate::extent::Extent;
 use crate::fault::{LayoutFault, LayoutFaultKind, PlaceError};
 use crate::judging::{Frame, first_fault};
 use crate::placed_file::Placed;
 use crate::placed_var::PlacedVar;
+use crate::records::record_count;
 use crate::size_list::Sizes;
 use crate::sizing::{inner_dims, is_record_var};
-use ncc_header::{Dim, Header, Schema, Var, VarPlace};
+use ncc_schema::{Dim, Header, Schema, Var, VarPlace};
 use ncc_values::Seq;
 use std::alloc::{AllocError, Global};
 
@@ -117,7 +117,8 @@ fn lay(
 ) -> Result<Placed, AllocError>
     requires sound { Sound schema.now }
     requires long { length extents.now ≡ length schema.now.vars }
-    requires laid { AreLaid frame.header_length frame.file_length frame.record_size frame.records (placed_on schema.now.dims frame.records schema.now.vars extents.now) }
+    requires laid { IsLaid frame (placed_on schema.now.dims frame.records schema.now.vars extents.now) }
+    requires sized { AreSized frame.record_size (placed_on schema.now.dims frame.records schema.now.vars extents.now) }
     ensures { IfOk result (HasLaid frame (placed_on schema.now.dims frame.records schema.now.vars extents.now)) }
 {
     let vars = vars_of(alloc, schema, extents, frame.records)?;

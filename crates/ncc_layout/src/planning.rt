@@ -7,10 +7,13 @@ ghost use Rattle.ncc_layout.specs.Sizes.{is_record_var, rounded};
 ghost use Rattle.ncc_layout.specs.Standard.{FitsVersion};
 ghost use Rattle.ncc_layout.specs.Plans.{IsKnown, known, AreEnds, IsStandard, IsPlan, PlanFails};
 
-use crate::fitting::{fits_version, offsets_fit, records_begin};
+mod fitting;
+
 use crate::plan_fault::PlanFault;
 use crate::sizing::{is_record_var, sizes};
-use ncc_header::{Count, Dim, Schema, Var, VarPlace, header_length, var_size, vars_start};
+use crate::vsize::vsize_word;
+use fitting::{fits_version, offsets_fit, records_begin};
+use ncc_schema::{Count, Dim, Schema, Var, VarPlace, header_length, var_size, vars_start};
 use std::alloc::{AllocError, Global};
 
 /// Where the variables so far end.
@@ -40,7 +43,8 @@ fn begin_of(ends: Ends, dims: &[Dim], var: &Var) -> u64
 fn with_var(ends: Ends, schema: &Schema, var: &Var, size: u64) -> Ends
     requires legal { LegalDims schema.now.dims var.now.dims }
     requires size { size ≡ rounded schema.now.dims var.now }
-    ensures { (before : List Var) → AreEnds schema.now before ends → AreEnds schema.now (before ++ var.now ∷ []) result }
+    ensures { (before : List Var) → AreEnds schema.now before ends
+        → AreEnds schema.now (before ++ var.now ∷ []) result }
 {
     let mut more = ends;
     more.header = ends.header.saturating_add(var_size(schema.version, var));
@@ -75,7 +79,7 @@ fn placed(
         let begin = begin_of(ends, dims, var);
         ends = with_var(ends, schema, var, sizes[number]);
         places.push(VarPlace {
-            vsize: sizes[number],
+            vsize: vsize_word(schema.version, sizes[number]),
             begin,
             begin_at: ends.header - width,
         })?;
@@ -99,7 +103,9 @@ fn known(count: Count) -> u64
 pub fn standard(alloc: Global, schema: &Schema) -> Result<Vec<VarPlace>, PlanFault>
     requires sound { Sound schema.now }
     requires known { IsKnown schema.now.count }
-    ensures plan { MatchResult result (λ places. IsPlan schema.now (known schema.now.count) places.items) (PlanFails schema.now (known schema.now.count)) }
+    ensures plan { MatchResult result
+        (λ places. IsPlan schema.now (known schema.now.count) places.items)
+        (PlanFails schema.now (known schema.now.count)) }
     ensures legal { IfOk result (λ places. Legal schema.now (places_of places.items)) }
 {
     let records = known(schema.count);
@@ -120,6 +126,3 @@ pub fn standard(alloc: Global, schema: &Schema) -> Result<Vec<VarPlace>, PlanFau
     }
     Ok(places)
 }
-
-#[cfg(test)]
-mod tests;

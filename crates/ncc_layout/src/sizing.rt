@@ -8,7 +8,7 @@ ghost use Rattle.ncc_schema.specs.declared.schema.Var.{Var};
 
 use crate::fault::SizeError;
 use crate::size_list::Sizes;
-use ncc_header::{Dim, Schema, Var};
+use ncc_schema::{Dim, Schema, Var};
 use ncc_values::{Seq, pad};
 use std::alloc::Global;
 
@@ -109,7 +109,8 @@ fn with_slab(totals: Totals, slab: u64) -> Option<Totals>
 fn add_var(totals: Totals, dims: &[Dim], var: &Var) -> Option<(u64, Totals)>
     requires legal { LegalDims dims.now var.now.dims }
     requires room { totals.sum ≤ room }
-    ensures { (before : List Var) → Sums dims.now before totals → Fit dims.now before → Adds dims.now before var.now result }
+    ensures { (before : List Var) → Sums dims.now before totals → Fit dims.now before
+        → Adds dims.now before var.now result }
 {
     let slab = fitting_slab(dims, var)?;
     if !is_record_var(dims, var) {

@@ -1,5 +1,7 @@
-//! Files by their words, and the layout that they have.
+//! Layouts of schemas that stand in memory.
 
-mod fixtures;
+mod many;
 mod memory;
-mod rows;
+mod plans;
+mod schemas;
+mod sizes;

@@ -1,22 +1,31 @@
 //! Layout where memory may be refused. The test itself takes none: scripts/refuse_test_memory.sh
 //! refuses one allocation after another.
 
-use super::fixtures::*;
-use crate::PlanFault;
+use super::many::said_of_scalars;
+use super::plans::last_place;
+use super::schemas::one;
+use crate::{PlaceError, PlanFault};
+use ncc_schema::VarPlace;
+use ncc_values::{Version, XType};
+use std::alloc::Global;
 use std::test::*;
 
 #[test]
 fn places_without_memory(rt: HostRuntime) {
-    match said_of_file(rt.alloc(), &TWO_RECORD_VARIABLES, 130) {
-        Said::Records(n) => assert!(rt; n == 2),
-        other => assert!(rt; other == Said::Memory),
+    match said_of_scalars(rt.alloc(), 2, None) {
+        Ok(records) => assert!(rt; records == 0),
+        Err(error) => assert!(rt; error == PlaceError::Memory),
     }
+}
+
+fn last_begin(alloc: Global) -> Result<VarPlace, PlanFault> {
+    last_place(alloc, &one(alloc, Version::V1, &[3], XType::Short)?)
 }
 
 #[test]
 fn plans_without_memory(rt: HostRuntime) {
-    match standard_begin(rt.alloc(), &FIXED) {
-        Ok(begin) => assert!(rt; begin == 80),
+    match last_begin(rt.alloc()) {
+        Ok(place) => assert!(rt; place.begin == 80),
         Err(error) => assert!(rt; error == PlanFault::Memory),
     }
 }

@@ -8,9 +8,9 @@ use Rattle.ncc_layout.specs.declared.extent.Extent.{Extent}
 use Rattle.ncc_layout.specs.declared.fault.PlaceError.{PlaceError}
 use Rattle.ncc_layout.specs.Bounds.{HasBytes, AreNumbered}
 use Rattle.ncc_layout.specs.Extents.{extents_of}
-use Rattle.ncc_layout.specs.Elements.{placed_on, AreLaid}
+use Rattle.ncc_layout.specs.Elements.{placed_on, AreLaid, AreSized}
 use Rattle.ncc_layout.specs.Placed.{fault_at, HasLaid, PlacedAs}
-use Rattle.ncc_layout.proofs.Laying.{extents_have_bytes, numbered, numbers_differ, extents_long, fault_found, fault_there, rules_hold, laid_so, holds}
+use Rattle.ncc_layout.proofs.Laying.{extents_have_bytes, numbered, numbers_differ, extents_long, fault_found, fault_there, rules_hold, laid_so, sized_so, holds}
 use Rattle.ncc_layout.proofs.placing.placed.Goals as goal
 
 pub first_fault-requires : goal.first_fault-requires
@@ -53,6 +53,8 @@ lay-requires c =
       long = ap length (c.deref-in-None.ensures.value ∙ c.in_ok-extents.ensures) ∙ extents_long header.schema (places_of header.places) c.requires.legal.number;
       laid = subst (λ (es : List Extent). AreLaid f.header_length f.file_length f.record_size f.records (placed_on header.schema.dims f.records header.schema.vars es)) again
           (laid_so header.schema (places_of header.places) header.length c.args.file_length c.deref-2.result.now f c.frame_of-frame.ensures is c.in_ok-kind.field-0 c.in_ok-kind.ensures c.in-None.is);
+      sized = subst (λ (es : List Extent). AreSized f.record_size (placed_on header.schema.dims f.records header.schema.vars es)) again
+          (sized_so header.schema (places_of header.places) header.length c.args.file_length c.deref-2.result.now f c.frame_of-frame.ensures is c.requires.legal.number c.requires.sizes.fit);
     }
 
 pub returns : goal.returns

@@ -2,6 +2,7 @@ use Rattle.std.proofs.Common.{◌≡◌, ◌-◌, ◌<◌, ◌++◌, ◌∷◌, 
 use Rattle.std.specs.Prelude.{if◌then◌else◌}
 use Rattle.std.proofs.lemmas.List.{get_or-map}
 use Rattle.ncc_layout.specs.Sizes.{is_record_var, rounded}
+use Rattle.ncc_layout.specs.Standard.{vsize_word}
 use Rattle.ncc_layout.specs.Plans.{AreEnds}
 use Rattle.ncc_layout.proofs.StandardPlaces.{with_it, place_is, field_is, places_more, fields_more}
 use Rattle.ncc_layout.proofs.planning.placed.Goals as goal
@@ -17,10 +18,11 @@ loop-number-preserved c =
     let there : n < length s.vars = omega (arith, ap length c.as_slice-vars.ensures) in
     let is : x ≡ get_or s.vars n x = rw c.as_slice-vars.ensures at c.index-vars-number.is in
     let size : get_or c.args.sizes.now n 0 ≡ rounded s.dims x = ap (λ l. get_or l n 0) c.requires.sizes ∙ get_or-map (rounded s.dims) s.vars n x 0 there ∙ ap (rounded s.dims) (sym is) in
+    let word : c.vsize_word.result ≡ vsize_word s.version (rounded s.dims x) = c.vsize_word.ensures ∙ ap (vsize_word s.version) size in
     let begin : c.begin_of-begin.result ≡ (if is_record_var s.dims x then ends.slabs else ends.fixed) = rw c.as_slice-dims.ensures at c.begin_of-begin.ensures in
     let are_ends : AreEnds s (take n s.vars) ends = rw c.as_slice-vars.ensures at c.loop-number.invariant.ends in
     let are_next : AreEnds s (take n s.vars ++ x ∷ []) next = c.with_var-ends.ensures (take n s.vars) are_ends in
-    let place = place_is s _ fits n x there is ends are_ends _ _ size begin in
+    let place = place_is s _ fits n x there is ends are_ends _ _ word begin in
     let field = ap (λ w. next.header - w) c.offset_width-width.ensures ∙ field_is s _ fits n x there is next are_next in
     rw c.as_slice-vars.ensures
     (record {

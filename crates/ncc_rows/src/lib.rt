@@ -1,0 +1,5 @@
+//! Tests that cross crates: files by their words, and what is said of them.
+#![tactic(auto)]
+
+#[cfg(test)]
+mod layout;
