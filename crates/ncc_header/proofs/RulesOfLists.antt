@@ -18,13 +18,13 @@ use Rattle.ncc_header.proofs.Judgements.{first-none, at_tag_if-none, below-none,
 
 -- ---- names
 
-pub exact_count : (v : Version) → Exact (nelems v) (λ n. n < count_limit v) (spelled.non_neg v)
-exact_count v = exact_fits (exact_number Plain (count_width_of v) (nelems_wrong v))
+pub exact_nelems : (v : Version) → Exact (nelems v) (λ n. n < count_limit v) (spelled.non_neg v)
+exact_nelems v = exact_fits (exact_number Plain (count_width_of v) (nelems_wrong v))
     (λ n f. below-none n (count_limit v) NegativeCount f.1)
     (λ n f. (omega (arith, f, count_limit-fits v), none-below n (count_limit v) NegativeCount f))
 
 pub exact_name : (v : Version) → Exact (name v) (λ n. LegalName v n × IsBytes n) (spelled.name v)
-exact_name v = exact_fits (exact_into (λ x. x.1.0) (λ n. (length n, (n, tt))) (exact_then (exact_count v) (λ n f. exact_then (exact_bytes n) (λ _ f. exact_padding n)))
+exact_name v = exact_fits (exact_into (λ x. x.1.0) (λ n. (length n, (n, tt))) (exact_then (exact_nelems v) (λ n f. exact_then (exact_bytes n) (λ _ f. exact_padding n)))
     (λ a f. ap (λ (k : ℕ). (k, (a.1.0, tt))) f.1.0.0))
     (λ n f. (f.0.0, f.0.1.0.1))
     (λ n f. ((f.0, ((refl, f.1), tt)), refl))

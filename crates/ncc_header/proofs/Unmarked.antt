@@ -25,7 +25,7 @@ use Rattle.ncc_header.proofs.GrammarLaws.{joined}
 use Rattle.ncc_header.proofs.FieldsLaws.{fields-join}
 use Rattle.ncc_header.proofs.Exact.{Exact, ◌then◌, exact_then, exact_number, exact_bytes, exact_padding}
 use Rattle.ncc_header.proofs.Judgements.{first-none}
-use Rattle.ncc_header.proofs.RulesOfLists.{tag_takes, exact_count, exact_name}
+use Rattle.ncc_header.proofs.RulesOfLists.{tag_takes, exact_nelems, exact_name}
 use Rattle.ncc_header.proofs.RulesOfVars.{exact_type, exact_values, var_flat, var_of, var_parts}
 use Rattle.ncc_header.proofs.HeaderLaws.{fields_spell}
 use Rattle.ncc_header.proofs.Rules.{exact_magic, exact_version, exact_numrecs, header_flat, whole, parts, lists, zip_maps}
@@ -162,9 +162,9 @@ unmarked_head v own = record { canonical = canonical }
 
 unmarked_name : (v : Version) → Unmarked (name v) (canon_name v)
 unmarked_name v =
-    let parts_exact = exact_then (exact_count v) (λ n _. exact_then (exact_bytes n) (λ _ _. exact_padding n)) in
+    let parts_exact = exact_then (exact_nelems v) (λ n _. exact_then (exact_bytes n) (λ _ _. exact_padding n)) in
     unmarked_into (λ x. x.1.0) (λ n. (length n, (n, tt))) (λ a b sp. ap (λ (k : ℕ). (k, (a.1.0, tt))) (parts_exact.takes a b sp).0.1.0.0)
-    (unmarked_then (unmarked_exact (exact_count v)) (λ n. unmarked_then (unmarked_exact (exact_bytes n)) (λ _. unmarked_padding n)))
+    (unmarked_then (unmarked_exact (exact_nelems v)) (λ n. unmarked_then (unmarked_exact (exact_bytes n)) (λ _. unmarked_padding n)))
 
 unmarked_list : {A : Type 0} {item : List A → Grammar A} {c : A → List ℕ} (v : Version) (own : ℕ) → ((before : List A) → Unmarked (item before) c) → Unmarked (list v own item) (canon_list v own c)
 unmarked_list v own one = unmarked_counted (unmarked_head v own) one
@@ -175,10 +175,10 @@ unmarked_dim v before = unmarked_into (λ x. record { name = x.0; length = x.1 }
 
 unmarked_attr : (v : Version) → Unmarked (attr v) (canon_attr v)
 unmarked_attr v =
-    let parts_exact = exact_then (exact_name v) (λ _ _. exact_then (exact_type v) (λ t _. exact_then (exact_count v) (λ k _. exact_then (exact_values t k) (λ _ _. exact_padding (k * size_of t))))) in
+    let parts_exact = exact_then (exact_name v) (λ _ _. exact_then (exact_type v) (λ t _. exact_then (exact_nelems v) (λ k _. exact_then (exact_values t k) (λ _ _. exact_padding (k * size_of t))))) in
     unmarked_into (λ x. record { name = x.0; values = x.1.1.1.0 }) (λ a. (a.name, (type_of a.values, (count_of a.values, (a.values, tt)))))
     (λ a b sp i. let f = (parts_exact.takes a b sp).0 in (a.0, (f.1.1.1.0.0 i, (f.1.1.1.0.1 i, (a.1.1.1.0, tt)))))
-    (unmarked_then (unmarked_name v) (λ _. unmarked_then (unmarked_exact (exact_type v)) (λ t. unmarked_then (unmarked_exact (exact_count v)) (λ k. unmarked_then (unmarked_exact (exact_values t k)) (λ _. unmarked_padding (k * size_of t))))))
+    (unmarked_then (unmarked_name v) (λ _. unmarked_then (unmarked_exact (exact_type v)) (λ t. unmarked_then (unmarked_exact (exact_nelems v)) (λ k. unmarked_then (unmarked_exact (exact_values t k)) (λ _. unmarked_padding (k * size_of t))))))
 
 unmarked_attrs : (v : Version) → Unmarked (attrs v) (canon_list v 12 (canon_attr v))
 unmarked_attrs v = unmarked_list v 12 (λ _. unmarked_attr v)
@@ -187,7 +187,7 @@ unmarked_dimid : (v : Version) (dims : List Dim) (before : List ℕ) → Unmarke
 unmarked_dimid v dims before = unmarked_exact (exact_number Plain (count_width_of v) (dimid_wrong dims before))
 
 unmarked_dimids : (v : Version) (dims : List Dim) → Unmarked (dimids v dims) (canon_dimids v)
-unmarked_dimids v dims = unmarked_counted (unmarked_exact (exact_count v)) (unmarked_dimid v dims)
+unmarked_dimids v dims = unmarked_counted (unmarked_exact (exact_nelems v)) (unmarked_dimid v dims)
 
 unmarked_var : (v : Version) (dims : List Dim) → Unmarked (var v dims) (canon_var v)
 unmarked_var v dims = unmarked_as (var_flat v dims) (unmarked_into var_of var_parts (λ a b sp. refl)

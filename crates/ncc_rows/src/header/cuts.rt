@@ -1,8 +1,12 @@
 //! Each front of a header, and each header with one byte changed.
 
-use super::fixtures::*;
+use super::helpers::{records, written};
 use super::plain::end_of;
-use crate::{Fault, FaultKind, Header, HeaderError, decode};
+use ncc_files::{
+    EMPTY, FIXED, FIXED_IN_CDF_2, FIXED_IN_CDF_5, LIMIT, RECORDS, TITLED, TWO_RECORD_VARIABLES,
+    bytes_of,
+};
+use ncc_header::{Fault, FaultKind, Header, HeaderError, decode};
 use std::alloc::{AllocError, Global};
 use std::process::Abort;
 use std::test::*;

@@ -1,8 +1,8 @@
 //! What a decoder answers to each piece.
 
-use super::fixtures::*;
-use super::pieces::length_of;
-use crate::{Decoder, FaultKind, Fed, HeaderError};
+use super::helpers::{fault, length_of};
+use ncc_files::{FIXED, LIMIT, bytes_of};
+use ncc_header::{Decoder, FaultKind, Fed, HeaderError};
 use std::alloc::Global;
 use std::test::*;
 

@@ -1,18 +1,15 @@
 //! Headers that come in pieces, or from a source that gives little at a call.
 
-use super::fixtures::*;
+use super::helpers::length_of;
 use super::plain::end_of;
-use crate::{Decoder, FuseSource, Header, HeaderError, ReadSource, read_header};
+use ncc_files::{
+    EMPTY, FIXED, FIXED_IN_CDF_2, FIXED_IN_CDF_5, LIMIT, RECORDS, TITLED, TWO_RECORD_VARIABLES,
+    bytes_of,
+};
+use ncc_header::{Decoder, FuseSource, HeaderError, ReadSource, read_header};
 use std::alloc::{AllocError, Global};
 use std::process::Abort;
 use std::test::*;
-
-pub fn length_of(answer: Result<Header, HeaderError>) -> Result<u64, HeaderError> {
-    match answer {
-        Ok(header) => Ok(header.length),
-        Err(error) => Err(error),
-    }
-}
 
 fn feed_all(decoder: &mut Decoder, input: &[u8], size: usize) -> Result<(), HeaderError> {
     for piece in input.chunks(size.max(1)) {

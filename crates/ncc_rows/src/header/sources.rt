@@ -1,8 +1,8 @@
 //! Headers from sources that fail.
 
-use super::fixtures::*;
-use super::pieces::length_of;
-use crate::{FuseSource, HeaderError, ReadSource, read_header};
+use super::helpers::length_of;
+use ncc_files::{FIXED, LIMIT, bytes_of};
+use ncc_header::{FuseSource, HeaderError, ReadSource, read_header};
 use std::alloc::Global;
 use std::process::Abort;
 use std::test::*;

@@ -1,7 +1,7 @@
 //! A reader of headers in the order of the grammar, which tells where a header ends or why there is
 //! none.
 
-use crate::{Fault, FaultKind};
+use ncc_header::{Fault, FaultKind};
 
 /// An input of which a front was read.
 #[derive(Drop)]

@@ -3,8 +3,8 @@
 ghost use Rattle.std.specs.Prelude.{IsTrue};
 ghost use Rattle.ncc_schema.specs.Names.{HasName};
 
-use super::fixtures::*;
-use crate::{NameOf, Schema, decode, laws, name_at};
+use ncc_files::{FIXED, LIMIT, TITLED, bytes_of, with_byte};
+use ncc_header::{NameOf, Schema, decode, laws, name_at};
 use std::alloc::Global;
 use std::test::*;
 
@@ -20,13 +20,11 @@ fn has_name(schema: &Schema, of: NameOf) -> bool
     }
 }
 
-/// The offset of a name of a header without marks, which is canonical.
+/// The offset of a name of the header at the front of the input.
 fn name_in(alloc: Global, input: &[u8], of: NameOf) -> Option<u64> {
-    laws::unmarked_is_canonical();
+    laws::length_is_canonical();
     match decode(alloc, input, LIMIT) {
-        Ok(header) if header.marks.is_empty() && has_name(&header.schema, of) => {
-            Some(name_at(&header, of))
-        }
+        Ok(header) if has_name(&header.schema, of) => Some(name_at(&header, of)),
         _ => None,
     }
 }
@@ -39,5 +37,7 @@ fn names(rt: HostRuntime) -> Result<(), Fail> {
     assert!(rt; name_in(alloc, &fixed, NameOf::Var(0)) == Some(44));
     let titled = bytes_of(alloc, &TITLED)?;
     assert!(rt; name_in(alloc, &titled, NameOf::Global(0)) == Some(24));
+    let padded = with_byte(alloc, &TITLED, 49, 1)?;
+    assert!(rt; name_in(alloc, &padded, NameOf::Global(0)) == Some(24));
     Ok(())
 }

@@ -1,7 +1,8 @@
 //! Canonical headers, in words of four bytes.
 
-use super::fixtures::{bytes_of, written};
-use crate::{
+use super::helpers::written;
+use ncc_files::bytes_of;
+use ncc_schema::{
     Attr, Count, Dim, Failed, FuseSink, FuseSource, ReadSource, Schema, Sink, Source, Var,
     VarPlace, WriteSink, encode, legal,
 };
