@@ -1,0 +1,90 @@
+-- Reading a header from a store, piece by piece.
+use Rattle.std.proofs.Common.{◌≡◌, ◌≢◌, ◌⊎◌, ℕ, ◌+◌, ◌≤◌, List, [], ◌++◌, length, take, drop, Result, Ok, Err, refl, sym, ap, ap₂, subst, ◌∙◌, inl, inr, append_assoc, arith}
+use Rattle.std.specs.Prelude.{Bool, IsTrue}
+use Rattle.std.proofs.lemmas.List.{length-take-le, take-append-drop, drop_all}
+use Rattle.std.proofs.Math.Seq.{take-add}
+use Rattle.ncc_header.specs.declared.decoder.Decoder.{Decoder}
+use Rattle.ncc_header.specs.declared.fault.Fault.{Fault as HeaderFault}
+use Rattle.ncc_header.specs.declared.fault.FaultKind.TheVariants.{EndsEarly}
+use Rattle.ncc_header.specs.declared.fault.HeaderError.{HeaderError}
+use Rattle.ncc_header.specs.declared.fault.HeaderError.TheVariants as errors
+use Rattle.ncc_header.specs.declared.standing.Fed.{Fed}
+use Rattle.ncc_header.specs.declared.standing.Fed.TheVariants.{More, Done}
+use Rattle.ncc_header.specs.Answers.{Stops}
+use Rattle.ncc_header.specs.Decoder.{Took, limit_of}
+use Rattle.ncc_header.specs.Standing.{FailedOn, Feeds, IsWhole, front_taken}
+use Rattle.ncc_check.specs.declared.fault.FileFault.TheVariants.{Header as OfHeader, Layout as OfLayout}
+use Rattle.ncc_check.specs.declared.fault.Refusal.{Refusal}
+use Rattle.ncc_check.specs.declared.fault.Refusal.TheVariants.{Fault, Device, Memory}
+use Rattle.ncc_check.specs.Refusals.{refusal_of}
+use Rattle.ncc_check.specs.FromStore.{RefusedOn, ReadsHeader, FedPiece, FailsPiece, IsEnough, HasEnough}
+
+pub refused_on : (bytes : List ℕ) (limit : ℕ) (e : HeaderError) (r : Refusal) → r ≡ refusal_of e → FailedOn bytes limit e → RefusedOn bytes limit r
+refused_on bytes limit (errors.Fault f) r is failed = subst (RefusedOn bytes limit) (sym is) failed
+refused_on bytes limit errors.Device r is failed = absurd failed
+refused_on bytes limit errors.Memory r is failed = subst (RefusedOn bytes limit) (sym is) tt
+
+-- ---- by turns
+
+-- a law of headers: a fault that stays
+abbrev pub StopStays : Type 0
+StopStays = (input more : List ℕ) (limit : ℕ) (f : HeaderFault) → Stops input limit f → f.kind ≢ EndsEarly → Stops (input ++ more) limit f
+
+-- what was taken and the next piece
+pub more_taken : (bytes taken piece : List ℕ) (at size : ℕ) → taken ≡ take at bytes → piece ≡ take size (drop at bytes) → taken ++ piece ≡ take (at + size) bytes
+more_taken bytes taken piece at size so_far next = ap₂ (λ (x y : List ℕ). x ++ y) so_far next ∙ sym (take-add at size bytes)
+
+pub front_and_rest : (bytes front : List ℕ) (n : ℕ) → front ≡ take n bytes → bytes ≡ front ++ drop n bytes
+front_and_rest bytes front n is = sym (ap (λ (x : List ℕ). x ++ drop n bytes) is ∙ take-append-drop n bytes)
+
+-- a refusal of a front is one of all
+pub refused_all : StopStays → (bytes front rest : List ℕ) (limit : ℕ) (r : Refusal) → bytes ≡ front ++ rest → RefusedOn front limit r → ReadsHeader bytes limit (Err r)
+refused_all stays bytes front rest limit (Fault (OfHeader f)) joined refused = subst (λ (x : List ℕ). Stops x limit f) (sym joined) (stays front rest limit f refused.0 refused.1)
+refused_all stays bytes front rest limit (Fault (OfLayout f)) joined refused = absurd refused
+refused_all stays bytes front rest limit Device joined refused = tt
+refused_all stays bytes front rest limit Memory joined refused = tt
+
+-- the whole piece was taken, where more is to come
+pub took_all : (d e : Decoder) (taken piece : List ℕ) (fed : Fed) → fed ≡ More → FedPiece d e piece fed → Took d taken → Took e (taken ++ piece)
+took_all d e taken piece fed is f t = subst (λ (x : Fed). Took e (taken ++ front_taken (Ok x) piece)) is (f.takes taken t)
+
+pub took_some : (d e : Decoder) (taken piece : List ℕ) (fed : Fed) (used : ℕ) → fed ≡ Done used → FedPiece d e piece fed → Took d taken → Took e (taken ++ take used piece)
+took_some d e taken piece fed used is f t = subst (λ (x : Fed). Took e (taken ++ front_taken (Ok x) piece)) is (f.takes taken t)
+
+-- the header is whole
+pub whole_enough : (d e : Decoder) (bytes taken piece : List ℕ) (limit at size used : ℕ) (fed : Fed) → fed ≡ Done used → FedPiece d e piece fed → Took d taken → limit_of d ≡ limit
+    → taken ≡ take at bytes → piece ≡ take size (drop at bytes) → HasEnough bytes limit (taken ++ take used piece)
+whole_enough d e bytes taken piece limit at size used fed is f t limit_is so_far next =
+    let feeds : Feeds taken piece (limit_of d) (Ok (Done used)) = subst (λ (x : Fed). Feeds taken piece (limit_of d) (Ok x)) is (f.feeds taken t) in
+    record {
+      rest = drop used piece ++ drop (at + size) bytes;
+      joined = front_and_rest bytes (taken ++ piece) (at + size) (more_taken bytes taken piece at size so_far next)
+          ∙ ap (λ (x : List ℕ). (taken ++ x) ++ drop (at + size) bytes) (sym (take-append-drop used piece))
+          ∙ ap (λ (x : List ℕ). x ++ drop (at + size) bytes) (sym (append_assoc taken (take used piece) (drop used piece)))
+          ∙ append_assoc (taken ++ take used piece) (drop used piece) (drop (at + size) bytes);
+      enough = inr (inr (subst (IsWhole (taken ++ take used piece)) limit_is feeds.1));
+    }
+
+-- all that may take part was taken
+pub all_enough : (bytes taken : List ℕ) (limit end : ℕ) → end ≤ length bytes → taken ≡ take end bytes → (limit ≤ end) ⊎ (end ≡ length bytes) → HasEnough bytes limit taken
+all_enough bytes taken limit end there is covers = record {
+  rest = drop end bytes;
+  joined = front_and_rest bytes taken end is;
+  enough = enough_of covers;
+}
+  where
+    enough_of : (limit ≤ end) ⊎ (end ≡ length bytes) → IsEnough taken (drop end bytes) limit
+    enough_of (inl past) = inl (omega (arith, past, ap length is, length-take-le end bytes there))
+    enough_of (inr all) = inr (inl (ap (λ (n : ℕ). drop n bytes) all ∙ drop_all (length bytes) bytes (omega arith)))
+
+-- the bytes of a piece are those of the store that began
+pub same_piece : (room size at : ℕ) (now old : List ℕ) → room ≡ size → now ≡ old → take room (drop at now) ≡ take size (drop at old)
+same_piece room size at now old long same = ap₂ (λ (n : ℕ) (bytes : List ℕ). take n (drop at bytes)) long same
+
+-- a piece that was refused is a fault of all
+pub refused_piece : StopStays → (d : Decoder) (bytes taken there : List ℕ) (limit at size : ℕ) (r : Refusal) (told : Bool) → IsTrue told → taken ≡ take at bytes → there ≡ take size (drop at bytes)
+    → Took d taken → limit_of d ≡ limit → FailsPiece told there d r → ReadsHeader bytes limit (Err r)
+refused_piece stays d bytes taken there limit at size r told tells so_far next t limit_is (inl is) = subst (λ (x : Refusal). ReadsHeader bytes limit (Err x)) (sym is) tt
+refused_piece stays d bytes taken there limit at size r told tells so_far next t limit_is (inr f) =
+    let refused : RefusedOn (taken ++ f.0) limit r = subst (λ (l : ℕ). RefusedOn (taken ++ f.0) l r) limit_is (f.2 taken t) in
+    refused_all stays bytes (taken ++ f.0) (drop (at + size) bytes) limit r (front_and_rest bytes (taken ++ f.0) (at + size) (more_taken bytes taken f.0 at size so_far (f.1 tells ∙ next))) refused

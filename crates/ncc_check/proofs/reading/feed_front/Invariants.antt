@@ -1,0 +1,18 @@
+use Rattle.std.proofs.Common.{◌≡◌, ◌-◌, ◌≤◌, List, ℕ, take}
+use Rattle.std.specs.Prelude.{IsTrue}
+use Rattle.ncc_store.specs.Store.{Unmoved, KeepsImages}
+use Rattle.ncc_header.specs.Decoder.{Took, limit_of}
+use Rattle.ncc_check.proofs.reading.feed_front.Given as goal
+
+abbrev pub invariant-loop-at : goal.invariant-loop-at
+invariant-loop-at g l = record {
+  took : (taken : List ℕ) × Took l.decoder taken × (IsTrue g.S.Store.tells_bytes → taken ≡ take l.at (g.S.Store.bytes l.fn.store));
+  limit : limit_of l.decoder ≡ limit_of l.fn.decoder;
+  within : l.at ≤ l.end;
+  unmoved : Unmoved g.S.Store.bytes g.S.Store.images g.S.Store.moment g.S.Store.images_since l.fn.store l.store;
+  kept : KeepsImages (g.S.Store.images l.fn.store) (g.S.Store.images l.store);
+  count : g.S.Store.failures l.store ≡ g.S.Store.failures l.fn.store;
+}
+
+abbrev pub decreases-loop-at : goal.decreases-loop-at
+decreases-loop-at g l = l.end - l.at

@@ -1,0 +1,51 @@
+-- What a decoder has taken of a store.
+use Rattle.std.specs.Prelude.{◌≡◌, ◌⊎◌, ℕ, ◌≤◌, Bool, List, [], ◌++◌, length, take, drop, IsTrue, Result, Ok, Err}
+use Rattle.ncc_schema.specs.declared.schema.Header.{Header}
+use Rattle.ncc_header.specs.declared.decoder.Decoder.{Decoder}
+use Rattle.ncc_header.specs.declared.standing.Fed.{Fed}
+use Rattle.ncc_header.specs.Answers.{Begins, Stops}
+use Rattle.ncc_header.specs.Decoder.{Took, limit_of}
+use Rattle.ncc_header.specs.Standing.{StopsForGood, IsWhole, Feeds, front_taken}
+use Rattle.ncc_check.specs.declared.fault.FileFault.TheVariants.{Header as OfHeader, Layout as OfLayout}
+use Rattle.ncc_check.specs.declared.fault.Refusal.{Refusal}
+use Rattle.ncc_check.specs.declared.fault.Refusal.TheVariants.{Fault, Device, Memory}
+
+-- a decoder was refused these bytes, whatever follows, unless memory or the device failed
+abbrev pub RefusedOn : (bytes : List ℕ) (limit : ℕ) → Refusal → Type 0
+RefusedOn bytes limit (Fault (OfHeader f)) = StopsForGood bytes limit f
+RefusedOn bytes limit (Fault (OfLayout f)) = ⊥
+RefusedOn bytes limit Device = Unit {0}
+RefusedOn bytes limit Memory = Unit {0}
+
+-- the decoder was fed this piece of the store's bytes
+pub record FedPiece (d e : Decoder) (piece : List ℕ) (fed : Fed) : Type 0 where
+  pub feeds : (taken : List ℕ) → Took d taken → Feeds taken piece (limit_of d) (Ok fed)
+  pub takes : (taken : List ℕ) → Took d taken → Took e (taken ++ front_taken (Ok fed) piece)
+  pub limit : limit_of e ≡ limit_of d
+
+-- the device failed, or the decoder was refused a piece, which is this one where the store tells its bytes
+abbrev pub FailsPiece : (told : Bool) → (there : List ℕ) → Decoder → Refusal → Type 0
+FailsPiece told there d e =
+    (e ≡ Device) ⊎ ((piece : List ℕ) × (IsTrue told → piece ≡ there) × ((taken : List ℕ) → Took d taken → RefusedOn (taken ++ piece) (limit_of d) e))
+
+-- all of the bytes that may take part were taken, or a whole header
+abbrev pub IsEnough : (taken rest : List ℕ) (limit : ℕ) → Type 0
+IsEnough taken rest limit = (limit ≤ length taken) ⊎ ((rest ≡ []) ⊎ IsWhole taken limit)
+
+-- the decoder has taken a front of the bytes, and no byte more can change its answer
+pub record HasEnough (bytes : List ℕ) (limit : ℕ) (taken : List ℕ) : Type 0 where
+  pub rest : List ℕ
+  pub joined : bytes ≡ taken ++ rest
+  pub enough : IsEnough taken rest limit
+
+-- what was found out about the header of bytes
+abbrev pub ReadsHeader : (bytes : List ℕ) (limit : ℕ) → Result Header Refusal → Type 0
+ReadsHeader bytes limit (Ok h) = Begins bytes limit h
+ReadsHeader bytes limit (Err (Fault (OfHeader f))) = Stops bytes limit f
+ReadsHeader bytes limit (Err (Fault (OfLayout f))) = ⊥
+ReadsHeader bytes limit (Err Device) = Unit {0}
+ReadsHeader bytes limit (Err Memory) = Unit {0}
+
+-- some input begins with it
+abbrev pub IsBegun : Header → Type 0
+IsBegun h = (input : List ℕ) × (limit : ℕ) × Begins input limit h

@@ -1,0 +1,65 @@
+//! Reading the header of a file from a store.
+
+ghost use Rattle.std.specs.Prelude.{◌≡◌, ◌⊎◌, ◌+◌, ◌≤◌, ℕ, List, [], length, take, drop, Err, IsTrue, IfOk, IfErr, OnOk};
+ghost use Rattle.ncc_store.specs.Store.{Unmoved, KeepsImages};
+ghost use Rattle.ncc_header.specs.Decoder.{Took, limit_of};
+ghost use Rattle.ncc_check.specs.Checks.{CountsAs};
+ghost use Rattle.ncc_check.specs.FromStore.{FedPiece, FailsPiece, HasEnough, ReadsHeader, IsBegun, RefusedOn};
+
+use crate::fault::Refusal;
+use ncc_header::{Decoder, Fed, Header, laws};
+use ncc_store::{Store, laws as store_laws};
+use std::alloc::Global;
+
+/// How many bytes are read at once.
+const PIECE: u64 = 65_536;
+
+/// Reads as many bytes as there is room for, from `at` on, and feeds them to the decoder.
+fn feed_piece<S: Store>(
+    store: &mut S,
+    decoder: &mut Decoder,
+    at: u64,
+    room: &mut [u8],
+) -> Result<Fed, Refusal>
+    requires there { IsTrue S.tells_bytes → at + length room.old ≤ length (S.bytes store.old) }
+    requires took { (taken : List ℕ) × Took decoder.old taken }
+    ensures ok { IfOk result (λ fed. FedPiece decoder.old decoder.new room.new fed) }
+    ensures told { IsTrue S.tells_bytes → OnOk result (room.new ≡ take (length room.old) (drop at (S.bytes store.old))) }
+    ensures err { IfErr result (FailsPiece S.tells_bytes (take (length room.old) (drop at (S.bytes store.old))) decoder.old) }
+    ensures unmoved { Unmoved S.bytes S.images S.moment S.images_since store.old store.new }
+    ensures kept { KeepsImages (S.images store.old) (S.images store.new) }
+    ensures count { CountsAs (S.failures store.old) (S.failures store.new) result }
+{
+    store.read_at(at, room)?;
+    match decoder.feed(room) {
+        Ok(fed) => Ok(fed),
+        Err(error) => Err(Refusal::from(error)),
+    }
+}
+
+/// Feeds the decoder the first `end` bytes of the store, or as many as its header has.
+fn feed_front<S: Store>(store: &mut S, decoder: &mut Decoder, end: u64) -> Result<(), Refusal>
+    requires there { IsTrue S.tells_bytes → end ≤ length (S.bytes store.old) }
+    requires took { Took decoder.old [] }
+    requires covers { IsTrue S.tells_bytes → (limit_of decoder.old ≤ end) ⊎ (end ≡ length (S.bytes store.old)) }
+    ensures ok { OnOk result ((taken : List ℕ) × Took decoder.new taken × (IsTrue S.tells_bytes → HasEnough (S.bytes store.old) (limit_of decoder.old) taken)) }
+    ensures limit { OnOk result (limit_of decoder.new ≡ limit_of decoder.old) }
+    ensures err { IfErr result (λ e. IsTrue S.tells_bytes → ReadsHeader (S.bytes store.old) (limit_of decoder.old) (Err e)) }
+    ensures unmoved { Unmoved S.bytes S.images S.moment S.images_since store.old store.new }
+    ensures kept { KeepsImages (S.images store.old) (S.images store.new) }
+    ensures count { CountsAs (S.failures store.old) (S.failures store.new) result }
+{
+    laws::stop_stays();
+    store_laws::unmoved_calls_join::<S>();
+    let mut piece = [0; PIECE as usize];
+    let mut at = 0;
+    while at < end {
+        let size = (end - at).min(PIECE);
+        let room = &mut piece[..size as usize];
+        match feed_piece(store, decoder, at, room)? {
+            Fed::More => at += size,
+            Fed::Done(_) => return Ok(()),
+        }
+    }
+    Ok(())
+}
