@@ -1,7 +1,7 @@
 -- Reading a header from a store, piece by piece.
 use Rattle.std.proofs.Common.{◌≡◌, ◌≢◌, ◌⊎◌, ℕ, ◌+◌, ◌≤◌, List, [], ◌++◌, length, take, drop, Result, Ok, Err, refl, sym, ap, ap₂, subst, ◌∙◌, inl, inr, append_assoc, arith}
 use Rattle.std.specs.Prelude.{Bool, IsTrue}
-use Rattle.std.proofs.lemmas.List.{length-take-le, take-append-drop, drop_all}
+use Rattle.std.proofs.lemmas.List.{append-nil, length-take-le, take-append-drop, drop_all}
 use Rattle.std.proofs.Math.Seq.{take-add}
 use Rattle.ncc_header.specs.declared.decoder.Decoder.{Decoder}
 use Rattle.ncc_header.specs.declared.fault.Fault.{Fault as HeaderFault}
@@ -10,7 +10,11 @@ use Rattle.ncc_header.specs.declared.fault.HeaderError.{HeaderError}
 use Rattle.ncc_header.specs.declared.fault.HeaderError.TheVariants as errors
 use Rattle.ncc_header.specs.declared.standing.Fed.{Fed}
 use Rattle.ncc_header.specs.declared.standing.Fed.TheVariants.{More, Done}
-use Rattle.ncc_header.specs.Answers.{Stops}
+use Rattle.ncc_schema.specs.declared.schema.Header.{Header}
+use Rattle.ncc_schema.specs.declared.schema.Schema.{Schema}
+use Rattle.ncc_schema.specs.Schema.{Place, places_of}
+use Rattle.ncc_schema.specs.Header.{IsHeader}
+use Rattle.ncc_header.specs.Answers.{Begins, Stops, Answers}
 use Rattle.ncc_header.specs.Decoder.{Took, limit_of}
 use Rattle.ncc_header.specs.Standing.{FailedOn, Feeds, IsWhole, front_taken}
 use Rattle.ncc_check.specs.declared.fault.FileFault.TheVariants.{Header as OfHeader, Layout as OfLayout}
@@ -88,3 +92,47 @@ refused_piece stays d bytes taken there limit at size r told tells so_far next t
 refused_piece stays d bytes taken there limit at size r told tells so_far next t limit_is (inr f) =
     let refused : RefusedOn (taken ++ f.0) limit r = subst (λ (l : ℕ). RefusedOn (taken ++ f.0) l r) limit_is (f.2 taken t) in
     refused_all stays bytes (taken ++ f.0) (drop (at + size) bytes) limit r (front_and_rest bytes (taken ++ f.0) (at + size) (more_taken bytes taken f.0 at size so_far (f.1 tells ∙ next))) refused
+
+-- ---- the end
+
+-- laws of headers
+abbrev pub HeaderIsBegun : Type 0
+HeaderIsBegun = (s : Schema) (places : List Place) (front rest : List ℕ) (limit : ℕ) → IsHeader s places front → length front ≤ limit → (h : Header) × Begins (front ++ rest) limit h × (h.schema ≡ s) × (places_of h.places ≡ places)
+
+abbrev pub Apart : Type 0
+Apart = (input : List ℕ) (limit : ℕ) (h : Header) (f : HeaderFault) → Begins input limit h → Stops input limit f → ⊥
+
+abbrev pub LimitCovers : Type 0
+LimitCovers = (input more : List ℕ) (limit : ℕ) (f : HeaderFault) → Stops input limit f → limit ≤ length input → Stops (input ++ more) limit f
+
+begins_more : (front more : List ℕ) (limit : ℕ) (h : Header) → Begins front limit h → Begins (front ++ more) limit h
+begins_more front more limit h b = record {
+  front = b.front;
+  rest = b.rest ++ more;
+  joined = ap (λ (x : List ℕ). x ++ more) b.joined ∙ append_assoc b.front b.rest more;
+  is_header = b.is_header;
+  begins = b.begins;
+  marks = b.marks;
+  long = b.long;
+  within = b.within;
+}
+
+-- the header of what was taken is that of all bytes
+pub final_header : (bytes taken : List ℕ) (limit : ℕ) (h : Header) → HasEnough bytes limit taken → Answers taken limit (Ok h) → Begins bytes limit h
+final_header bytes taken limit h enough b = subst (λ (x : List ℕ). Begins x limit h) (sym enough.joined) (begins_more taken enough.rest limit h b)
+
+-- and so is its fault
+final_fault : HeaderIsBegun → Apart → LimitCovers → (bytes taken : List ℕ) (limit : ℕ) (f : HeaderFault) → HasEnough bytes limit taken → Stops taken limit f → Stops bytes limit f
+final_fault begun apart covers bytes taken limit f enough stop = subst (λ (x : List ℕ). Stops x limit f) (sym enough.joined) (stops_all enough.enough)
+  where
+    stops_all : IsEnough taken enough.rest limit → Stops (taken ++ enough.rest) limit f
+    stops_all (inl past) = covers taken enough.rest limit f stop past
+    stops_all (inr (inl none)) = subst (λ (x : List ℕ). Stops x limit f) (sym (ap (λ (x : List ℕ). taken ++ x) none ∙ append-nil taken)) stop
+    stops_all (inr (inr whole)) =
+        let b = begun whole.0 whole.1 taken [] limit whole.2 whole.3 in
+        absurd (apart (taken ++ []) limit b.0 f b.1 (subst (λ (x : List ℕ). Stops x limit f) (sym (append-nil taken)) stop))
+
+pub final_refusal : HeaderIsBegun → Apart → LimitCovers → (bytes taken : List ℕ) (limit : ℕ) (e : HeaderError) (r : Refusal) → r ≡ refusal_of e → HasEnough bytes limit taken → Answers taken limit (Err e) → ReadsHeader bytes limit (Err r)
+final_refusal begun apart covers bytes taken limit (errors.Fault f) r is enough stop = subst (λ (x : Refusal). ReadsHeader bytes limit (Err x)) (sym is) (final_fault begun apart covers bytes taken limit f enough stop)
+final_refusal begun apart covers bytes taken limit errors.Device r is enough stop = absurd stop
+final_refusal begun apart covers bytes taken limit errors.Memory r is enough stop = subst (λ (x : Refusal). ReadsHeader bytes limit (Err x)) (sym is) tt

@@ -63,3 +63,29 @@ fn feed_front<S: Store>(store: &mut S, decoder: &mut Decoder, end: u64) -> Resul
     }
     Ok(())
 }
+
+/// The header of a file of this length, which a store holds. Of the store no byte past the limit is
+/// read, and none past its end.
+pub fn header_of<S: Store>(
+    alloc: Global,
+    store: &mut S,
+    limit: u64,
+    file_length: u64,
+) -> Result<Header, Refusal>
+    requires { IsTrue S.tells_bytes → file_length ≡ length (S.bytes store.old) }
+    ensures reads { IsTrue S.tells_bytes → ReadsHeader (S.bytes store.old) limit result }
+    ensures begun { IfOk result IsBegun }
+    ensures unmoved { Unmoved S.bytes S.images S.moment S.images_since store.old store.new }
+    ensures kept { KeepsImages (S.images store.old) (S.images store.new) }
+    ensures count { CountsAs (S.failures store.old) (S.failures store.new) result }
+{
+    laws::header_or_stop();
+    laws::header_is_begun();
+    laws::limit_covers();
+    let mut decoder = Decoder::new(alloc, limit);
+    feed_front(store, &mut decoder, file_length.min(limit))?;
+    match decoder.finish() {
+        Ok(header) => Ok(header),
+        Err(error) => Err(Refusal::from(error)),
+    }
+}

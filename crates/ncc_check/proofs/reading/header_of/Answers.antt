@@ -1,0 +1,23 @@
+use Rattle.std.proofs.Common.{ℕ, List, Result, Ok, Err, subst, ◌∙◌}
+use Rattle.ncc_schema.specs.declared.schema.Header.{Header}
+use Rattle.ncc_header.specs.Answers.{Answers}
+use Rattle.ncc_check.specs.FromStore.{HasEnough}
+use Rattle.ncc_check.proofs.FromStore.{final_header, final_refusal}
+use Rattle.ncc_check.proofs.reading.header_of.Goals as goal
+
+pub returns-in-Ok-clause-reads : goal.returns-in-Ok-clause-reads
+returns-in-Ok-clause-reads g c = λ told.
+    let bytes = g.S.Store.bytes c.args.store.now in
+    let fed = c.in_ok-feed_front.ensures in
+    let same = fed.limit ∙ c.new-decoder.ensures.limit in
+    let enough : HasEnough bytes c.args.limit fed.ok.0 = subst (λ (l : ℕ). HasEnough bytes l fed.ok.0) c.new-decoder.ensures.limit (fed.ok.2 told) in
+    final_header bytes fed.ok.0 c.args.limit c.in-Ok.header enough (subst (λ (l : ℕ). Answers fed.ok.0 l (Ok c.in-Ok.header)) same (c.in-Ok.ensures.answers fed.ok.0 fed.ok.1))
+
+pub returns-in-Err-clause-reads : goal.returns-in-Err-clause-reads
+returns-in-Err-clause-reads g c = λ told.
+    let bytes = g.S.Store.bytes c.args.store.now in
+    let fed = c.in_ok-feed_front.ensures in
+    let same = fed.limit ∙ c.new-decoder.ensures.limit in
+    let enough : HasEnough bytes c.args.limit fed.ok.0 = subst (λ (l : ℕ). HasEnough bytes l fed.ok.0) c.new-decoder.ensures.limit (fed.ok.2 told) in
+    final_refusal c.header_is_begun.ensures c.header_or_stop.ensures.apart c.limit_covers.ensures bytes fed.ok.0 c.args.limit c.in-Err.error c.from.result c.from.ensures enough
+    (subst (λ (l : ℕ). Answers fed.ok.0 l (Err c.in-Err.error)) same (c.in-Err.ensures.answers fed.ok.0 fed.ok.1))
