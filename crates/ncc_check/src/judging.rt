@@ -1,0 +1,58 @@
+//! The layout of a file, by its header and its length.
+
+ghost use Rattle.std.specs.Prelude.{◌≡◌, ◌<◌, length};
+ghost use Rattle.ncc_schema.specs.Schema.{places_of, Legal};
+ghost use Rattle.ncc_layout.specs.Sizes.{AreSizes};
+ghost use Rattle.ncc_layout.specs.Placed.{begin_field};
+ghost use Rattle.ncc_check.specs.declared.fault.FileFault.TheVariants.{Layout};
+ghost use Rattle.ncc_check.specs.declared.fault.Refusal.TheVariants.{Fault};
+ghost use Rattle.ncc_layout.specs.declared.fault.LayoutFaultKind.TheVariants.{TooLarge};
+ghost use Rattle.ncc_check.specs.Judging.{SizesOf, LaysOut};
+
+use crate::fault::{FileFault, Refusal};
+use ncc_header::Header;
+use ncc_layout::{
+    LayoutFault, LayoutFaultKind, PlaceError, Placed, SizeError, Sizes, placed, sizes,
+};
+use std::alloc::Global;
+
+/// The variable of this number is too large.
+fn too_large(header: &Header, number: usize) -> Refusal
+    requires { number < length header.now.places }
+    ensures { result ≡ Fault (Layout (record { kind = TooLarge; offset = begin_field header.now.places number })) }
+{
+    Refusal::Fault(FileFault::Layout(LayoutFault {
+        kind: LayoutFaultKind::TooLarge,
+        offset: header.places.as_slice()[number].begin_at,
+    }))
+}
+
+/// The sizes of a header's variables.
+pub fn sizes_of(alloc: Global, header: &Header, file_length: u64) -> Result<Sizes, Refusal>
+    requires { Legal header.now.schema (places_of header.now.places) }
+    ensures { SizesOf header.now file_length result }
+{
+    match sizes(alloc, &header.schema) {
+        Ok(found) => Ok(found),
+        Err(SizeError::TooLarge(number)) => Err(too_large(header, number)),
+        Err(SizeError::Memory) => Err(Refusal::Memory),
+    }
+}
+
+/// The variables of a header at their places in a file of this length.
+pub fn placed_of(
+    alloc: Global,
+    header: &Header,
+    found: &Sizes,
+    file_length: u64,
+) -> Result<Placed, Refusal>
+    requires legal { Legal header.now.schema (places_of header.now.places) }
+    requires sizes { AreSizes header.now.schema found.now }
+    ensures { LaysOut header.now file_length result }
+{
+    match placed(alloc, header, found, file_length) {
+        Ok(placed) => Ok(placed),
+        Err(PlaceError::Fault(fault)) => Err(Refusal::Fault(FileFault::Layout(fault))),
+        Err(PlaceError::Memory) => Err(Refusal::Memory),
+    }
+}
