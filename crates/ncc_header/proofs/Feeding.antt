@@ -19,7 +19,7 @@ use Rattle.ncc_header.specs.Marks.{marks, begins, header_marks, header_begins}
 use Rattle.ncc_schema.specs.Schema.{places_of}
 use Rattle.ncc_header.specs.States.{Given, left_of, begins_of, size_of}
 use Rattle.ncc_header.specs.Reading.{course, from_start, held_of, onward, Takes, FailsBehind, Waits}
-use Rattle.ncc_header.specs.Standing.{HasTaken, FailedOn, Feeds, IsSettled, lacks_of, fed_of, front_taken, cut_at}
+use Rattle.ncc_header.specs.Standing.{IsWhole, HasTaken, FailedOn, Feeds, IsSettled, lacks_of, fed_of, front_taken, cut_at}
 use Rattle.ncc_header.proofs.OneField.{field_ends_early, field_too_long, lacking_early, lacking_late, lacks_nothing, lacks_none}
 use Rattle.ncc_header.proofs.HeaderLaws.{header_stop_stays, begins_with_read}
 
@@ -157,11 +157,15 @@ lacks_all r (Some n) is partial =
 pub reading_lacks : (r : Reading) (taken : List ℕ) → HasTaken r taken → lacking header r.limit 0 taken ≡ lacks_of (size_of (left_of r.state)) r.limit r.at (length (held_of r))
 reading_lacks r taken t = ap (λ c. c.lacks) (course_at_end r taken t) ∙ lacks_all r (size_of (left_of r.state)) refl t.partial
 
-settled_all : (r : Reading) (taken : List ℕ) (o : Option ℕ) → HasTaken r taken → size_of (left_of r.state) ≡ o → lacks_of o r.limit r.at (length (held_of r)) ≡ 0 → IsSettled taken r.limit
-settled_all r taken None t is none =
+-- no field is next: what was taken is a header within the limit
+pub whole_reading : (r : Reading) (taken : List ℕ) → HasTaken r taken → size_of (left_of r.state) ≡ None → IsWhole taken r.limit
+whole_reading r taken t is =
     let end = no_field (left_of r.state) is in
     let w = whole_header r taken end.0 t end.1 in
-    inl (end.0.0, end.0.1, w.0, omega (arith, w.1, w.2))
+    (end.0.0, end.0.1, w.0, omega (arith, w.1, w.2))
+
+settled_all : (r : Reading) (taken : List ℕ) (o : Option ℕ) → HasTaken r taken → size_of (left_of r.state) ≡ o → lacks_of o r.limit r.at (length (held_of r)) ≡ 0 → IsSettled taken r.limit
+settled_all r taken None t is none = inl (whole_reading r taken t is)
 settled_all r taken (Some n) t is none =
     elim (cases_lt r.limit (r.at + n)) [
       | inl past ↦ inr (

@@ -12,12 +12,12 @@ use Rattle.ncc_header.specs.declared.fault.HeaderError.TheVariants as errors
 use Rattle.ncc_schema.specs.declared.schema.Header.{Header}
 use Rattle.ncc_header.specs.declared.standing.Fed.{Fed}
 use Rattle.ncc_header.specs.declared.standing.Fed.TheVariants.{More, Done}
-use Rattle.ncc_schema.specs.Device.{Loses}
+use Rattle.ncc_schema.specs.Device.{Loses, LosesAtMost}
 use Rattle.ncc_header.specs.Fields.{header}
 use Rattle.ncc_header.specs.Grammar.{lacking}
 use Rattle.ncc_header.specs.Answers.{Answers, AnswersOf, CountsAs, IsLeft}
 use Rattle.ncc_header.specs.Decoder.{Took, limit_of}
-use Rattle.ncc_header.specs.FromSource.{HasFed, FailsFeeding, HasRead, IsOver}
+use Rattle.ncc_header.specs.FromSource.{HasFed, FailsOn, FailsFeeding, HasRead, IsOver}
 use Rattle.ncc_header.specs.Standing.{FailedOn, Feeds, front_taken}
 use Rattle.ncc_header.proofs.Deciding.{settled_answers}
 use Rattle.ncc_header.proofs.HeaderLaws.{header_stop_stays, apart, whole_begins}
@@ -82,12 +82,33 @@ failed_more taken more limit (errors.Fault f) h = header_stop_stays taken more l
 failed_more taken more limit errors.Device h = h
 failed_more taken more limit errors.Memory h = tt
 
-pub failed_source : (old mid new : Option (List ℕ)) (d : Decoder) (limit taken : ℕ) (e : HeaderError) → HasRead old mid d limit taken → FailsFeeding mid new d e → AnswersSource old limit (Err e)
-failed_source None mid new d limit taken e r f = tt
-failed_source (Some input) mid new d limit taken e r (inl is) = subst (λ (x : HeaderError). AnswersOf input limit (Err x)) (sym is) tt
-failed_source (Some input) mid new d limit taken e r (inr f) =
-    let h : FailedOn (r.bytes ++ f.0) limit e = subst (λ (l : ℕ). FailedOn (r.bytes ++ f.0) l e) r.limit_is (f.2 r.bytes r.took) in
-    answers_lost (Some input) new limit (r.bytes ++ f.0) (Err e) (loses_both (Some input) mid new r.bytes f.0 r.lost f.1) (λ rest is. failed_more (r.bytes ++ f.0) rest limit e h)
+pub failed_source : (old mid new : Option (List ℕ)) (d : Decoder) (limit taken room : ℕ) (e : HeaderError) → HasRead old mid d limit taken → FailsFeeding mid new d room e → AnswersSource old limit (Err e)
+failed_source None mid new d limit taken room e r f = tt
+failed_source (Some input) mid new d limit taken room e r (inl is) = subst (λ (x : HeaderError). AnswersOf input limit (Err x)) (sym is.0) tt
+failed_source (Some input) mid new d limit taken room e r (inr f) =
+    let h : FailedOn (r.bytes ++ f.piece) limit e = subst (λ (l : ℕ). FailedOn (r.bytes ++ f.piece) l e) r.limit_is (f.failed r.bytes r.took) in
+    answers_lost (Some input) new limit (r.bytes ++ f.piece) (Err e) (loses_both (Some input) mid new r.bytes f.piece r.lost f.lost) (λ rest is. failed_more (r.bytes ++ f.piece) rest limit e h)
+
+-- no more was lost than the limit
+pub read_most : (old now : Option (List ℕ)) (d : Decoder) (limit taken : ℕ) → HasRead old now d limit taken → taken ≤ limit → LosesAtMost old now limit
+read_most old now d limit taken r few = (r.bytes, r.lost, omega (arith, r.long, few))
+
+pub failed_most : (old mid new : Option (List ℕ)) (d : Decoder) (limit taken room : ℕ) (e : HeaderError) → HasRead old mid d limit taken → FailsFeeding mid new d room e → taken + room ≤ limit → LosesAtMost old new limit
+failed_most old mid new d limit taken room e r (inl is) few =
+    (r.bytes ++ [], loses_both old mid new r.bytes [] r.lost is.1, omega (arith, length-append {A = ℕ} r.bytes [], r.long, few))
+failed_most old mid new d limit taken room e r (inr f) few =
+    (r.bytes ++ f.piece, loses_both old mid new r.bytes f.piece r.lost f.lost, omega (arith, length-append r.bytes f.piece, r.long, f.few, few))
+
+-- eight bytes need no memory
+pub failed_memory : (old mid new : Option (List ℕ)) (d : Decoder) (limit taken room : ℕ) (e : HeaderError) → HasRead old mid d limit taken → FailsFeeding mid new d room e → e ≡ errors.Memory → IfSome old (λ input. 8 < length input)
+failed_memory None mid new d limit taken room e r f is = tt
+failed_memory (Some input) mid new d limit taken room e r (inl failed) is = absurd (device_or_memory (sym failed.0 ∙ is))
+  where
+    device_or_memory : errors.Device ≡ errors.Memory → ⊥
+    device_or_memory same = cc
+failed_memory (Some input) mid new d limit taken room e r (inr f) is =
+    let lost = loses_both (Some input) mid new r.bytes f.piece r.lost f.lost in
+    omega (arith, ap length lost.2, length-append (r.bytes ++ f.piece) lost.0, length-append r.bytes f.piece, f.memory is r.bytes r.took)
 
 -- ---- what is wanted
 

@@ -9,7 +9,8 @@ use Rattle.ncc_schema.specs.declared.schema.Schema.{Schema}
 use Rattle.ncc_schema.specs.declared.schema.Header.{Header}
 use Rattle.ncc_header.specs.Grammar.{Spells, reads, read}
 use Rattle.ncc_schema.specs.Schema.{Place, place_of, places_of}
-use Rattle.ncc_schema.specs.Header.{IsHeader}
+use Rattle.ncc_schema.specs.Header.{IsHeader, canon}
+use Rattle.ncc_schema.proofs.CanonicalLength.{canonical_length}
 use Rattle.ncc_header.specs.Fields.{header}
 use Rattle.ncc_header.specs.Marks.{header_marks, header_begins}
 use Rattle.ncc_header.specs.Answers.{Begins, Stops}
@@ -81,6 +82,16 @@ begins_with s places front rest input limit joined is within =
 
 pub whole_begins : (bytes : List ℕ) (limit : ℕ) (s : Schema) (places : List Place) → IsHeader s places bytes → length bytes ≤ limit → (h : Header) × Begins bytes limit h
 whole_begins bytes limit s places is within = (header_is s places bytes, begins_with s places bytes [] bytes limit (sym (append-nil bytes)) is within)
+
+-- each front that is a header is what the input begins with
+pub begun : (s : Schema) (places : List Place) (front rest : List ℕ) (limit : ℕ) → IsHeader s places front → length front ≤ limit → (h : Header) × Begins (front ++ rest) limit h × (h.schema ≡ s) × (places_of h.places ≡ places)
+unfolding header_is
+begun s places front rest limit is within =
+    let number : length (header_begins front) ≡ length places = length-header_begins s places front (fields_spell s places front is) in
+    (header_is s places front, begins_with s places front rest (front ++ rest) limit refl is within, refl, places_of-placed places (header_begins front) number)
+
+pub length_is_canonical : (input : List ℕ) (limit : ℕ) (h : Header) → Begins input limit h → h.length ≡ length (canon h.schema (places_of h.places))
+length_is_canonical input limit h b = b.long ∙ canonical_length h.schema (places_of h.places) b.front b.is_header
 
 pub either : (input : List ℕ) (limit : ℕ) → IsBytes input → ((h : Header) × Begins input limit h) ⊎ ((f : Fault) × Stops input limit f)
 either input limit bytes = elim (begins_or_stops header input limit bytes) [

@@ -6,7 +6,7 @@ use Rattle.ncc_values.specs.declared.version.Version.{Version}
 use Rattle.ncc_values.specs.declared.version.Version.TheVariants.{V1, V2, V5}
 use Rattle.ncc_header.specs.declared.fault.FaultKind.{FaultKind}
 use Rattle.ncc_header.specs.declared.wrong.Wrong.{Wrong}
-use Rattle.ncc_schema.specs.Schema.{count_limit, length_limit, offset_limit, mark}
+use Rattle.ncc_schema.specs.Schema.{count_limit, length_limit, offset_limit, streaming_mark}
 use Rattle.ncc_header.specs.Fields.{unless, first, at_tag_if}
 
 pub unless-none : (b : Bool) (kind : FaultKind) → unless b kind ≡ None → b ≡ true
@@ -52,7 +52,7 @@ offset_limit-fits V1 = omega arith
 offset_limit-fits V2 = omega arith
 offset_limit-fits V5 = omega arith
 
-pub mark-last : (v : Version) → suc (mark v) ≡ 256 ^ count_width_of v
-mark-last V1 = refl
-mark-last V2 = refl
-mark-last V5 = refl
+pub streaming_mark-last : (v : Version) → suc (streaming_mark v) ≡ 256 ^ count_width_of v
+streaming_mark-last V1 = refl
+streaming_mark-last V2 = refl
+streaming_mark-last V5 = refl

@@ -17,4 +17,5 @@ mod TakeField
 mod TakePiece
 mod Feeding
 mod Deciding
+mod Answering
 mod FromSource

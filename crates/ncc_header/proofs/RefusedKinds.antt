@@ -12,7 +12,7 @@ use Rattle.ncc_header.specs.declared.state.State.{State}
 use Rattle.ncc_header.specs.declared.state.State.TheVariants as states
 use Rattle.ncc_header.specs.declared.wrong.Wrong.{Wrong}
 use Rattle.ncc_schema.specs.Schema.{count_limit, length_limit, offset_limit, record_dims, is_record}
-use Rattle.ncc_header.specs.Fields.{unless, at_tag_if, first, magic_wrong, version_wrong, count_wrong, tag_wrong, list_count_wrong, length_wrong, type_wrong, dimid_wrong, begin_wrong}
+use Rattle.ncc_header.specs.Fields.{unless, at_tag_if, first, magic_wrong, version_wrong, nelems_wrong, tag_wrong, list_nelems_wrong, length_wrong, type_wrong, dimid_wrong, begin_wrong}
 use Rattle.ncc_header.specs.States.{left_of, version_of_owner, version_of_named, IsRefused}
 
 -- what is wrong, if anything, is no early end
@@ -37,14 +37,14 @@ magic_other n = unless_other (n == 0x434446) BadMagic (λ h. cc)
 version_other : (n : ℕ) → Other (version_wrong n)
 version_other n = unless_other (is_some (version_of n)) BadVersion (λ h. cc)
 
-count_other : (v : Version) (n : ℕ) → Other (count_wrong v n)
+count_other : (v : Version) (n : ℕ) → Other (nelems_wrong v n)
 count_other v n = unless_other (ltb n (count_limit v)) NegativeCount (λ h. cc)
 
 tag_other : (own n : ℕ) → Other (tag_wrong own n)
 tag_other own n = unless_other ((n == 0) || (n == own)) BadTag (λ h. cc)
 
-list_count_other : (v : Version) (t n : ℕ) → Other (list_count_wrong v t n)
-list_count_other v t n = first_other (count_wrong v n) (at_tag_if ((t == 0) && not (n == 0)) BadTag) (count_other v n) (at_tag_other ((t == 0) && not (n == 0)) BadTag (λ h. cc))
+list_count_other : (v : Version) (t n : ℕ) → Other (list_nelems_wrong v t n)
+list_count_other v t n = first_other (nelems_wrong v n) (at_tag_if ((t == 0) && not (n == 0)) BadTag) (count_other v n) (at_tag_other ((t == 0) && not (n == 0)) BadTag (λ h. cc))
 
 length_other : (v : Version) (before : List Dim) (n : ℕ) → Other (length_wrong v before n)
 length_other v before n = first_other (unless (ltb n (length_limit v)) NegativeCount) (unless (not ((n == 0) && ltb 0 (record_dims before))) TwoRecordDims)

@@ -19,12 +19,12 @@ use Rattle.ncc_schema.specs.declared.schema.Attr.{Attr}
 use Rattle.ncc_schema.specs.declared.schema.Var.{Var}
 use Rattle.ncc_schema.specs.declared.schema.Schema.{Schema}
 use Rattle.ncc_header.specs.Grammar.{Plain, Grammar, done, ◌>>=◌, ◌into◌}
-use Rattle.ncc_schema.specs.Schema.{mark, Place, LegalDim, LegalVar, LegalPlace, LegalCount, Legal, IsTypedVar, IsTyped}
+use Rattle.ncc_schema.specs.Schema.{streaming_mark, Place, LegalDim, LegalVar, LegalPlace, LegalCount, Legal, IsTypedVar, IsTyped}
 use Rattle.ncc_schema.specs.Header.{exactly}
 use Rattle.ncc_schema.specs.Header as spelled
-use Rattle.ncc_header.specs.Fields.{magic_wrong, version_wrong, list, dim, attrs, var, magic, version, numrecs, count_of, header}
+use Rattle.ncc_header.specs.Fields.{magic_wrong, version_wrong, list, dim, attrs, var, magic, version, numrecs, numrecs_of, header}
 use Rattle.ncc_header.proofs.Exact.{Exact, exact_then, exact_into, exact_fits, ◌then◌, flat, exact_as, exact_number}
-use Rattle.ncc_header.proofs.Judgements.{unless-none, mark-last}
+use Rattle.ncc_header.proofs.Judgements.{unless-none, streaming_mark-last}
 use Rattle.ncc_header.proofs.RulesOfLists.{exact_list, all_after, after_all, all_both, both_all}
 use Rattle.ncc_header.proofs.RulesOfDims.{exact_dim, dims_to, dims_from}
 use Rattle.ncc_header.proofs.RulesOfVars.{exact_attrs, exact_var}
@@ -61,26 +61,26 @@ exact_version = exact_fits (exact_into (λ n. unwrap_or (version_of n) V1) byte_
 abbrev fine : Option Wrong
 fine = None
 
-pub exact_numrecs : (v : Version) → Exact (numrecs v) (LegalCount v) (λ c. spelled.count v (spelled.counted v c))
-exact_numrecs v = exact_fits (exact_into (count_of v) (spelled.counted v) (exact_number Plain (count_width_of v) (λ n. None)) (λ n f. back n (n == mark v) refl)) to from
+pub exact_numrecs : (v : Version) → Exact (numrecs v) (LegalCount v) (λ c. spelled.non_neg v (spelled.counted v c))
+exact_numrecs v = exact_fits (exact_into (numrecs_of v) (spelled.counted v) (exact_number Plain (count_width_of v) (λ n. None)) (λ n f. back n (n == streaming_mark v) refl)) to from
   where
-    back : (n : ℕ) (b : Bool) → (n == mark v) ≡ b → spelled.counted v (if b then Streaming else Known n) ≡ n
-    back n true e = sym (eqb-true n (mark v) e)
+    back : (n : ℕ) (b : Bool) → (n == streaming_mark v) ≡ b → spelled.counted v (if b then Streaming else Known n) ≡ n
+    back n true e = sym (eqb-true n (streaming_mark v) e)
     back n false e = refl
 
     known_other : (b : Bool) (n : ℕ) → (if b then Streaming else Known n) ≡ Known n → b ≡ false
     known_other true n h = absurd cc
     known_other false n h = refl
 
-    to : (c : Count) → ((spelled.counted v c < 256 ^ count_width_of v) × (fine ≡ None)) × (count_of v (spelled.counted v c) ≡ c) → LegalCount v c
+    to : (c : Count) → ((spelled.counted v c < 256 ^ count_width_of v) × (fine ≡ None)) × (numrecs_of v (spelled.counted v c) ≡ c) → LegalCount v c
     to (Known n) f =
-        let other : (n == mark v) ≡ false = known_other (n == mark v) n f.1 in
-        omega (arith, f.0.0, mark-last v, λ (e : n ≡ mark v). false≢true (sym other ∙ eq-eqb n (mark v) e))
+        let other : (n == streaming_mark v) ≡ false = known_other (n == streaming_mark v) n f.1 in
+        omega (arith, f.0.0, streaming_mark-last v, λ (e : n ≡ streaming_mark v). false≢true (sym other ∙ eq-eqb n (streaming_mark v) e))
     to Streaming f = tt
 
-    from : (c : Count) → LegalCount v c → ((spelled.counted v c < 256 ^ count_width_of v) × (fine ≡ None)) × (count_of v (spelled.counted v c) ≡ c)
-    from (Known n) f = ((omega (arith, f, mark-last v), refl), rw (ne_eqb n (mark v) (omega (arith, f))) refl)
-    from Streaming f = ((omega (arith, mark-last v), refl), rw (eq-eqb (mark v) (mark v) refl) refl)
+    from : (c : Count) → LegalCount v c → ((spelled.counted v c < 256 ^ count_width_of v) × (fine ≡ None)) × (numrecs_of v (spelled.counted v c) ≡ c)
+    from (Known n) f = ((omega (arith, f, streaming_mark-last v), refl), rw (ne_eqb n (streaming_mark v) (omega (arith, f))) refl)
+    from Streaming f = ((omega (arith, streaming_mark-last v), refl), rw (eq-eqb (streaming_mark v) (streaming_mark v) refl) refl)
 
 -- ---- variables and their places, apart and together
 

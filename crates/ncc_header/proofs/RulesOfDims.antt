@@ -14,7 +14,7 @@ use Rattle.ncc_schema.specs.Header as spelled
 use Rattle.ncc_header.specs.Fields.{length_wrong, dimid_wrong, dim, dimid, dimids}
 use Rattle.ncc_header.proofs.Exact.{Exact, exact_then, exact_into, exact_fits, exact_counted, AllAfter, exact_number}
 use Rattle.ncc_header.proofs.Judgements.{unless-none, first-none, below-none, not-true, count_limit-fits, length_limit-fits}
-use Rattle.ncc_header.proofs.RulesOfLists.{exact_count, exact_name}
+use Rattle.ncc_header.proofs.RulesOfLists.{exact_nelems, exact_name}
 
 abbrev pub AfterDim : Version → List Dim → Dim → Type 0
 AfterDim v before d = (LegalDim v d × IsBytes d.name) × (((d.length == 0) && ltb 0 (record_dims before)) ≡ false)
@@ -65,7 +65,7 @@ dims_from v before (d ∷ dims) h le =
 abbrev pub AfterId : List Dim → List ℕ → ℕ → Type 0
 AfterId dims before n = (n < length dims) × ((is_record dims n && ltb 0 (length before)) ≡ false)
 
-exact_dimid : (v : Version) (dims : List Dim) → length dims < count_limit v → (before : List ℕ) → Exact (dimid v dims before) (AfterId dims before) (spelled.count v)
+exact_dimid : (v : Version) (dims : List Dim) → length dims < count_limit v → (before : List ℕ) → Exact (dimid v dims before) (AfterId dims before) (spelled.non_neg v)
 exact_dimid v dims few before = exact_fits (exact_number Plain (count_width_of v) (dimid_wrong dims before))
     (λ n f. let j = first-none _ _ f.1 in (below-none n (length dims) BadDimId j.0, not-true _ (unless-none _ RecordDimNotFirst j.1)))
     (λ n f. (omega (arith, f.0, few, count_limit-fits v), rw (lt-ltb n (length dims) f.0, f.1) refl))
@@ -96,4 +96,4 @@ ids_from dims [] h = tt
 ids_from dims (n ∷ ids) h = ((h.0, and-false (is_record dims n)), later_from dims (n ∷ []) ids h.1)
 
 pub exact_dimids : (v : Version) (dims : List Dim) → length dims < count_limit v → Exact (dimids v dims) (λ ids. (length ids < count_limit v) × LegalDims dims ids) (spelled.dimids v)
-exact_dimids v dims few = exact_fits (exact_counted (exact_count v) (exact_dimid v dims few)) (λ ids f. (f.0, ids_to dims ids f.1)) (λ ids f. (f.0, ids_from dims ids f.1))
+exact_dimids v dims few = exact_fits (exact_counted (exact_nelems v) (exact_dimid v dims few)) (λ ids f. (f.0, ids_to dims ids f.1)) (λ ids f. (f.0, ids_from dims ids f.1))

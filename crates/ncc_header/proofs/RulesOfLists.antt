@@ -11,20 +11,20 @@ use Rattle.ncc_header.specs.Grammar.{Plain, Grammar, Spells}
 use Rattle.ncc_schema.specs.Schema.{count_limit, LegalName}
 use Rattle.ncc_schema.specs.Header.{list_tag}
 use Rattle.ncc_schema.specs.Header as spelled
-use Rattle.ncc_header.specs.Fields.{unless, at_tag_if, count_wrong, tag_wrong, list_count_wrong, number, count, name, label_of_count, list_count, list_head, list}
+use Rattle.ncc_header.specs.Fields.{unless, at_tag_if, nelems_wrong, tag_wrong, list_nelems_wrong, number, nelems, name, label_of_count, list_nelems, list_head, list}
 use Rattle.ncc_header.proofs.GrammarLaws.{joined, join}
 use Rattle.ncc_header.proofs.Exact.{Exact, exact_then, exact_into, exact_fits, exact_counted, AllAfter, exact_number, exact_bytes, exact_padding}
 use Rattle.ncc_header.proofs.Judgements.{first-none, at_tag_if-none, below-none, none-below, not-false, count_limit-fits}
 
 -- ---- names
 
-pub exact_count : (v : Version) → Exact (count v) (λ n. n < count_limit v) (spelled.count v)
-exact_count v = exact_fits (exact_number Plain (count_width_of v) (count_wrong v))
+pub exact_nelems : (v : Version) → Exact (nelems v) (λ n. n < count_limit v) (spelled.non_neg v)
+exact_nelems v = exact_fits (exact_number Plain (count_width_of v) (nelems_wrong v))
     (λ n f. below-none n (count_limit v) NegativeCount f.1)
     (λ n f. (omega (arith, f, count_limit-fits v), none-below n (count_limit v) NegativeCount f))
 
 pub exact_name : (v : Version) → Exact (name v) (λ n. LegalName v n × IsBytes n) (spelled.name v)
-exact_name v = exact_fits (exact_into (λ x. x.1.0) (λ n. (length n, (n, tt))) (exact_then (exact_count v) (λ n f. exact_then (exact_bytes n) (λ _ f. exact_padding n)))
+exact_name v = exact_fits (exact_into (λ x. x.1.0) (λ n. (length n, (n, tt))) (exact_then (exact_nelems v) (λ n f. exact_then (exact_bytes n) (λ _ f. exact_padding n)))
     (λ a f. ap (λ (k : ℕ). (k, (a.1.0, tt))) f.1.0.0))
     (λ n f. (f.0.0, f.0.1.0.1))
     (λ n f. ((f.0, ((refl, f.1), tt)), refl))
@@ -44,19 +44,19 @@ exact_head v own pos small = record { takes = takes; gives = gives }
   where
     takes : (n : ℕ) (b : List ℕ) → Spells (list_head v own) n b → (n < count_limit v) × spelled.list_head v own n b
     takes n b sp =
-        let j = joined (number 4 (tag_wrong own)) (list_count v) n b sp in
+        let j = joined (number 4 (tag_wrong own)) (list_nelems v) n b sp in
         let one = (exact_number Plain 4 (tag_wrong own)).takes j.0 j.1 j.4 in
-        let two = (exact_number (label_of_count j.0) (count_width_of v) (list_count_wrong v j.0)).takes n j.2 j.5 in
-        let both = first-none (count_wrong v n) (at_tag_if ((j.0 == 0) && not (n == 0)) BadTag) two.0.1 in (
+        let two = (exact_number (label_of_count j.0) (count_width_of v) (list_nelems_wrong v j.0)).takes n j.2 j.5 in
+        let both = first-none (nelems_wrong v n) (at_tag_if ((j.0 == 0) && not (n == 0)) BadTag) two.0.1 in (
           below-none n (count_limit v) NegativeCount both.0,
           (j.1, j.2, j.3, subst (list_tag own n) (sym one.1) (tag_takes own j.0 n (j.0 == 0) (j.0 == own) refl refl one.0.1 both.1), two.1),
         )
 
-    gives_at : (t n : ℕ) (x y : List ℕ) → t < 256 ^ 4 → tag_wrong own t ≡ None → n < count_limit v → list_count_wrong v t n ≡ None → x ≡ big_endian 4 t → y ≡ big_endian (count_width_of v) n → Spells (list_head v own) n (x ++ y)
+    gives_at : (t n : ℕ) (x y : List ℕ) → t < 256 ^ 4 → tag_wrong own t ≡ None → n < count_limit v → list_nelems_wrong v t n ≡ None → x ≡ big_endian 4 t → y ≡ big_endian (count_width_of v) n → Spells (list_head v own) n (x ++ y)
     gives_at t n x y low tag_ok few count_ok is also =
-        join (number 4 (tag_wrong own)) (list_count v) t n x y
+        join (number 4 (tag_wrong own)) (list_nelems v) t n x y
         ((exact_number Plain 4 (tag_wrong own)).gives t x (low, tag_ok) is)
-        ((exact_number (label_of_count t) (count_width_of v) (list_count_wrong v t)).gives n y (omega (arith, few, count_limit-fits v), count_ok) also)
+        ((exact_number (label_of_count t) (count_width_of v) (list_nelems_wrong v t)).gives n y (omega (arith, few, count_limit-fits v), count_ok) also)
 
     by_tag : (n : ℕ) (x y : List ℕ) → n < count_limit v → list_tag own n x → y ≡ big_endian (count_width_of v) n → Spells (list_head v own) n (x ++ y)
     by_tag n x y few (inl is) also =

@@ -23,7 +23,7 @@ use Rattle.ncc_schema.specs.Header as spelled
 use Rattle.ncc_header.specs.Fields.{type_wrong, begin_wrong, name, nc_type, values, attr, attrs, dimids, vsize, begin, var}
 use Rattle.ncc_header.proofs.Exact.{Exact, exact_then, exact_into, exact_fits, ◌then◌, flat, exact_as, exact_number, exact_padding}
 use Rattle.ncc_header.proofs.Judgements.{unless-none, below-none, none-below, offset_limit-fits}
-use Rattle.ncc_header.proofs.RulesOfLists.{exact_count, exact_name, exact_list, all_after, after_all, all_both, both_all}
+use Rattle.ncc_header.proofs.RulesOfLists.{exact_nelems, exact_name, exact_list, all_after, after_all, all_both, both_all}
 use Rattle.ncc_header.proofs.RulesOfDims.{exact_dimids}
 
 -- ---- types
@@ -79,7 +79,7 @@ exact_values t k = record {
 
 pub exact_attr : (v : Version) → Exact (attr v) (λ a. LegalAttr v a × IsTypedAttr a) (spelled.attr v)
 exact_attr v = exact_fits (exact_into (λ x. record { name = x.0; values = x.1.1.1.0 }) (λ a. (a.name, (type_of a.values, (count_of a.values, (a.values, tt)))))
-    (exact_then (exact_name v) (λ _ _. exact_then (exact_type v) (λ t _. exact_then (exact_count v) (λ k _. exact_then (exact_values t k) (λ _ _. exact_padding (k * size_of t))))))
+    (exact_then (exact_name v) (λ _ _. exact_then (exact_type v) (λ t _. exact_then (exact_nelems v) (λ k _. exact_then (exact_values t k) (λ _ _. exact_padding (k * size_of t))))))
     (λ a f i. (a.0, (f.1.1.1.0.0 i, (f.1.1.1.0.1 i, (a.1.1.1.0, tt))))))
     (λ a f. (record { name = f.0.0.0; xtype = f.0.1.0; number = f.0.1.1.0 }, record { name = f.0.0.1; values = f.0.1.1.1.0.2 }))
     (λ a f. (((f.0.name, f.1.name), (f.0.xtype, (f.0.number, ((refl, refl, f.1.values), tt)))), refl))

@@ -19,13 +19,13 @@ use Rattle.ncc_schema.specs.declared.schema.Schema.{Schema}
 use Rattle.ncc_header.specs.Grammar.{Plain, CountOfTagged, Begin, Grammar, done, Spells, Field, fields, ◌>>=◌, ◌into◌, repeat}
 use Rattle.ncc_schema.specs.Schema.{Place}
 use Rattle.ncc_schema.specs.Header.{IsHeader, list_tag, exactly, zeros, canon_name, canon_head, canon_list, canon_dimids, canon_dim, canon_attr, canon_var, canon}
-use Rattle.ncc_header.specs.Fields.{magic, version, numrecs, count_wrong, tag_wrong, list_count_wrong, length_wrong, dimid_wrong, begin_wrong, at_tag_if, number, number_field, padding, name, label_of_count, list_count, list_head, list, dim, attr, attrs, dimid, dimids, var, header}
+use Rattle.ncc_header.specs.Fields.{magic, version, numrecs, nelems_wrong, tag_wrong, list_nelems_wrong, length_wrong, dimid_wrong, begin_wrong, at_tag_if, number, number_field, padding, name, label_of_count, list_nelems, list_head, list, dim, attr, attrs, dimid, dimids, var, header}
 use Rattle.ncc_header.specs.Marks.{marks, mark_of, all_zero, header_marks}
 use Rattle.ncc_header.proofs.GrammarLaws.{joined}
 use Rattle.ncc_header.proofs.FieldsLaws.{fields-join}
 use Rattle.ncc_header.proofs.Exact.{Exact, ◌then◌, exact_then, exact_number, exact_bytes, exact_padding}
 use Rattle.ncc_header.proofs.Judgements.{first-none}
-use Rattle.ncc_header.proofs.RulesOfLists.{tag_takes, exact_count, exact_name}
+use Rattle.ncc_header.proofs.RulesOfLists.{tag_takes, exact_nelems, exact_name}
 use Rattle.ncc_header.proofs.RulesOfVars.{exact_type, exact_values, var_flat, var_of, var_parts}
 use Rattle.ncc_header.proofs.HeaderLaws.{fields_spell}
 use Rattle.ncc_header.proofs.Rules.{exact_magic, exact_version, exact_numrecs, header_flat, whole, parts, lists, zip_maps}
@@ -131,7 +131,7 @@ unmarked_padding n = record { canonical = canonical }
 
 -- the number behind a tag, labelled so
 abbrev labelled : Version → (t : ℕ) → Bool → Grammar ℕ
-labelled v t z = number_field (if z then Plain else CountOfTagged) (count_width_of v) (list_count_wrong v t)
+labelled v t z = number_field (if z then Plain else CountOfTagged) (count_width_of v) (list_nelems_wrong v t)
 
 -- a tag that isn't zero is marked where its list is empty
 tagged_empty : (v : Version) (t at : ℕ) → marks (fields (labelled v t false) at (big_endian (count_width_of v) 0)) ≡ [] → ⊥
@@ -151,20 +151,20 @@ unmarked_head v own = record { canonical = canonical }
   where
     canonical : (n : ℕ) (b : List ℕ) (at : ℕ) → Spells (list_head v own) n b → marks (fields (list_head v own) at b) ≡ [] → b ≡ canon_head v own n
     canonical n b at sp none =
-        let j = parts_of (number 4 (tag_wrong own)) (list_count v) n b at sp none in
+        let j = parts_of (number 4 (tag_wrong own)) (list_nelems v) n b at sp none in
         let one = (exact_number Plain 4 (tag_wrong own)).takes j.0 j.1 j.4 in
-        let two = (exact_number (label_of_count j.0) (count_width_of v) (list_count_wrong v j.0)).takes n j.2 j.5 in
-        let both = first-none (count_wrong v n) (at_tag_if ((j.0 == 0) && not (n == 0)) BadTag) two.0.1 in
+        let two = (exact_number (label_of_count j.0) (count_width_of v) (list_nelems_wrong v j.0)).takes n j.2 j.5 in
+        let both = first-none (nelems_wrong v n) (at_tag_if ((j.0 == 0) && not (n == 0)) BadTag) two.0.1 in
         let tags = tag_takes own j.0 n (j.0 == 0) (j.0 == own) refl refl one.0.1 both.1 in
-        j.3 ∙ ap₂ (λ (s t : List ℕ). s ++ t) one.1 two.1 ∙ head_is v own j.0 n (at + length j.1) (j.0 == 0) refl tags (subst (λ (y : List ℕ). marks (fields (list_count v j.0) (at + length j.1) y) ≡ []) two.1 j.7)
+        j.3 ∙ ap₂ (λ (s t : List ℕ). s ++ t) one.1 two.1 ∙ head_is v own j.0 n (at + length j.1) (j.0 == 0) refl tags (subst (λ (y : List ℕ). marks (fields (list_nelems v j.0) (at + length j.1) y) ≡ []) two.1 j.7)
 
 -- ---- the rules
 
 unmarked_name : (v : Version) → Unmarked (name v) (canon_name v)
 unmarked_name v =
-    let parts_exact = exact_then (exact_count v) (λ n _. exact_then (exact_bytes n) (λ _ _. exact_padding n)) in
+    let parts_exact = exact_then (exact_nelems v) (λ n _. exact_then (exact_bytes n) (λ _ _. exact_padding n)) in
     unmarked_into (λ x. x.1.0) (λ n. (length n, (n, tt))) (λ a b sp. ap (λ (k : ℕ). (k, (a.1.0, tt))) (parts_exact.takes a b sp).0.1.0.0)
-    (unmarked_then (unmarked_exact (exact_count v)) (λ n. unmarked_then (unmarked_exact (exact_bytes n)) (λ _. unmarked_padding n)))
+    (unmarked_then (unmarked_exact (exact_nelems v)) (λ n. unmarked_then (unmarked_exact (exact_bytes n)) (λ _. unmarked_padding n)))
 
 unmarked_list : {A : Type 0} {item : List A → Grammar A} {c : A → List ℕ} (v : Version) (own : ℕ) → ((before : List A) → Unmarked (item before) c) → Unmarked (list v own item) (canon_list v own c)
 unmarked_list v own one = unmarked_counted (unmarked_head v own) one
@@ -175,10 +175,10 @@ unmarked_dim v before = unmarked_into (λ x. record { name = x.0; length = x.1 }
 
 unmarked_attr : (v : Version) → Unmarked (attr v) (canon_attr v)
 unmarked_attr v =
-    let parts_exact = exact_then (exact_name v) (λ _ _. exact_then (exact_type v) (λ t _. exact_then (exact_count v) (λ k _. exact_then (exact_values t k) (λ _ _. exact_padding (k * size_of t))))) in
+    let parts_exact = exact_then (exact_name v) (λ _ _. exact_then (exact_type v) (λ t _. exact_then (exact_nelems v) (λ k _. exact_then (exact_values t k) (λ _ _. exact_padding (k * size_of t))))) in
     unmarked_into (λ x. record { name = x.0; values = x.1.1.1.0 }) (λ a. (a.name, (type_of a.values, (count_of a.values, (a.values, tt)))))
     (λ a b sp i. let f = (parts_exact.takes a b sp).0 in (a.0, (f.1.1.1.0.0 i, (f.1.1.1.0.1 i, (a.1.1.1.0, tt)))))
-    (unmarked_then (unmarked_name v) (λ _. unmarked_then (unmarked_exact (exact_type v)) (λ t. unmarked_then (unmarked_exact (exact_count v)) (λ k. unmarked_then (unmarked_exact (exact_values t k)) (λ _. unmarked_padding (k * size_of t))))))
+    (unmarked_then (unmarked_name v) (λ _. unmarked_then (unmarked_exact (exact_type v)) (λ t. unmarked_then (unmarked_exact (exact_nelems v)) (λ k. unmarked_then (unmarked_exact (exact_values t k)) (λ _. unmarked_padding (k * size_of t))))))
 
 unmarked_attrs : (v : Version) → Unmarked (attrs v) (canon_list v 12 (canon_attr v))
 unmarked_attrs v = unmarked_list v 12 (λ _. unmarked_attr v)
@@ -187,7 +187,7 @@ unmarked_dimid : (v : Version) (dims : List Dim) (before : List ℕ) → Unmarke
 unmarked_dimid v dims before = unmarked_exact (exact_number Plain (count_width_of v) (dimid_wrong dims before))
 
 unmarked_dimids : (v : Version) (dims : List Dim) → Unmarked (dimids v dims) (canon_dimids v)
-unmarked_dimids v dims = unmarked_counted (unmarked_exact (exact_count v)) (unmarked_dimid v dims)
+unmarked_dimids v dims = unmarked_counted (unmarked_exact (exact_nelems v)) (unmarked_dimid v dims)
 
 unmarked_var : (v : Version) (dims : List Dim) → Unmarked (var v dims) (canon_var v)
 unmarked_var v dims = unmarked_as (var_flat v dims) (unmarked_into var_of var_parts (λ a b sp. refl)

@@ -20,7 +20,8 @@ use Rattle.ncc_schema.specs.declared.schema.Attr.{Attr}
 use Rattle.ncc_schema.specs.declared.schema.Var.{Var}
 use Rattle.ncc_schema.specs.declared.schema.Schema.{Schema}
 use Rattle.ncc_header.specs.Grammar.{Label, Plain, Padding, CountOfTagged, Begin, Grammar, done, field, ◌>>=◌, ◌into◌, repeat}
-use Rattle.ncc_schema.specs.Schema.{count_limit, length_limit, offset_limit, mark, Place, record_dims, is_record}
+use Rattle.ncc_schema.specs.Header.{nc_dimension, nc_variable, nc_attribute}
+use Rattle.ncc_schema.specs.Schema.{count_limit, length_limit, offset_limit, streaming_mark, Place, record_dims, is_record}
 
 -- ---- judgements
 
@@ -46,15 +47,15 @@ abbrev pub version_wrong : ℕ → Option Wrong
 version_wrong n = unless (is_some (version_of n)) BadVersion
 
 -- nelems
-abbrev pub count_wrong : Version → ℕ → Option Wrong
-count_wrong v n = unless (ltb n (count_limit v)) NegativeCount
+abbrev pub nelems_wrong : Version → ℕ → Option Wrong
+nelems_wrong v n = unless (ltb n (count_limit v)) NegativeCount
 
 abbrev pub tag_wrong : (own : ℕ) → ℕ → Option Wrong
 tag_wrong own t = unless ((t == 0) || (t == own)) BadTag
 
 -- nelems of a list whose tag was t
-abbrev pub list_count_wrong : Version → (t : ℕ) → ℕ → Option Wrong
-list_count_wrong v t n = first (count_wrong v n) (at_tag_if ((t == 0) && not (n == 0)) BadTag)
+abbrev pub list_nelems_wrong : Version → (t : ℕ) → ℕ → Option Wrong
+list_nelems_wrong v t n = first (nelems_wrong v n) (at_tag_if ((t == 0) && not (n == 0)) BadTag)
 
 abbrev pub length_wrong : Version → (before : List Dim) → ℕ → Option Wrong
 length_wrong v before n = first (unless (ltb n (length_limit v)) NegativeCount) (unless (not ((n == 0) && ltb 0 (record_dims before))) TwoRecordDims)
@@ -86,13 +87,13 @@ padding n = field Padding (padding_of n) (λ b. None) (λ b. done tt)
 -- ---- the grammar
 
 -- nelems
-abbrev pub count : Version → Grammar ℕ
-count v = number (count_width_of v) (count_wrong v)
+abbrev pub nelems : Version → Grammar ℕ
+nelems v = number (count_width_of v) (nelems_wrong v)
 
 -- name = nelems namestring padding
 abbrev pub name : Version → Grammar (List ℕ)
 name v = do
-  n ← count v
+  n ← nelems v
   text ← bytes n
   zeros ← padding n
   done text
@@ -100,8 +101,8 @@ name v = do
 abbrev pub label_of_count : (t : ℕ) → Label
 label_of_count t = if t == 0 then Plain else CountOfTagged
 
-abbrev pub list_count : Version → (t : ℕ) → Grammar ℕ
-list_count v t = number_field (label_of_count t) (count_width_of v) (list_count_wrong v t)
+abbrev pub list_nelems : Version → (t : ℕ) → Grammar ℕ
+list_nelems v t = number_field (label_of_count t) (count_width_of v) (list_nelems_wrong v t)
 
 abbrev pub list_tag : (own : ℕ) → Grammar ℕ
 list_tag own = number 4 (tag_wrong own)
@@ -109,7 +110,7 @@ list_tag own = number 4 (tag_wrong own)
 abbrev pub list_head : Version → (own : ℕ) → Grammar ℕ
 list_head v own = do
   t ← list_tag own
-  list_count v t
+  list_nelems v t
 
 -- list = ABSENT | tag nelems [item ...]
 abbrev pub list : {A : Type 0} → Version → (own : ℕ) → (List A → Grammar A) → Grammar (List A)
@@ -140,13 +141,13 @@ abbrev pub attr : Version → Grammar Attr
 attr v = do
   text ← name v
   t ← nc_type v
-  k ← count v
+  k ← nelems v
   vs ← values t k
   zeros ← padding (k * size_of t)
   done (record { name = text; values = vs })
 
 abbrev pub attrs : Version → Grammar (List Attr)
-attrs v = list v 12 (λ before. attr v)
+attrs v = list v nc_attribute (λ before. attr v)
 
 abbrev pub dimid : Version → List Dim → (before : List ℕ) → Grammar ℕ
 dimid v dims before = number (count_width_of v) (dimid_wrong dims before)
@@ -154,7 +155,7 @@ dimid v dims before = number (count_width_of v) (dimid_wrong dims before)
 -- nelems [dimid ...]
 abbrev pub dimids : Version → List Dim → Grammar (List ℕ)
 dimids v dims = do
-  n ← count v
+  n ← nelems v
   repeat (dimid v dims) [] n
 
 abbrev pub vsize : Version → Grammar ℕ
@@ -181,12 +182,12 @@ magic = number 3 magic_wrong
 abbrev pub version : Grammar Version
 version = number 1 version_wrong into λ n. unwrap_or (version_of n) V1
 
-abbrev pub count_of : Version → ℕ → Count
-count_of v n = if n == mark v then Streaming else Known n
+abbrev pub numrecs_of : Version → ℕ → Count
+numrecs_of v n = if n == streaming_mark v then Streaming else Known n
 
 -- numrecs
 abbrev pub numrecs : Version → Grammar Count
-numrecs v = number (count_width_of v) (λ n. None) into count_of v
+numrecs v = number (count_width_of v) (λ n. None) into numrecs_of v
 
 -- header = magic numrecs dim_list gatt_list var_list
 abbrev pub header : Grammar (Schema × List Place)
@@ -194,7 +195,7 @@ header = do
   letters ← magic
   v ← version
   c ← numrecs v
-  dims ← list v 10 (dim v)
+  dims ← list v nc_dimension (dim v)
   gatts ← attrs v
-  vars ← list v 11 (λ before. var v dims)
+  vars ← list v nc_variable (λ before. var v dims)
   done (record { version = v; count = c; dims = dims; gatts = gatts; vars = map (λ x. x.0) vars }, map (λ x. x.1) vars)

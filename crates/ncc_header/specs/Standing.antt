@@ -43,9 +43,9 @@ abbrev pub TookAt : Standing → (taken : List ℕ) → Type 0
 TookAt (standings.Reading r) taken = HasTaken r taken
 TookAt (standings.Failed limit e) taken = FailedOn taken limit e
 
-abbrev pub IsSpentAt : Standing → Type 0
-IsSpentAt (standings.Reading r) = ⊥
-IsSpentAt (standings.Failed limit e) = e ≡ errors.Memory
+abbrev pub HasFailedAt : Standing → HeaderError → Type 0
+HasFailedAt (standings.Reading r) e = ⊥
+HasFailedAt (standings.Failed limit met) e = met ≡ e
 
 -- ---- what is answered
 
@@ -79,6 +79,10 @@ fed_of None used = Done used
 abbrev pub front_taken : Result Fed HeaderError → (piece : List ℕ) → List ℕ
 front_taken (Ok (Done used)) piece = take used piece
 front_taken _ piece = piece
+
+-- this answer, unless memory was refused
+abbrev pub FedOrMemory : Result Fed HeaderError → Result Fed HeaderError → Type 0
+FedOrMemory result answer = (result ≡ answer) ⊎ (result ≡ Err errors.Memory)
 
 -- what an answer says of the bytes that were taken and the piece, unless memory was refused
 abbrev pub Feeds : (taken piece : List ℕ) (limit : ℕ) → Result Fed HeaderError → Type 0

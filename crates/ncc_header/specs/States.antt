@@ -24,8 +24,9 @@ use Rattle.ncc_header.specs.declared.state.State.TheVariants as states
 use Rattle.ncc_header.specs.declared.state.StepError.{StepError}
 use Rattle.ncc_header.specs.declared.state.StepError.TheVariants as errors
 use Rattle.ncc_header.specs.Grammar.{Label, Plain, Begin, Grammar, done, field, ◌>>=◌, repeat}
+use Rattle.ncc_schema.specs.Header.{nc_dimension, nc_variable}
 use Rattle.ncc_schema.specs.Schema.{Place, places_of}
-use Rattle.ncc_header.specs.Fields.{header, version, numrecs, list, list_count, name, dim, bytes, padding, dim_length, attr, attrs, nc_type, count, values, var, dimid, dimids, vsize, begin}
+use Rattle.ncc_header.specs.Fields.{header, version, numrecs, list, list_nelems, name, dim, bytes, padding, dim_length, attr, attrs, nc_type, nelems, values, var, dimid, dimids, vsize, begin}
 
 -- what a header gives
 abbrev pub Given : Type 0
@@ -37,7 +38,7 @@ abbrev pub ended : Head → List Attr → List (Var × Place) → Grammar Given
 ended h gatts vars = done (record { version = h.version; count = h.count; dims = h.dims; gatts = gatts; vars = map (λ x. x.0) vars }, map (λ x. x.1) vars)
 
 abbrev pub var_list : Head → List Attr → Grammar Given
-var_list h gatts = list h.version 11 (λ before. var h.version h.dims) >>= ended h gatts
+var_list h gatts = list h.version nc_variable (λ before. var h.version h.dims) >>= ended h gatts
 
 -- k more variables, and then the end
 abbrev pub from_vars : Head → List Attr → List (Var × Place) → (k : ℕ) → Grammar Given
@@ -97,7 +98,7 @@ abbrev pub from_values : (name : List ℕ) → XType → (number : ℕ) → Gram
 from_values name t k = values t k >>= λ vs. from_attr_padding name (k * bytes_each t) vs
 
 abbrev pub from_attr_count : Version → (name : List ℕ) → XType → Grammar Attr
-from_attr_count v name t = count v >>= λ k. from_values name t k
+from_attr_count v name t = nelems v >>= λ k. from_values name t k
 
 abbrev pub from_attr_type : Version → (name : List ℕ) → Grammar Attr
 from_attr_type v name = nc_type v >>= λ t. from_attr_count v name t
@@ -112,7 +113,7 @@ abbrev pub from_dims : Version → Count → List Dim → (k : ℕ) → Grammar 
 from_dims v c dims k = repeat (dim v) dims k >>= with_dims v c
 
 abbrev pub from_count : Version → Count → Grammar Given
-from_count v c = list v 10 (dim v) >>= with_dims v c
+from_count v c = list v nc_dimension (dim v) >>= with_dims v c
 
 abbrev pub from_version : Version → Grammar Given
 from_version v = numrecs v >>= from_count v
@@ -143,19 +144,19 @@ left_of states.Magic = header
 left_of states.VersionByte = version >>= from_version
 left_of (states.RecordCount v) = from_version v
 left_of (states.DimsTag v c) = from_count v c
-left_of (states.DimsCount v c t) = (list_count v t >>= repeat (dim v) []) >>= with_dims v c
+left_of (states.DimsCount v c t) = (list_nelems v t >>= repeat (dim v) []) >>= with_dims v c
 left_of (states.NameLength x) = name (version_of_named x) >>= with_name x
 left_of (states.NameText x n text) = bytes n >>= λ text. padding n >>= λ zeros. with_name x text
 left_of (states.NamePadding x text) = padding (length text) >>= λ zeros. with_name x text
 left_of (states.DimLength d text) = in_dim d (from_length d text)
 left_of (states.AttrsTag o) = attr_list o
-left_of (states.AttrsCount o t) = (list_count (version_of_owner o) t >>= repeat (λ before. attr (version_of_owner o)) []) >>= with_attrs o
+left_of (states.AttrsCount o t) = (list_nelems (version_of_owner o) t >>= repeat (λ before. attr (version_of_owner o)) []) >>= with_attrs o
 left_of (states.AttrType a text) = in_attr a (from_attr_type (version_of_owner a.owner) text)
 left_of (states.AttrCount a text t) = in_attr a (from_attr_count (version_of_owner a.owner) text t)
 left_of (states.AttrValues b) = in_attr b.attrs (from_values b.name (type_of b.values) b.number)
 left_of (states.AttrPadding a text n vs) = in_attr a (from_attr_padding text n vs)
 left_of (states.VarsTag h gatts) = var_list h gatts
-left_of (states.VarsCount h gatts t) = (list_count h.version t >>= repeat (λ before. var h.version h.dims) []) >>= ended h gatts
+left_of (states.VarsCount h gatts t) = (list_nelems h.version t >>= repeat (λ before. var h.version h.dims) []) >>= ended h gatts
 left_of (states.DimIdsCount v text) = in_var v (from_rank v text)
 left_of (states.DimId v text before k) = in_var v ((dimid v.head.version v.head.dims before.items >>= λ n. repeat (dimid v.head.version v.head.dims) (before.items ++ n ∷ []) k) >>= λ dims. from_dims_of_var v.head.version text dims)
 left_of (states.VarType v text dims notes) = in_var v (from_type v.head.version text dims notes)

@@ -1,11 +1,14 @@
 //! A decoder that takes a header in pieces.
 
-ghost use Rattle.std.specs.Prelude.{◌≡◌, ◌≤◌, ◌+◌, ◌++◌, ℕ, List, [], length, IfOk};
+ghost use Rattle.std.specs.Prelude.{◌≡◌, ◌≤◌, ◌+◌, ◌++◌, ℕ, List, [], length, take, is_none, Ok, Err, IfOk, IfErr};
+ghost use Rattle.ncc_header.specs.declared.fault.Fault.{Fault as TheFault};
+ghost use Rattle.ncc_header.specs.declared.fault.HeaderError.{HeaderError as TheError};
+ghost use Rattle.ncc_header.specs.declared.standing.Fed.TheVariants as TheFed;
 ghost use Rattle.ncc_header.specs.Answers.{Answers};
 ghost use Rattle.ncc_header.specs.Fields.{header};
 ghost use Rattle.ncc_header.specs.Grammar.{lacking};
 ghost use Rattle.ncc_header.specs.States.{left_of, size_of};
-ghost use Rattle.ncc_header.specs.Standing.{IsSettled, limit_at, TookAt, IsSpentAt, front_taken, fed_of, Feeds};
+ghost use Rattle.ncc_header.specs.Standing.{IsSettled, IsWhole, StopsForGood, limit_at, TookAt, HasFailedAt, front_taken, fed_of, Feeds, FedOrMemory};
 
 use crate::discarding::discard_standing;
 use crate::fault::HeaderError;
@@ -44,20 +47,31 @@ fn fed(reading: &Reading, used: usize) -> Fed
     }
 }
 
+/// Is no field left?
+fn is_whole(reading: &Reading) -> bool
+    ensures { result ≡ is_none (size_of (left_of reading.now.state)) }
+{
+    size(&reading.state).is_none()
+}
+
 /// Takes a piece.
 fn advance(alloc: Global, standing: &mut Standing, piece: &[u8]) -> Result<Fed, HeaderError>
     ensures limit { limit_at standing.new ≡ limit_at standing.old }
     ensures answers { (taken : List ℕ) → TookAt standing.old taken → Feeds taken piece.now (limit_at standing.old) result }
     ensures takes { (taken : List ℕ) → TookAt standing.old taken → TookAt standing.new (taken ++ front_taken result piece.now) }
-    ensures spent { IsSpentAt standing.old → result ≡ Err HeaderError.Memory }
-    ensures spends { result ≡ Err HeaderError.Memory → IsSpentAt standing.new }
-    ensures fresh { IfOk result (λ _. ¬ IsSpentAt standing.new) }
+    ensures failed { (e : TheError) → HasFailedAt standing.old e → (result ≡ Err e) × HasFailedAt standing.new e }
+    ensures fails { IfErr result (HasFailedAt standing.new) }
+    ensures fresh { IfOk result (λ _. (e : TheError) → ¬ HasFailedAt standing.new e) }
+    ensures whole { (taken : List ℕ) → TookAt standing.old taken → IsWhole taken (limit_at standing.old) → ¬ HasFailedAt standing.old HeaderError.Memory → result ≡ Ok (TheFed.Done 0) }
     // Eight bytes fit a decoder without memory.
-    ensures few { (taken : List ℕ) → TookAt standing.old taken → length taken + length piece.now ≤ 8 → result ≡ Err HeaderError.Memory → IsSpentAt standing.old }
+    ensures few { (taken : List ℕ) → TookAt standing.old taken → length taken + length piece.now ≤ 8 → result ≡ Err HeaderError.Memory → HasFailedAt standing.old HeaderError.Memory }
 {
     let (limit, error) = match standing {
         Standing::Failed(_, error) => return Err(*error),
         Standing::Reading(reading) => {
+            if is_whole(reading) {
+                return Ok(Fed::Done(0));
+            }
             let limit = reading.limit;
             match take(alloc, reading, piece) {
                 Ok(used) => return Ok(fed(reading, used)),
@@ -70,13 +84,13 @@ fn advance(alloc: Global, standing: &mut Standing, piece: &[u8]) -> Result<Fed, 
 }
 
 impl Decoder {
-    ghost use Rattle.ncc_header.specs.Decoder.{Took, IsSpent, limit_of};
+    ghost use Rattle.ncc_header.specs.Decoder.{Took, HasFailed, limit_of};
 
     /// A decoder of headers of at most `limit` bytes.
     pub fn new(alloc: Global, limit: u64) -> Decoder
         ensures took { Took result [] }
         ensures limit { limit_of result ≡ limit }
-        ensures fresh { ¬ IsSpent result }
+        ensures fresh { (e : TheError) → ¬ HasFailed result e }
     {
         Decoder {
             alloc,
@@ -97,11 +111,22 @@ impl Decoder {
         ensures takes { (taken : List ℕ) → Took self.old taken → Took self.new (taken ++ front_taken result piece.now) }
         ensures limit { limit_of self.new ≡ limit_of self.old }
 
-        // Memory is answered for good, and never as long as all bytes are 8 at most.
-        ensures spent { IsSpent self.old → result ≡ Err HeaderError.Memory }
-        ensures spends { result ≡ Err HeaderError.Memory → IsSpent self.new }
-        ensures fresh { IfOk result (λ _. ¬ IsSpent self.new) }
-        ensures few { (taken : List ℕ) → Took self.old taken → length taken + length piece.now ≤ 8 → result ≡ Err HeaderError.Memory → IsSpent self.old }
+        // There is no other answer than the header or the fault, but for want of memory.
+        ensures done { (taken : List ℕ) (used : ℕ) → Took self.old taken → used ≤ length piece.now
+            → IsWhole (taken ++ take used piece.now) (limit_of self.old) → FedOrMemory result (Ok (TheFed.Done used)) }
+        ensures fault { (taken : List ℕ) (f : TheFault) → Took self.old taken
+            → StopsForGood (taken ++ piece.now) (limit_of self.old) f → FedOrMemory result (Err (HeaderError.Fault f)) }
+
+        // An error is answered for good, and so is a whole header.
+        ensures failed { (e : TheError) → HasFailed self.old e → (result ≡ Err e) × HasFailed self.new e }
+        ensures fails { IfErr result (HasFailed self.new) }
+        ensures fresh { IfOk result (λ _. (e : TheError) → ¬ HasFailed self.new e) }
+        ensures whole { (taken : List ℕ) → Took self.old taken → IsWhole taken (limit_of self.old)
+            → ¬ HasFailed self.old HeaderError.Memory → result ≡ Ok (TheFed.Done 0) }
+
+        // Memory is never answered as long as all bytes are 8 at most.
+        ensures few { (taken : List ℕ) → Took self.old taken → length taken + length piece.now ≤ 8
+            → result ≡ Err HeaderError.Memory → HasFailed self.old HeaderError.Memory }
     {
         advance(self.alloc, &mut self.standing, piece)
     }
@@ -109,9 +134,11 @@ impl Decoder {
     /// How many bytes the field in which the input ends early still lacks. It is 0 where the header is
     /// whole or has a fault that stays, and after want of memory.
     pub fn wants(&self) -> u64
-        ensures lacks { (taken : List ℕ) → Took self.now taken → ¬ IsSpent self.now → result ≡ lacking header (limit_of self.now) 0 taken }
-        ensures settled { (taken : List ℕ) → Took self.now taken → ¬ IsSpent self.now → result ≡ 0 → IsSettled taken (limit_of self.now) }
-        ensures spent { IsSpent self.now → result ≡ 0 }
+        ensures lacks { (taken : List ℕ) → Took self.now taken → ¬ HasFailed self.now HeaderError.Memory
+            → result ≡ lacking header (limit_of self.now) 0 taken }
+        ensures settled { (taken : List ℕ) → Took self.now taken → ¬ HasFailed self.now HeaderError.Memory
+            → result ≡ 0 → IsSettled taken (limit_of self.now) }
+        ensures failed { (e : TheError) → HasFailed self.now e → result ≡ 0 }
     {
         match &self.standing {
             Standing::Reading(reading) => lacks(reading),
@@ -123,8 +150,8 @@ impl Decoder {
     pub fn finish(self) -> Result<Header, HeaderError>
         ensures answers { (taken : List ℕ) → Took self taken → Answers taken (limit_of self) result }
         ensures whole { (taken : List ℕ) → Took self taken → IfOk result (λ h. h.length ≡ length taken) }
-        ensures spent { IsSpent self → result ≡ Err HeaderError.Memory }
-        ensures memory { result ≡ Err HeaderError.Memory → IsSpent self }
+        ensures failed { (e : TheError) → HasFailed self e → result ≡ Err e }
+        ensures memory { result ≡ Err HeaderError.Memory → HasFailed self HeaderError.Memory }
     {
         let Decoder { alloc: _, standing } = self;
         match standing {

@@ -1,6 +1,6 @@
 //! Decoding a header from a slice.
 
-ghost use Rattle.std.specs.Prelude.{Ok, Err};
+ghost use Rattle.std.specs.Prelude.{◌≡◌, ◌≤◌, length, Ok, Err};
 ghost use Rattle.ncc_header.specs.declared.fault.Fault.{Fault as TheFault};
 ghost use Rattle.ncc_schema.specs.declared.schema.Header.{Header as TheHeader};
 ghost use Rattle.ncc_header.specs.Answers.{Begins, Stops, Answers, OrMemory};
@@ -14,6 +14,7 @@ use std::alloc::Global;
 pub fn decode(alloc: Global, input: &[u8], limit: u64) -> Result<Header, HeaderError>
     ensures answers { Answers input.now limit result }
     ensures header { (h : TheHeader) → Begins input.now limit h → OrMemory result (Ok h) }
+    ensures few { length input.now ≤ 8 → result ≡ Err HeaderError.Memory → ⊥ }
     ensures fault { (f : TheFault) → Stops input.now limit f → OrMemory result (Err (HeaderError.Fault f)) }
 {
     let mut decoder = Decoder::new(alloc, limit);

@@ -1,8 +1,9 @@
 //! Reading a header from a source.
 
-ghost use Rattle.std.specs.Prelude.{◌≡◌, ◌≤◌, ℕ, List, [], length, Err, IfSome, IfOk, IfErr};
+ghost use Rattle.std.specs.Prelude.{◌≡◌, ◌≤◌, ◌<◌, ℕ, List, [], length, Err, IfSome, IfOk, IfErr, OnOk};
+ghost use Rattle.ncc_schema.specs.Device.{LosesAtMost};
 ghost use Rattle.ncc_header.specs.Answers.{AnswersOf, CountsAs, IsLeft};
-ghost use Rattle.ncc_header.specs.Decoder.{Took, IsSpent, limit_of};
+ghost use Rattle.ncc_header.specs.Decoder.{Took, HasFailed, limit_of};
 ghost use Rattle.ncc_header.specs.FromSource.{HasFed, FailsFeeding, HasRead, IsOver};
 
 use crate::decoder::Decoder;
@@ -19,9 +20,10 @@ fn read_piece<R: Source>(
     decoder: &mut Decoder,
     room: &mut [u8],
 ) -> Result<usize, HeaderError>
-    requires { (bytes : List ℕ) × Took decoder.old bytes }
+    requires took { (bytes : List ℕ) × Took decoder.old bytes }
+    requires fresh { ¬ HasFailed decoder.old HeaderError.Memory }
     ensures ok { IfOk result (λ n. HasFed (R.left source.old) (R.left source.new) decoder.old decoder.new (length room.old) n) }
-    ensures err { IfErr result (FailsFeeding (R.left source.old) (R.left source.new) decoder.old) }
+    ensures err { IfErr result (FailsFeeding (R.left source.old) (R.left source.new) decoder.old (length room.old)) }
     ensures count { CountsAs (R.failures source.old) (R.failures source.new) result }
 {
     let n = source.read(room)?;
@@ -39,10 +41,13 @@ fn read_wanted<R: Source>(
     limit: u64,
 ) -> Result<(), HeaderError>
     requires took { Took decoder.old [] }
-    requires fresh { ¬ IsSpent decoder.old }
+    requires fresh { ¬ HasFailed decoder.old HeaderError.Memory }
     requires limit { limit_of decoder.old ≡ limit }
     ensures ok { IfOk result (λ _. (taken : ℕ) × HasRead (R.left source.old) (R.left source.new) decoder.new limit taken × IsOver (R.left source.new) decoder.new limit) }
     ensures err { IfErr result (λ e. IfSome (R.left source.old) (λ input. AnswersOf input limit (Err e))) }
+    ensures fresh { OnOk result (¬ HasFailed decoder.new HeaderError.Memory) }
+    ensures memory { result ≡ Err HeaderError.Memory → IfSome (R.left source.old) (λ input. 8 < length input) }
+    ensures most { LosesAtMost (R.left source.old) (R.left source.new) limit }
     ensures count { CountsAs (R.failures source.old) (R.failures source.new) result }
 {
     let mut piece = [0; PIECE as usize];
@@ -58,7 +63,8 @@ fn read_wanted<R: Source>(
 }
 
 /// Reads the header at the front of a source, of at most `limit` bytes. Where there is one, exactly
-/// its bytes are read: a source is asked for no byte more than the next field lacks.
+/// its bytes are read: a source is asked for no byte more than the next field lacks. Whatever the
+/// answer, no byte past the limit is read.
 pub fn read_header<R: Source>(
     alloc: Global,
     source: &mut R,
@@ -66,11 +72,13 @@ pub fn read_header<R: Source>(
 ) -> Result<Header, HeaderError>
     ensures answers { IfSome (R.left source.old) (λ input. AnswersOf input limit result) }
     ensures exactly { IfSome (R.left source.old) (λ input. IfOk result (λ h. IsLeft (R.left source.new) input h)) }
+    ensures most { LosesAtMost (R.left source.old) (R.left source.new) limit }
+    ensures few { IfSome (R.left source.old) (λ input. length input ≤ 8 → result ≡ Err HeaderError.Memory → ⊥) }
     ensures count { CountsAs (R.failures source.old) (R.failures source.new) result }
 {
     let mut decoder = Decoder::new(alloc, limit);
     match read_wanted(source, &mut decoder, limit) {
         Ok(()) => decoder.finish(),
-        Err(error) => Err(error),
+        Err(met) => Err(met),
     }
 }

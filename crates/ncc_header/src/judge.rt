@@ -5,7 +5,7 @@ ghost use Rattle.ncc_values.specs.Version.{version_of};
 ghost use Rattle.ncc_values.specs.XType.{type_of_code};
 ghost use Rattle.ncc_values.specs.declared.version.Version.TheVariants.{V1};
 ghost use Rattle.ncc_schema.specs.Schema.{record_dims};
-ghost use Rattle.ncc_header.specs.Fields.{magic_wrong, version_wrong, count_wrong, tag_wrong, list_count_wrong, length_wrong, type_wrong, dimid_wrong, begin_wrong, count_of};
+ghost use Rattle.ncc_header.specs.Fields.{magic_wrong, version_wrong, nelems_wrong, tag_wrong, list_nelems_wrong, length_wrong, type_wrong, dimid_wrong, begin_wrong, numrecs_of};
 ghost use Rattle.ncc_header.specs.States.{Judges};
 
 use crate::fault::FaultKind;
@@ -30,6 +30,7 @@ fn refused_tag<T>(kind: FaultKind) -> Result<T, Wrong>
     Err(Wrong { back: 4, kind })
 }
 
+/// magic = **'C' 'D' 'F'** VERSION
 pub fn magic(n: u64) -> Result<(), Wrong>
     ensures { Judges (magic_wrong n) result }
 {
@@ -39,6 +40,7 @@ pub fn magic(n: u64) -> Result<(), Wrong>
     Ok(())
 }
 
+/// magic = 'C' 'D' 'F' **VERSION**, with VERSION = 1 | 2 | 5
 pub fn version(n: u64) -> Result<Version, Wrong>
     ensures judged { Judges (version_wrong n) result }
     ensures value { IfOk result (λ v. unwrap_or (version_of n) V1 ≡ v) }
@@ -55,8 +57,9 @@ pub fn version(n: u64) -> Result<Version, Wrong>
     refused(FaultKind::BadVersion)
 }
 
-pub fn record_count(version: Version, n: u64) -> Count
-    ensures { result ≡ count_of version n }
+/// numrecs = NON_NEG | STREAMING
+pub fn numrecs(version: Version, n: u64) -> Count
+    ensures { result ≡ numrecs_of version n }
 {
     if n == streaming_mark(version) {
         return Count::Streaming;
@@ -64,8 +67,9 @@ pub fn record_count(version: Version, n: u64) -> Count
     Count::Known(n)
 }
 
-pub fn count(version: Version, n: u64) -> Result<(), Wrong>
-    ensures { Judges (count_wrong version n) result }
+/// nelems = NON_NEG
+pub fn nelems(version: Version, n: u64) -> Result<(), Wrong>
+    ensures { Judges (nelems_wrong version n) result }
 {
     if n >= limit_of_counts(version) {
         return refused(FaultKind::NegativeCount);
@@ -73,20 +77,21 @@ pub fn count(version: Version, n: u64) -> Result<(), Wrong>
     Ok(())
 }
 
-pub fn tag(own: u64, tag: u64) -> Result<(), Wrong>
+/// A list's tag, zero or its own: ABSENT | tag nelems [item ...]
+pub fn tag(own: u32, tag: u64) -> Result<(), Wrong>
     ensures { Judges (tag_wrong own tag) result }
 {
-    if tag != 0 && tag != own {
+    if tag != 0 && tag != own as u64 {
         return refused(FaultKind::BadTag);
     }
     Ok(())
 }
 
-/// The number of a list's items, behind a tag that was zero or its own.
-pub fn list_count(version: Version, tag: u64, n: u64) -> Result<(), Wrong>
-    ensures { Judges (list_count_wrong version tag n) result }
+/// The number of a list's items, behind a tag that was zero or its own: tag **nelems** [item ...]
+pub fn list_nelems(version: Version, tag: u64, n: u64) -> Result<(), Wrong>
+    ensures { Judges (list_nelems_wrong version tag n) result }
 {
-    count(version, n)?;
+    nelems(version, n)?;
     if tag == 0 && n != 0 {
         return refused_tag(FaultKind::BadTag);
     }
@@ -105,7 +110,7 @@ fn has_record_dim(dims: &[Dim]) -> bool
     false
 }
 
-/// A dimension's length; only in CDF-5 may it be negative.
+/// dim_length = NON_NEG; only in CDF-5 is there a sign.
 pub fn dim_length(version: Version, before: &[Dim], n: u64) -> Result<(), Wrong>
     ensures { Judges (length_wrong version before.now n) result }
 {
@@ -118,7 +123,7 @@ pub fn dim_length(version: Version, before: &[Dim], n: u64) -> Result<(), Wrong>
     Ok(())
 }
 
-/// A type's code.
+/// nc_type = NC_BYTE | NC_CHAR ..., by the version
 pub fn nc_type(version: Version, n: u64) -> Result<XType, Wrong>
     ensures judged { Judges (type_wrong version n) result }
     ensures value { IfOk result (λ t. type_of_code version n ≡ Some t) }
@@ -132,7 +137,7 @@ pub fn nc_type(version: Version, n: u64) -> Result<XType, Wrong>
     }
 }
 
-/// A dimension's number, behind the variable's numbers before it.
+/// dimid = NON_NEG, behind the variable's numbers before it
 pub fn dimid(dims: &[Dim], before: &[usize], n: u64) -> Result<usize, Wrong>
     ensures judged { Judges (dimid_wrong dims.now before.now n) result }
     ensures value { IfOk result (λ id. id ≡ n) }
@@ -147,7 +152,7 @@ pub fn dimid(dims: &[Dim], before: &[usize], n: u64) -> Result<usize, Wrong>
     Ok(id)
 }
 
-/// A variable's offset.
+/// begin = OFFSET
 pub fn begin(version: Version, n: u64) -> Result<(), Wrong>
     ensures { Judges (begin_wrong version n) result }
 {

@@ -6,7 +6,7 @@ ghost use Rattle.ncc_header.specs.declared.fault.Fault.{Fault};
 ghost use Rattle.ncc_header.specs.declared.fault.FaultKind.TheVariants.{EndsEarly};
 ghost use Rattle.ncc_schema.specs.declared.schema.Schema.{Schema};
 ghost use Rattle.ncc_schema.specs.declared.schema.Header.{Header};
-ghost use Rattle.ncc_schema.specs.Schema.{Place};
+ghost use Rattle.ncc_schema.specs.Schema.{Place, places_of};
 ghost use Rattle.ncc_schema.specs.Header.{IsHeader, canon};
 ghost use Rattle.ncc_header.specs.Marks.{header_marks};
 ghost use Rattle.ncc_header.specs.Answers.{Begins, Stops};
@@ -14,6 +14,19 @@ ghost use Rattle.ncc_header.specs.Answers.{Begins, Stops};
 /// Of the fronts of one input one is a header at most, and of one schema and placement.
 pub fn one_header()
     ensures { (s t : Schema) (p q : List Place) (b c x y : List ℕ) → IsHeader s p b → IsHeader t q c → b ++ x ≡ c ++ y → (b ≡ c) × (s ≡ t) × (p ≡ q) }
+{}
+
+/// Whatever is a header of at most `limit` bytes is what every input begins with of which it is a
+/// front, with its schema and placement, and with the begin offsets and marks that it shows.
+pub fn header_is_begun()
+    ensures { (s : Schema) (places : List Place) (front rest : List ℕ) (limit : ℕ) → IsHeader s places front → length front ≤ limit
+        → (h : Header) × Begins (front ++ rest) limit h × (h.schema ≡ s) × (places_of h.places ≡ places) }
+{}
+
+/// A header that an input begins with is as long as its canonical spelling, so that the offsets of
+/// its names are those of that spelling.
+pub fn length_is_canonical()
+    ensures { (input : List ℕ) (limit : ℕ) (h : Header) → Begins input limit h → h.length ≡ length (canon h.schema (places_of h.places)) }
 {}
 
 /// Each input begins with a header within the limit, or stops with exactly one fault, and never both.

@@ -10,19 +10,17 @@ ghost use Rattle.ncc_header.specs.States.{left_of, version_of_owner, in_attr, fr
 use crate::judge;
 use crate::state::{Attrs, Body, Named, Owner, State, StepError};
 use crate::step_name::owner_version;
-use ncc_schema::Attr;
+use ncc_schema::{Attr, NC_ATTRIBUTE};
 use ncc_values::{Seq, Values, XType, number};
 use std::alloc::Global;
 
-/// The tag of the list.
-const ATTRIBUTES: u64 = 12;
-
+/// The tag: att_list = ABSENT | **NC_ATTRIBUTE** nelems [attr ...]
 pub fn after_attrs_tag(owner: Owner, at: u64, front: &[u8]) -> Result<State, StepError>
     requires { length front.now ≡ 4 }
     ensures { Steps (states.AttrsTag owner) at front.now result }
 {
     let tag = number(front);
-    judge::tag(ATTRIBUTES, tag)?;
+    judge::tag(NC_ATTRIBUTE, tag)?;
     Ok(State::AttrsCount(owner, tag))
 }
 
@@ -48,6 +46,7 @@ fn next_attr(owner: Owner, attrs: Vec<Attr>, left: u64) -> State
     }))
 }
 
+/// The number of items: att_list = ABSENT | NC_ATTRIBUTE **nelems** [attr ...]
 pub fn after_attrs_count(
     alloc: Global,
     owner: Owner,
@@ -59,10 +58,11 @@ pub fn after_attrs_count(
     ensures { Steps (states.AttrsCount owner tag) at front.now result }
 {
     let n = number(front);
-    judge::list_count(owner_version(&owner), tag, n)?;
+    judge::list_nelems(owner_version(&owner), tag, n)?;
     Ok(next_attr(owner, Vec::new(alloc), n))
 }
 
+/// The type: attr = name **nc_type** nelems [values ...] padding
 pub fn after_attr_type(
     attrs: Attrs,
     name: Seq<u8>,
@@ -90,6 +90,7 @@ fn no_values(alloc: Global, attrs: Attrs, name: Seq<u8>, xtype: XType, number: u
     }
 }
 
+/// The number of values: attr = name nc_type **nelems** [values ...] padding
 pub fn after_attr_count(
     alloc: Global,
     attrs: Attrs,
@@ -102,10 +103,11 @@ pub fn after_attr_count(
     ensures { Steps (states.AttrCount attrs name xtype) at front.now result }
 {
     let n = number(front);
-    judge::count(owner_version(&attrs.owner), n)?;
+    judge::nelems(owner_version(&attrs.owner), n)?;
     Ok(State::AttrValues(no_values(alloc, attrs, name, xtype, n)))
 }
 
+/// The values: attr = name nc_type nelems **[values ...]** padding
 pub fn after_attr_values(body: Body, at: u64, held: &[u8]) -> Result<State, StepError>
     requires whole { length (bytes_of body.values ++ held.now) ≡ body.number * bytes_each (type_of body.values) }
     requires part { length held.now < bytes_each (type_of body.values) }
@@ -116,6 +118,7 @@ pub fn after_attr_values(body: Body, at: u64, held: &[u8]) -> Result<State, Step
     Ok(State::AttrPadding(body.attrs, body.name, size, body.values))
 }
 
+/// The padding: attr = name nc_type nelems [values ...] **padding**
 pub fn after_attr_padding(
     attrs: Attrs,
     name: Seq<u8>,

@@ -7,13 +7,11 @@ ghost use Rattle.ncc_header.specs.States.{left_of, from_dims, begins_of, first_a
 
 use crate::judge;
 use crate::state::{Dims, Head, Named, Owner, State, StepError};
-use ncc_schema::{Count, Dim};
+use ncc_schema::{Count, Dim, NC_DIMENSION};
 use ncc_values::{Seq, Version, number};
 use std::alloc::Global;
 
-/// The tag of the list.
-const DIMENSIONS: u64 = 10;
-
+/// The tag: dim_list = ABSENT | **NC_DIMENSION** nelems [dim ...]
 pub fn after_dims_tag(
     version: Version,
     count: Count,
@@ -24,7 +22,7 @@ pub fn after_dims_tag(
     ensures { Steps (states.DimsTag version count) at front.now result }
 {
     let tag = number(front);
-    judge::tag(DIMENSIONS, tag)?;
+    judge::tag(NC_DIMENSION, tag)?;
     Ok(State::DimsCount(version, count, tag))
 }
 
@@ -50,6 +48,7 @@ fn next_dim(version: Version, count: Count, dims: Vec<Dim>, left: u64) -> State
     }))
 }
 
+/// The number of items: dim_list = ABSENT | NC_DIMENSION **nelems** [dim ...]
 pub fn after_dims_count(
     alloc: Global,
     version: Version,
@@ -62,10 +61,11 @@ pub fn after_dims_count(
     ensures { Steps (states.DimsCount version count tag) at front.now result }
 {
     let n = number(front);
-    judge::list_count(version, tag, n)?;
+    judge::list_nelems(version, tag, n)?;
     Ok(next_dim(version, count, Vec::new(alloc), n))
 }
 
+/// The length: dim = name **dim_length**
 pub fn after_dim_length(
     dims: Dims,
     name: Seq<u8>,

@@ -29,6 +29,7 @@ pub fn named_version(named: &Named) -> Version
     }
 }
 
+/// The number of bytes: name = **nelems** namestring padding
 pub fn after_name_length(
     alloc: Global,
     named: Named,
@@ -39,10 +40,11 @@ pub fn after_name_length(
     ensures { Steps (states.NameLength named) at front.now result }
 {
     let n = number(front);
-    judge::count(named_version(&named), n)?;
+    judge::nelems(named_version(&named), n)?;
     Ok(State::NameText(named, n, Vec::new(alloc)))
 }
 
+/// The padding: name = nelems namestring **padding**
 pub fn after_name_padding(
     named: Named,
     name: Seq<u8>,

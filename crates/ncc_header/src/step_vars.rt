@@ -7,13 +7,11 @@ ghost use Rattle.ncc_header.specs.States.{left_of, in_var, from_vars, from_dimid
 
 use crate::judge;
 use crate::state::{Head, Named, Owner, State, StepError, Vars};
-use ncc_schema::{Attr, Schema, Var, VarPlace};
+use ncc_schema::{Attr, NC_VARIABLE, Schema, Var, VarPlace};
 use ncc_values::{Seq, number};
 use std::alloc::Global;
 
-/// The tag of the list.
-const VARIABLES: u64 = 11;
-
+/// The tag: var_list = ABSENT | **NC_VARIABLE** nelems [var ...]
 pub fn after_vars_tag(
     head: Head,
     gatts: Seq<Attr>,
@@ -24,7 +22,7 @@ pub fn after_vars_tag(
     ensures { Steps (states.VarsTag head gatts) at front.now result }
 {
     let tag = number(front);
-    judge::tag(VARIABLES, tag)?;
+    judge::tag(NC_VARIABLE, tag)?;
     Ok(State::VarsCount(head, gatts, tag))
 }
 
@@ -54,6 +52,7 @@ fn next_var(vars: Vars) -> State
     }))
 }
 
+/// The number of items: var_list = ABSENT | NC_VARIABLE **nelems** [var ...]
 pub fn after_vars_count(
     alloc: Global,
     head: Head,
@@ -66,7 +65,7 @@ pub fn after_vars_count(
     ensures { Steps (states.VarsCount head gatts tag) at front.now result }
 {
     let left = number(front);
-    judge::list_count(head.version, tag, left)?;
+    judge::list_nelems(head.version, tag, left)?;
     Ok(next_var(Vars {
         head,
         gatts,
@@ -89,6 +88,7 @@ fn next_dimid(vars: Vars, name: Seq<u8>, dims: Vec<usize>, left: u64) -> State
     State::DimId(vars, name, dims, left - 1)
 }
 
+/// The rank: var = name **nelems** [dimid ...] vatt_list nc_type vsize begin
 pub fn after_rank(
     alloc: Global,
     vars: Vars,
@@ -100,10 +100,11 @@ pub fn after_rank(
     ensures { Steps (states.DimIdsCount vars name) at front.now result }
 {
     let n = number(front);
-    judge::count(vars.head.version, n)?;
+    judge::nelems(vars.head.version, n)?;
     Ok(next_dimid(vars, name, Vec::new(alloc), n))
 }
 
+/// A dimension's number: var = name nelems **[dimid ...]** vatt_list nc_type vsize begin
 pub fn after_dimid(
     vars: Vars,
     name: Seq<u8>,
@@ -121,6 +122,7 @@ pub fn after_dimid(
     Ok(next_dimid(vars, name, all, left))
 }
 
+/// The type: var = name nelems [dimid ...] vatt_list **nc_type** vsize begin
 pub fn after_var_type(
     vars: Vars,
     name: Seq<u8>,
@@ -142,6 +144,7 @@ pub fn after_var_type(
     Ok(State::VarSize(vars, var))
 }
 
+/// The size: var = name nelems [dimid ...] vatt_list nc_type **vsize** begin
 pub fn after_vsize(vars: Vars, var: Var, at: u64, front: &[u8]) -> Result<State, StepError>
     requires { length front.now ≡ count_width_of vars.head.version }
     ensures { Steps (states.VarSize vars var) at front.now result }
@@ -149,6 +152,7 @@ pub fn after_vsize(vars: Vars, var: Var, at: u64, front: &[u8]) -> Result<State,
     Ok(State::VarBegin(vars, var, number(front)))
 }
 
+/// The offset: var = name nelems [dimid ...] vatt_list nc_type vsize **begin**
 pub fn after_begin(
     vars: Vars,
     var: Var,

@@ -1,17 +1,7 @@
-//! The text of a fault, the laws, decoding without memory, headers in pieces and the answer to each
-//! piece, marks, places and names, sources that fail, and headers that are cut or changed.
-//! Rows of headers with their answers are in the tests of the encoder and of `ncc list`.
+//! The text of a fault, the laws, and decoding where memory is refused. Rows of headers with their
+//! answers are in ncc_rows.
 
-mod answers;
-mod cuts;
-mod encoding;
-mod feeding;
-pub mod fixtures;
 mod memory;
-mod names;
-mod pieces;
-mod plain;
-mod sources;
 
 use crate::{Fault, FaultKind, HeaderError, laws};
 use std::test::*;
@@ -36,8 +26,6 @@ fn laws_are_there() {
     laws::stop_stays();
     laws::limit_covers();
     laws::unmarked_is_canonical();
-    ncc_schema::laws::canonical_header();
-    ncc_schema::laws::name_is_there();
-    ncc_schema::laws::one_length();
-    ncc_schema::laws::begin_is_there();
+    laws::header_is_begun();
+    laws::length_is_canonical();
 }

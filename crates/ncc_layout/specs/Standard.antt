@@ -6,7 +6,7 @@ use Rattle.ncc_values.specs.declared.version.Version.TheVariants.{V1, V2, V5}
 use Rattle.ncc_schema.specs.declared.schema.Dim.{Dim}
 use Rattle.ncc_schema.specs.declared.schema.Var.{Var}
 use Rattle.ncc_schema.specs.declared.schema.Schema.{Schema}
-use Rattle.ncc_schema.specs.Schema.{Place, mark, offset_limit}
+use Rattle.ncc_schema.specs.Schema.{Place, streaming_mark, offset_limit}
 use Rattle.ncc_schema.specs.Names.{begin_at, header_length}
 use Rattle.ncc_layout.specs.Sizes.{up, is_record_var, rounded, record_sum, record_size_of, room, Fit}
 use Rattle.ncc_layout.specs.declared.extent.Extent.{Extent}
@@ -107,4 +107,4 @@ AreAligned es = AllByRecursion (λ e. e.begin % 4 ≡ 0) es
 
 -- the number of records after these, where that isn't the mark of a file that is still written
 abbrev pub next_count : Version → ℕ → Option ℕ
-next_count v n = if ltb (n + 1) (mark v) then Some (n + 1) else None
+next_count v n = if ltb (n + 1) (streaming_mark v) then Some (n + 1) else None

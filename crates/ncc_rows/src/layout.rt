@@ -1,4 +1,4 @@
 //! Files by their words, and the layout that they have.
 
-mod fixtures;
+mod helpers;
 mod rows;

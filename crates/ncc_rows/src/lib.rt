@@ -2,4 +2,6 @@
 #![tactic(auto)]
 
 #[cfg(test)]
+mod header;
+#[cfg(test)]
 mod layout;

@@ -43,7 +43,7 @@ attr_canon : (v : Version) (a : Attr) → spelled.attr v a (canon_attr v a)
 attr_canon v a = both _ _ (name_canon v a.name) (both _ _ refl (both _ _ refl (both _ _ refl (zeros_fit (padding_of (count_of a.values * size_of (type_of a.values)))))))
 
 dimids_canon : (v : Version) (ids : List ℕ) → spelled.dimids v ids (canon_dimids v ids)
-dimids_canon v ids = both _ _ refl (each_canon (spelled.count v) _ (λ n. refl) ids)
+dimids_canon v ids = both _ _ refl (each_canon (spelled.non_neg v) _ (λ n. refl) ids)
 
 attrs_canon : (v : Version) (attrs : List Attr) → spelled.list v 12 (spelled.attr v) attrs (canon_list v 12 (canon_attr v) attrs)
 attrs_canon v attrs = list_canon v 12 (spelled.attr v) (canon_attr v) (attr_canon v) attrs

@@ -8,6 +8,10 @@ abbrev pub Loses : (old new : Option (List ℕ)) → (bytes : List ℕ) → Type
 Loses None new bytes = Unit {0}
 Loses (Some xs) new bytes = (rest : List ℕ) × (new ≡ Some rest) × (xs ≡ bytes ++ rest)
 
+-- told bytes are still told, and so many of them were taken at most
+abbrev pub LosesAtMost : (old new : Option (List ℕ)) → (most : ℕ) → Type 0
+LosesAtMost old new most = (bytes : List ℕ) × Loses old new bytes × (length bytes ≤ most)
+
 -- told bytes are still told, and end with these
 abbrev pub Puts : (old new : Option (List ℕ)) → (bytes : List ℕ) → Type 0
 Puts None new bytes = Unit {0}

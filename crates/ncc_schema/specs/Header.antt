@@ -14,7 +14,7 @@ use Rattle.ncc_schema.specs.declared.schema.Dim.{Dim}
 use Rattle.ncc_schema.specs.declared.schema.Attr.{Attr}
 use Rattle.ncc_schema.specs.declared.schema.Var.{Var}
 use Rattle.ncc_schema.specs.declared.schema.Schema.{Schema}
-use Rattle.ncc_schema.specs.Schema.{mark, Place, Legal, IsTyped}
+use Rattle.ncc_schema.specs.Schema.{streaming_mark, Place, Legal, IsTyped}
 
 -- ---- joining spellings
 
@@ -40,12 +40,22 @@ each item (a ∷ items) = item a ⨾ each item items
 
 -- ---- the grammar
 
+-- the tags of lists
+abbrev pub nc_dimension : ℕ
+nc_dimension = 10
+
+abbrev pub nc_variable : ℕ
+nc_variable = 11
+
+abbrev pub nc_attribute : ℕ
+nc_attribute = 12
+
 abbrev pub number : (width : ℕ) → ℕ → Language
 number width n = exactly (big_endian width n)
 
--- a number of items, a length, a dimension's number or a vsize
-abbrev pub count : Version → ℕ → Language
-count v n = number (count_width_of v) n
+-- NON_NEG: a number of items or of records, a length, a dimension's number or a vsize
+abbrev pub non_neg : Version → ℕ → Language
+non_neg v n = number (count_width_of v) n
 
 -- padding = 0 to 3 bytes
 abbrev pub padding : (length : ℕ) → Language
@@ -53,14 +63,14 @@ padding n = any_bytes (padding_of n)
 
 -- name = nelems namestring padding
 abbrev pub name : Version → List ℕ → Language
-name v n = count v (length n) ⨾ exactly n ⨾ padding (length n)
+name v n = non_neg v (length n) ⨾ exactly n ⨾ padding (length n)
 
 -- its own tag; for an empty list also zero
 abbrev pub list_tag : (tag : ℕ) → (length : ℕ) → Language
 list_tag tag n b = (b ≡ big_endian 4 tag) ⊎ ((n ≡ 0) × (b ≡ big_endian 4 0))
 
 abbrev pub list_head : Version → (tag : ℕ) → (length : ℕ) → Language
-list_head v tag n = list_tag tag n ⨾ count v n
+list_head v tag n = list_tag tag n ⨾ non_neg v n
 
 -- list = ABSENT | tag nelems [item ...]
 abbrev pub list : {A : Type 0} → Version → (tag : ℕ) → (A → Language) → List A → Language
@@ -68,7 +78,7 @@ list v tag item items = list_head v tag (length items) ⨾ each item items
 
 -- dim = name dim_length
 abbrev pub dim : Version → Dim → Language
-dim v d = name v d.name ⨾ count v d.length
+dim v d = name v d.name ⨾ non_neg v d.length
 
 -- nc_type
 abbrev pub nc_type : XType → Language
@@ -77,29 +87,29 @@ nc_type t = number 4 (code_of t)
 -- attr = name nc_type nelems [values ...] padding
 abbrev pub attr : Version → Attr → Language
 attr v a =
-    name v a.name ⨾ nc_type (type_of a.values) ⨾ count v (count_of a.values)
+    name v a.name ⨾ nc_type (type_of a.values) ⨾ non_neg v (count_of a.values)
     ⨾ exactly (bytes_of a.values) ⨾ padding (count_of a.values * size_of (type_of a.values))
 
 -- nelems [dimid ...]
 abbrev pub dimids : Version → List ℕ → Language
-dimids v ids = count v (length ids) ⨾ each (count v) ids
+dimids v ids = non_neg v (length ids) ⨾ each (non_neg v) ids
 
 -- var = name nelems [dimid ...] vatt_list nc_type vsize begin
 abbrev pub var : Version → Var × Place → Language
 var v x =
-    name v x.0.name ⨾ dimids v x.0.dims ⨾ list v 12 (attr v) x.0.attrs
-    ⨾ nc_type x.0.xtype ⨾ count v x.1.vsize ⨾ number (offset_width_of v) x.1.begin
+    name v x.0.name ⨾ dimids v x.0.dims ⨾ list v nc_attribute (attr v) x.0.attrs
+    ⨾ nc_type x.0.xtype ⨾ non_neg v x.1.vsize ⨾ number (offset_width_of v) x.1.begin
 
 abbrev pub counted : Version → Count → ℕ
 counted v (Known n) = n
-counted v Streaming = mark v
+counted v Streaming = streaming_mark v
 
 -- header = magic numrecs dim_list gatt_list var_list
 abbrev pub header : Schema → List Place → Language
 header s places =
-    exactly (0x43 ∷ 0x44 ∷ 0x46 ∷ []) ⨾ number 1 (byte_of s.version) ⨾ count s.version (counted s.version s.count)
-    ⨾ list s.version 10 (dim s.version) s.dims ⨾ list s.version 12 (attr s.version) s.gatts
-    ⨾ list s.version 11 (var s.version) (zip s.vars places)
+    exactly (0x43 ∷ 0x44 ∷ 0x46 ∷ []) ⨾ number 1 (byte_of s.version) ⨾ non_neg s.version (counted s.version s.count)
+    ⨾ list s.version nc_dimension (dim s.version) s.dims ⨾ list s.version nc_attribute (attr s.version) s.gatts
+    ⨾ list s.version nc_variable (var s.version) (zip s.vars places)
 
 -- all of b is a header of s, whose variables are at these places
 pub record IsHeader (s : Schema) (places : List Place) (b : List ℕ) : Type 0 where
@@ -135,10 +145,10 @@ canon_dimids v ids = big_endian (count_width_of v) (length ids) ++ flat_map (big
 
 abbrev pub canon_var : Version → Var × Place → List ℕ
 canon_var v x =
-    canon_name v x.0.name ++ (canon_dimids v x.0.dims ++ (canon_list v 12 (canon_attr v) x.0.attrs
+    canon_name v x.0.name ++ (canon_dimids v x.0.dims ++ (canon_list v nc_attribute (canon_attr v) x.0.attrs
     ++ (big_endian 4 (code_of x.0.xtype) ++ (big_endian (count_width_of v) x.1.vsize ++ big_endian (offset_width_of v) x.1.begin))))
 
 abbrev pub canon : Schema → List Place → List ℕ
 canon s places =
     (0x43 ∷ 0x44 ∷ 0x46 ∷ []) ++ (big_endian 1 (byte_of s.version) ++ (big_endian (count_width_of s.version) (counted s.version s.count)
-    ++ (canon_list s.version 10 (canon_dim s.version) s.dims ++ (canon_list s.version 12 (canon_attr s.version) s.gatts ++ canon_list s.version 11 (canon_var s.version) (zip s.vars places)))))
+    ++ (canon_list s.version nc_dimension (canon_dim s.version) s.dims ++ (canon_list s.version nc_attribute (canon_attr s.version) s.gatts ++ canon_list s.version nc_variable (canon_var s.version) (zip s.vars places)))))

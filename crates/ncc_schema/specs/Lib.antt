@@ -4,5 +4,4 @@ pub mod Names
 pub mod Device
 pub mod Source
 pub mod Sink
-pub mod FuseSource
-pub mod FuseSink
+pub mod Fuse

@@ -10,7 +10,7 @@ use Rattle.ncc_schema.specs.declared.schema.Attr.{Attr}
 use Rattle.ncc_schema.specs.declared.schema.Var.{Var}
 use Rattle.ncc_schema.specs.declared.schema.Schema.{Schema}
 use Rattle.ncc_schema.specs.Schema.{Place}
-use Rattle.ncc_schema.specs.Header.{canon_name, canon_list, canon_dim, canon_attr, canon_dimids, canon_var, canon}
+use Rattle.ncc_schema.specs.Header.{nc_dimension, nc_attribute, canon_name, canon_list, canon_dim, canon_attr, canon_dimids, canon_var, canon}
 
 -- ---- names
 
@@ -59,10 +59,10 @@ abbrev pub before : {A : Type 0} → (A → List ℕ) → ℕ → List A → ℕ
 before item i items = length (flat_map item (take i items))
 
 abbrev pub gatts_at : Schema → ℕ
-gatts_at s = head_size s.version + length (canon_list s.version 10 (canon_dim s.version) s.dims)
+gatts_at s = head_size s.version + length (canon_list s.version nc_dimension (canon_dim s.version) s.dims)
 
 abbrev pub vars_at : Schema → ℕ
-vars_at s = gatts_at s + length (canon_list s.version 12 (canon_attr s.version) s.gatts)
+vars_at s = gatts_at s + length (canon_list s.version nc_attribute (canon_attr s.version) s.gatts)
 
 abbrev pub var_at : Schema → List Place → ℕ → ℕ
 var_at s places i = vars_at s + list_size s.version + before (canon_var s.version) i (zip s.vars places)

@@ -37,10 +37,10 @@ offset_limit V2 = 2 ^ 63
 offset_limit V5 = 2 ^ 63
 
 -- all bits one: the count of a file that is still written
-abbrev pub mark : Version → ℕ
-mark V1 = 2 ^ 32 - 1
-mark V2 = 2 ^ 32 - 1
-mark V5 = 2 ^ 64 - 1
+abbrev pub streaming_mark : Version → ℕ
+streaming_mark V1 = 2 ^ 32 - 1
+streaming_mark V2 = 2 ^ 32 - 1
+streaming_mark V5 = 2 ^ 64 - 1
 
 -- ---- placements
 
@@ -68,6 +68,15 @@ lengths dims = map (λ d. d.length) dims
 -- is this dimension, by its number, the record dimension
 abbrev pub is_record : List Dim → ℕ → Bool
 is_record dims n = get_or (lengths dims) n 1 == 0
+
+-- the first of these dimensions is the record dimension
+abbrev pub starts_with_record : List Dim → (numbers : List ℕ) → Bool
+starts_with_record dims [] = false
+starts_with_record dims (n ∷ ns) = is_record dims n
+
+-- a variable is a record variable exactly if its first dimension is the record dimension
+abbrev pub is_record_var : List Dim → Var → Bool
+is_record_var dims x = starts_with_record dims x.dims
 
 -- ---- legal schemas
 
@@ -105,7 +114,7 @@ pub record LegalVar (v : Version) (dims : List Dim) (x : Var) : Type 0 where
   pub xtype : IsTypeOf v x.xtype
 
 abbrev pub LegalCount : Version → Count → Type 0
-LegalCount v (Known n) = n < mark v
+LegalCount v (Known n) = n < streaming_mark v
 LegalCount v Streaming = Unit {0}
 
 -- a schema that a header can hold, whatever its placement

@@ -14,6 +14,12 @@ pub fn canonical_header()
     ensures { (s : Schema) (places : List Place) → Legal s places → IsTyped s → IsHeader s places (canon s places) }
 {}
 
+/// A header is as long as the canonical spelling of its schema and placement, whatever bytes its
+/// padding has and whichever tags its empty lists.
+pub fn canonical_length()
+    ensures { (s : Schema) (places : List Place) (b : List ℕ) → IsHeader s places b → length b ≡ length (canon s places) }
+{}
+
 /// Where a name of a canonical header is told to stand, it stands with its length and its padding.
 pub fn name_is_there()
     ensures { (s : Schema) (places : List Place) (of : NameOf) → Legal s places → HasName s of → StandsAt (canon s places) (canon_name s.version (name_of s of)) (name_at s places of) }

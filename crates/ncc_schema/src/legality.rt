@@ -4,7 +4,9 @@ ghost use Rattle.std.specs.Prelude.{◌≤◌, ◌↔◌, IsTrue};
 ghost use Rattle.std.specs.List.{AllByRecursion};
 ghost use Rattle.ncc_schema.specs.Schema.{record_dims, place_of, places_of, IsFixed, IsTypeOf, LegalName, LegalDim, LegalAttr, LegalDims, LegalVar, LegalCount, Sound, LegalPlace, Legal};
 
-use crate::limits::{limit_of_counts, limit_of_lengths, limit_of_offsets, streaming_mark};
+use crate::limits::{
+    greatest_vsize, limit_of_counts, limit_of_lengths, limit_of_offsets, streaming_mark,
+};
 use crate::schema::{Attr, Count, Dim, Schema, Var, VarPlace};
 use ncc_values::{Version, XType};
 
@@ -145,7 +147,7 @@ pub fn sound(schema: &Schema) -> bool
 fn is_place(version: Version, place: &VarPlace) -> bool
     ensures { IsTrue result ↔ LegalPlace version (place_of place.now) }
 {
-    place.vsize <= streaming_mark(version) && place.begin < limit_of_offsets(version)
+    place.vsize <= greatest_vsize(version) && place.begin < limit_of_offsets(version)
 }
 
 fn are_places(version: Version, places: &[VarPlace]) -> bool

@@ -3,25 +3,29 @@
 
 mod encoder;
 mod failed;
-mod fuse_sink;
-mod fuse_source;
+mod fuse;
 pub mod laws;
 mod legality;
 mod lengths;
 mod limits;
 mod names;
+mod record_vars;
 mod schema;
 mod sink;
 mod source;
+mod tags;
 
 pub use encoder::encode;
 pub use failed::Failed;
-pub use fuse_sink::FuseSink;
-pub use fuse_source::FuseSource;
+pub use fuse::{FuseSink, FuseSource};
 pub use legality::{legal, sound};
 pub use lengths::{header_length, var_size, vars_start};
-pub use limits::{limit_of_counts, limit_of_lengths, limit_of_offsets, streaming_mark};
+pub use limits::{
+    greatest_vsize, limit_of_counts, limit_of_lengths, limit_of_offsets, streaming_mark,
+};
 pub use names::{NameOf, name_at};
+pub use record_vars::is_record_var;
 pub use schema::{Attr, Count, Dim, Header, Mark, Schema, Var, VarPlace};
 pub use sink::{Sink, WriteSink, write_all};
 pub use source::{ReadSource, Source};
+pub use tags::{NC_ATTRIBUTE, NC_DIMENSION, NC_VARIABLE};

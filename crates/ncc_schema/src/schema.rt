@@ -46,7 +46,7 @@ pub struct Schema {
 /// What a header says of a variable's place.
 #[derive(Clone, Copy, Debug, PartialEq, Eq)]
 pub struct VarPlace {
-    /// The word for the variable's size in bytes.
+    /// What its header says of the variable's size in bytes.
     pub vsize: u64,
     /// The offset in bytes of the variable's first byte.
     pub begin: u64,

@@ -1,10 +1,10 @@
 //! Sinks of bytes.
 
-ghost use Rattle.std.specs.Prelude.{◌≡◌, ℕ, List, Option};
-ghost use Rattle.ncc_values.specs.Failures.{Counts};
+ghost use Rattle.std.specs.Prelude.{◌≡◌, ◌+◌, ◌≤◌, ℕ, List, Option};
+ghost use Rattle.ncc_values.specs.Failures.{last_count, Counts};
 ghost use Rattle.ncc_schema.specs.Device.{Writes, WritesAll};
 
-use crate::failed::Failed;
+use crate::failed::{Failed, fail};
 use std::io::Write;
 
 /// Where bytes are put out, in order.
@@ -15,17 +15,26 @@ pub trait Sink {
     /// How often it failed. The count stays at 2^64 - 1.
     ghost failures: { Self → ℕ };
 
+    /// A number that grows by at most one at each call, so that a caller can bound its calls.
+    ghost calls: { Self → ℕ };
+
     /// Puts out a front of the bytes, at least one where there is one, and answers how many.
     fn write(&mut self, bytes: &[u8]) -> Result<usize, Failed>
         ensures bytes { Writes (put self.old) (put self.new) result bytes.now }
-        ensures count { Counts (failures self.old) (failures self.new) result };
+        ensures count { Counts (failures self.old) (failures self.new) result }
+        ensures calls { calls self.new ≤ calls self.old + 1 };
+
+    /// The count has an end.
+    ghost at_most_last: { (sink : Self) → failures sink ≤ last_count };
 }
 
-/// Any writer. Each of its errors is a failure, and so is a write that takes no byte where there is one.
+/// Any writer. An error of it is answered as a failure, and so is a write that takes no byte where
+/// there is one; neither is tried again.
 #[derive(Drop)]
 pub struct WriteSink<W> {
     inner: W,
     failures: u64,
+    ghost counted: { failures ≤ last_count },
 }
 
 impl<W: Write> WriteSink<W> {
@@ -53,13 +62,14 @@ impl<W: Write> Sink for WriteSink<W> {
 
     ghost failures = { λ s. write_failures s };
 
+    ghost calls = { λ s. write_failures s };
+
+    ghost at_most_last = { λ s. s.counted };
+
     fn write(&mut self, bytes: &[u8]) -> Result<usize, Failed> {
         match self.inner.write(bytes) {
             Ok(n) if n > 0 || bytes.is_empty() => Ok(n),
-            _ => {
-                self.failures = self.failures.saturating_add(1);
-                Err(Failed)
-            }
+            _ => Err(fail(&mut self.failures)),
         }
     }
 }

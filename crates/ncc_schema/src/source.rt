@@ -1,10 +1,10 @@
 //! Sources of bytes.
 
-ghost use Rattle.std.specs.Prelude.{◌≡◌, ℕ, List, Option};
-ghost use Rattle.ncc_values.specs.Failures.{Counts};
+ghost use Rattle.std.specs.Prelude.{◌≡◌, ◌+◌, ◌≤◌, ℕ, List, Option};
+ghost use Rattle.ncc_values.specs.Failures.{last_count, Counts};
 ghost use Rattle.ncc_schema.specs.Device.{Reads};
 
-use crate::failed::Failed;
+use crate::failed::{Failed, fail};
 use std::io::Read;
 
 /// Where bytes come from, in order.
@@ -15,18 +15,26 @@ pub trait Source {
     /// How often it failed. The count stays at 2^64 - 1.
     ghost failures: { Self → ℕ };
 
+    /// A number that grows by at most one at each call, so that a caller can bound its calls.
+    ghost calls: { Self → ℕ };
+
     /// Reads some of the next bytes into the buffer, and answers how many. None into a buffer with
     /// room means the end.
     fn read(&mut self, buffer: &mut [u8]) -> Result<usize, Failed>
         ensures bytes { Reads (left self.old) (left self.new) result buffer.new }
-        ensures count { Counts (failures self.old) (failures self.new) result };
+        ensures count { Counts (failures self.old) (failures self.new) result }
+        ensures calls { calls self.new ≤ calls self.old + 1 };
+
+    /// The count has an end.
+    ghost at_most_last: { (source : Self) → failures source ≤ last_count };
 }
 
-/// Any reader. Each of its errors is a failure.
+/// Any reader. An error of it is answered as a failure, and not read over.
 #[derive(Drop)]
 pub struct ReadSource<R> {
     inner: R,
     failures: u64,
+    ghost counted: { failures ≤ last_count },
 }
 
 impl<R: Read> ReadSource<R> {
@@ -54,13 +62,14 @@ impl<R: Read> Source for ReadSource<R> {
 
     ghost failures = { λ s. read_failures s };
 
+    ghost calls = { λ s. read_failures s };
+
+    ghost at_most_last = { λ s. s.counted };
+
     fn read(&mut self, buffer: &mut [u8]) -> Result<usize, Failed> {
         match self.inner.read(buffer) {
             Ok(n) => Ok(n),
-            Err(_) => {
-                self.failures = self.failures.saturating_add(1);
-                Err(Failed)
-            }
+            Err(_) => Err(fail(&mut self.failures)),
         }
     }
 }

@@ -2,6 +2,7 @@ pub mod BigEndian
 pub mod External
 pub mod ExternalLaws
 pub mod Failures
+pub mod FailureLaws
 pub mod Fill
 pub mod Name
 pub mod Numbers

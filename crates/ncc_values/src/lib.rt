@@ -3,6 +3,7 @@
 
 mod elements;
 mod external;
+mod failures;
 mod fill;
 mod name;
 mod numbers;
@@ -16,6 +17,7 @@ mod version;
 mod xtype;
 
 pub use external::External;
+pub use failures::count_failure;
 pub use fill::fill_default;
 pub use name::name_fits;
 pub use numbers::number;

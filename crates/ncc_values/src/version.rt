@@ -11,7 +11,7 @@ pub enum Version {
 }
 
 impl Version {
-    ghost use Rattle.ncc_values.specs.Version.{version_of, count_width_of, offset_width_of};
+    ghost use Rattle.ncc_values.specs.Version.{byte_of, version_of, count_width_of, offset_width_of};
 
     /// The version whose byte this is, the fourth of a file.
     pub fn from_byte(byte: u8) -> Option<Version>
@@ -22,6 +22,17 @@ impl Version {
             2 => Some(Version::V2),
             5 => Some(Version::V5),
             _ => None,
+        }
+    }
+
+    /// The byte of the version, the fourth of a file.
+    pub fn byte(self) -> u8
+        ensures { result ≡ byte_of self }
+    {
+        match self {
+            Version::V1 => 1,
+            Version::V2 => 2,
+            Version::V5 => 5,
         }
     }
 

@@ -1,6 +1,7 @@
 //! What is said of files by their headers and their lengths.
 
-use super::fixtures::*;
+use super::helpers::*;
+use ncc_files::*;
 use ncc_layout::LayoutFaultKind::*;
 use std::test::*;
 

@@ -1,11 +1,14 @@
-use Rattle.std.proofs.Common.{ℕ, ◌++◌, take, Ok, refl, sym, ap, subst, subst₂, ◌∙◌, arith}
+use Rattle.std.proofs.Common.{ℕ, List, ◌++◌, take, Ok, refl, sym, ap, subst, subst₂, ◌∙◌, arith}
+use Rattle.std.proofs.lemmas.List.{append-nil}
 use Rattle.ncc_values.specs.Numbers.{IsBytes}
 use Rattle.ncc_values.specs.BigEndian.{bytes-take, bytes-by_index}
+use Rattle.ncc_header.specs.declared.fault.HeaderError.TheVariants as errors
 use Rattle.ncc_header.specs.declared.standing.Fed.{Fed}
 use Rattle.ncc_header.specs.declared.standing.Standing.{Standing}
 use Rattle.ncc_header.specs.States.{left_of, size_of}
-use Rattle.ncc_header.specs.Standing.{HasTaken, FailedOn, limit_at, TookAt, Feeds}
-use Rattle.ncc_header.proofs.Feeding.{has_taken_more, feeds, takes_fed, fails_after, fails_again}
+use Rattle.ncc_header.specs.Standing.{HasTaken, HasFailedAt, IsWhole, FailedOn, limit_at, TookAt, Feeds}
+use Rattle.ncc_header.proofs.Feeding.{whole_reading, has_taken_more, feeds, takes_fed, fails_after, fails_again}
+use Rattle.ncc_header.proofs.Answering.{failed_not_whole, not_whole, some_size, no_size}
 use Rattle.ncc_header.proofs.decoder.advance.Goals as goal
 
 pub returns-in-Failed-clause-answers : goal.returns-in-Failed-clause-answers
@@ -47,3 +50,29 @@ pub returns-clause-takes : goal.returns-clause-takes
 returns-clause-takes c = λ taken t.
     subst (λ (s : Standing). TookAt s (taken ++ c.args.piece.now)) (sym c.replace.ensures.after)
     (fails_after c.in-Reading.reading taken c.args.piece.now c.in-Err.error (subst (λ (s : Standing). TookAt s taken) c.in-Reading.is t) c.in-Err.ensures.fails)
+
+pub returns-in-Failed-clause-whole : goal.returns-in-Failed-clause-whole
+returns-in-Failed-clause-whole c = λ taken t w fresh.
+    let failed : FailedOn taken c.in-Failed.field-0 c.in-Failed.error = subst (λ (s : Standing). TookAt s taken) c.in-Failed.is t in
+    absurd (failed_not_whole taken c.in-Failed.field-0 c.in-Failed.error failed (λ m. fresh (subst (λ (s : Standing). HasFailedAt s errors.Memory) (sym c.in-Failed.is) m)) (subst (IsWhole taken) (ap limit_at c.in-Failed.is) w))
+
+pub returns-then-is_whole-clause-answers : goal.returns-then-is_whole-clause-answers
+returns-then-is_whole-clause-answers c = λ taken t.
+    let r = c.in-Reading.reading in
+    let took : HasTaken r taken = subst (λ (s : Standing). TookAt s taken) c.in-Reading.is t in
+    let whole : IsWhole taken r.limit = whole_reading r taken took (no_size (size_of (left_of r.state)) (sym c.is_whole.ensures ∙ c.if-is_whole.true)) in
+    (omega arith, subst (λ (input : List ℕ). IsWhole input (limit_at c.args.standing.now)) (sym (append-nil taken)) (subst (IsWhole taken) (sym (ap limit_at c.in-Reading.is)) whole))
+
+pub returns-in-Ok-clause-whole : goal.returns-in-Ok-clause-whole
+returns-in-Ok-clause-whole c = λ taken t w fresh.
+    let r = c.in-Reading.reading in
+    let took : HasTaken r taken = subst (λ (s : Standing). TookAt s taken) c.in-Reading.is t in
+    let n = some_size (size_of (left_of r.state)) (sym c.is_whole.ensures ∙ c.if-is_whole.false) in
+    absurd (not_whole r taken n.0 took n.1 (subst (IsWhole taken) (ap limit_at c.in-Reading.is) w))
+
+pub returns-clause-whole : goal.returns-clause-whole
+returns-clause-whole c = λ taken t w fresh.
+    let r = c.in-Reading.reading in
+    let took : HasTaken r taken = subst (λ (s : Standing). TookAt s taken) c.in-Reading.is t in
+    let n = some_size (size_of (left_of r.state)) (sym c.is_whole.ensures ∙ c.if-is_whole.false) in
+    absurd (not_whole r taken n.0 took n.1 (subst (IsWhole taken) (ap limit_at c.in-Reading.is) w))

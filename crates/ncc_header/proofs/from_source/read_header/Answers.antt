@@ -16,4 +16,4 @@ returns-in-Ok-clause-exactly g c =
 pub returns-in-Err-clause-exactly : goal.returns-in-Err-clause-exactly
 returns-in-Err-clause-exactly g c =
     let left = g.R.Source.left in
-    nothing_left (left c.args.source.now) (left c.read_wanted.new.source) c.in-Err.error
+    nothing_left (left c.args.source.now) (left c.read_wanted.new.source) c.in-Err.met

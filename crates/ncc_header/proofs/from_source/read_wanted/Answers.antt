@@ -1,9 +1,10 @@
-use Rattle.std.proofs.Common.{◌+◌, refl, subst, ◌∙◌, inl, inr, arith}
+use Rattle.std.proofs.Common.{◌≡◌, ◌+◌, refl, subst, ◌∙◌, inl, inr, arith}
 use Rattle.std.proofs.lemmas.List.{length-take}
 use Rattle.std.proofs.lemmas.Result.{err_from_is_err_and}
+use Rattle.ncc_header.specs.declared.fault.HeaderError.TheVariants as errors
 use Rattle.ncc_header.specs.FromSource.{HasRead}
 use Rattle.ncc_header.specs.Standing.{IsSettled}
-use Rattle.ncc_header.proofs.FromSource.{has_read_none, has_read_more, failed_source, wanted_within}
+use Rattle.ncc_header.proofs.FromSource.{has_read_none, has_read_more, failed_source, read_most, failed_most, failed_memory, wanted_within}
 use Rattle.ncc_header.proofs.from_source.read_wanted.Goals as goal
 
 pub loop-wanted-init : goal.loop-wanted-init
@@ -16,6 +17,7 @@ loop-wanted-init g c =
       fresh = c.requires.fresh;
       lacks = λ some bytes took. c.wants-wanted.ensures.lacks bytes took c.requires.fresh;
       within = λ some. wanted_within d left left c.args.limit 0 c.wants-wanted.result read (λ bytes took. c.wants-wanted.ensures.lacks bytes took c.requires.fresh) some;
+      most = omega arith;
       over = λ none. inr (λ bytes took. subst (IsSettled bytes) c.requires.limit (c.wants-wanted.ensures.settled bytes took c.requires.fresh none));
       count = refl;
     }
@@ -24,7 +26,7 @@ pub returns-in_err-n-clause-err : goal.returns-in_err-n-clause-err
 returns-in_err-n-clause-err g c =
     let left = g.R.Source.left in
     let p = err_from_is_err_and c.from_residual.result c.from_residual.ensures.1 in
-    rw (p.1, p.2) (failed_source (left c.args.source.now) (left c.loop-wanted.source) (left c.read_piece.new.source) c.loop-wanted.decoder c.args.limit c.loop-wanted.taken c.in_err-n.field-0.0 c.loop-wanted.invariant.read c.in_err-n.ensures.err)
+    rw (p.1, p.2) (failed_source (left c.args.source.now) (left c.loop-wanted.source) (left c.read_piece.new.source) c.loop-wanted.decoder c.args.limit c.loop-wanted.taken _ c.in_err-n.field-0.0 c.loop-wanted.invariant.read c.in_err-n.ensures.err)
 
 pub loop-wanted-preserved-then-n-gt0 : goal.loop-wanted-preserved-then-n-gt0
 loop-wanted-preserved-then-n-gt0 g c =
@@ -43,6 +45,7 @@ loop-wanted-preserved-then-n-gt0 g c =
       fresh = f.fresh;
       lacks = λ some bytes took. wants.ensures.lacks bytes took f.fresh;
       within = λ some. wanted_within e old now c.args.limit (c.loop-wanted.taken + c.in_ok-n.n) wants.result read (λ bytes took. wants.ensures.lacks bytes took f.fresh) some;
+      most = omega (arith, f.few, length-take c.min.result c.loop-wanted.piece, c.min.ensures, c.loop-wanted.invariant.within c.loop-wanted-test.true);
       over = λ none. inr (λ bytes took. subst (IsSettled bytes) read.limit_is (wants.ensures.settled bytes took f.fresh none));
       count = c.in_ok-n.ensures.count ∙ c.loop-wanted.invariant.count;
     }
@@ -57,6 +60,25 @@ loop-wanted-preserved g c =
       fresh = f.fresh;
       lacks = λ some. absurd (omega (arith, some));
       within = λ some. absurd (omega (arith, some));
+      most = omega (arith, f.few, length-take c.min.result c.loop-wanted.piece, c.min.ensures, c.loop-wanted.invariant.within c.loop-wanted-test.true);
       over = λ none. inl (f.end (omega (arith, c.if-n-gt0.false)) (omega (arith, length-take c.min.result c.loop-wanted.piece, c.min.ensures, c.min.array_long, c.loop-wanted-test.true)));
       count = c.in_ok-n.ensures.count ∙ c.loop-wanted.invariant.count;
     }
+
+pub returns-in_err-n-clause-memory : goal.returns-in_err-n-clause-memory
+returns-in_err-n-clause-memory g c = λ memory.
+    let left = g.R.Source.left in
+    let p = err_from_is_err_and c.from_residual.result c.from_residual.ensures.1 in
+    let is : c.in_err-n.field-0.0 ≡ errors.Memory = cc in
+    failed_memory (left c.args.source.now) (left c.loop-wanted.source) (left c.read_piece.new.source) c.loop-wanted.decoder c.args.limit c.loop-wanted.taken _ c.in_err-n.field-0.0 c.loop-wanted.invariant.read c.in_err-n.ensures.err is
+
+pub returns-in_err-n-clause-most : goal.returns-in_err-n-clause-most
+returns-in_err-n-clause-most g c =
+    let left = g.R.Source.left in
+    failed_most (left c.args.source.now) (left c.loop-wanted.source) (left c.read_piece.new.source) c.loop-wanted.decoder c.args.limit c.loop-wanted.taken _ c.in_err-n.field-0.0 c.loop-wanted.invariant.read c.in_err-n.ensures.err
+    (omega (arith, length-take c.min.result c.loop-wanted.piece, c.min.ensures, c.loop-wanted.invariant.within c.loop-wanted-test.true))
+
+pub returns-clause-most : goal.returns-clause-most
+returns-clause-most g c =
+    let left = g.R.Source.left in
+    read_most (left c.args.source.now) (left c.loop-wanted.source) c.loop-wanted.decoder c.args.limit c.loop-wanted.taken c.loop-wanted.invariant.read c.loop-wanted.invariant.most

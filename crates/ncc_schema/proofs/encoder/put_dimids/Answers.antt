@@ -6,21 +6,21 @@ use Rattle.ncc_schema.proofs.Encoding.{next_all, item_sent, item_fails}
 use Rattle.ncc_schema.proofs.Writing.{fails_at}
 use Rattle.ncc_schema.proofs.encoder.put_dimids.Goals as goal
 
-pub returns-in_err-put_count-clause-bytes : goal.returns-in_err-put_count-clause-bytes
-returns-in_err-put_count-clause-bytes g c = fails_at _ _ _ _ _ _ c.in_err-put_count.field-0.0 c.from_residual.ensures.1 c.in_err-put_count.ensures.bytes
+pub returns-in_err-put_non_neg-clause-bytes : goal.returns-in_err-put_non_neg-clause-bytes
+returns-in_err-put_non_neg-clause-bytes g c = fails_at _ _ _ _ _ _ c.in_err-put_non_neg.field-0.0 c.from_residual.ensures.1 c.in_err-put_non_neg.ensures.bytes
 
-pub returns-in_err-put_count-2-clause-bytes : goal.returns-in_err-put_count-2-clause-bytes
-returns-in_err-put_count-2-clause-bytes g c =
+pub returns-in_err-put_non_neg-2-clause-bytes : goal.returns-in_err-put_non_neg-2-clause-bytes
+returns-in_err-put_non_neg-2-clause-bytes g c =
     let i = c.loop-id.id-index in
-    item_fails _ (big_endian (count_width_of c.args.version)) c.args.ids.now i (get_or c.args.ids.now i 0) 0 _ _ _ _ _ c.in_err-put_count-2.field-0.0
-    c.loop-id-test.true refl c.loop-id.invariant.so_far c.from_residual-in_err-put_count-2.ensures.1 c.in_err-put_count-2.ensures.bytes
+    item_fails _ (big_endian (count_width_of c.args.version)) c.args.ids.now i (get_or c.args.ids.now i 0) 0 _ _ _ _ _ c.in_err-put_non_neg-2.field-0.0
+    c.loop-id-test.true refl c.loop-id.invariant.so_far c.from_residual-in_err-put_non_neg-2.ensures.1 c.in_err-put_non_neg-2.ensures.bytes
 
 pub loop-id-preserved : goal.loop-id-preserved
 loop-id-preserved g c =
     let xs = c.args.ids.now in
     let i = c.loop-id.id-index in
     record {
-      so_far = item_sent (big_endian (count_width_of c.args.version)) xs i (get_or xs i 0) 0 _ _ _ _ c.loop-id-test.true refl c.loop-id.invariant.so_far c.in_ok-put_count-2.ensures.bytes;
-      count = c.in_ok-put_count-2.ensures.count ∙ c.loop-id.invariant.count;
+      so_far = item_sent (big_endian (count_width_of c.args.version)) xs i (get_or xs i 0) 0 _ _ _ _ c.loop-id-test.true refl c.loop-id.invariant.so_far c.in_ok-put_non_neg-2.ensures.bytes;
+      count = c.in_ok-put_non_neg-2.ensures.count ∙ c.loop-id.invariant.count;
       each = (next_all (λ n. n < count_limit c.args.version) xs i (get_or xs i 0) 0 c.loop-id-test.true refl c.loop-id.invariant.each).1;
     }

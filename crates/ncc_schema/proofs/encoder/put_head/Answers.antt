@@ -8,4 +8,4 @@ returns-in_err-put_word-clause-bytes g c =
 
 pub returns-clause-bytes : goal.returns-clause-bytes
 returns-clause-bytes g c =
-    rw (head_parts c.args.version c.args.tag c.args.number) (writes_both _ _ _ _ _ _ (rw c.tag_before.ensures at c.in_ok-put_word.ensures.bytes) c.put_count.ensures.bytes)
+    rw (head_parts c.args.version c.args.tag c.args.number) (writes_both _ _ _ _ _ _ (rw c.tag_before.ensures at c.in_ok-put_word.ensures.bytes) c.put_non_neg.ensures.bytes)

@@ -26,13 +26,13 @@ returns-in_err-put_word-clause-bytes g c =
     (writes_both _ _ _ _ _ _ (rw c.as_slice-3.ensures at c.in_ok-put_attrs.ensures.bytes)
     (fails_at _ _ _ _ _ _ c.in_err-put_word.field-0.0 c.from_residual-in_err-put_word.ensures.1 (rw c.code.ensures at c.in_err-put_word.ensures.bytes))))
 
-pub returns-in_err-put_count-clause-bytes : goal.returns-in_err-put_count-clause-bytes
-returns-in_err-put_count-clause-bytes g c =
+pub returns-in_err-put_non_neg-clause-bytes : goal.returns-in_err-put_non_neg-clause-bytes
+returns-in_err-put_non_neg-clause-bytes g c =
     writes_both _ _ _ _ _ _ (rw c.as_slice.ensures at c.in_ok-put_name.ensures.bytes)
     (writes_both _ _ _ _ _ _ (rw c.as_slice-2.ensures at c.in_ok-put_dimids.ensures.bytes)
     (writes_both _ _ _ _ _ _ (rw c.as_slice-3.ensures at c.in_ok-put_attrs.ensures.bytes)
     (writes_both _ _ _ _ _ _ (rw c.code.ensures at c.in_ok-put_word.ensures.bytes)
-    (fails_at _ _ _ _ _ _ c.in_err-put_count.field-0.0 c.from_residual-in_err-put_count.ensures.1 c.in_err-put_count.ensures.bytes))))
+    (fails_at _ _ _ _ _ _ c.in_err-put_non_neg.field-0.0 c.from_residual-in_err-put_non_neg.ensures.1 c.in_err-put_non_neg.ensures.bytes))))
 
 pub returns-clause-bytes : goal.returns-clause-bytes
 returns-clause-bytes g c =
@@ -40,4 +40,4 @@ returns-clause-bytes g c =
     (writes_both _ _ _ _ _ _ (rw c.as_slice-2.ensures at c.in_ok-put_dimids.ensures.bytes)
     (writes_both _ _ _ _ _ _ (rw c.as_slice-3.ensures at c.in_ok-put_attrs.ensures.bytes)
     (writes_both _ _ _ _ _ _ (rw c.code.ensures at c.in_ok-put_word.ensures.bytes)
-    (writes_both _ _ _ _ _ _ c.in_ok-put_count.ensures.bytes c.put_begin.ensures.bytes))))
+    (writes_both _ _ _ _ _ _ c.in_ok-put_non_neg.ensures.bytes c.put_begin.ensures.bytes))))

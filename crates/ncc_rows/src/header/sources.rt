@@ -1,0 +1,34 @@
+//! Headers from sources that fail.
+
+use super::helpers::length_of;
+use ncc_files::{FIXED, LIMIT, bytes_of};
+use ncc_header::{FuseSource, HeaderError, ReadSource, read_header};
+use std::alloc::Global;
+use std::process::Abort;
+use std::test::*;
+
+/// The length of the header from a source that passes so many calls of at most `most` bytes.
+fn length_after(alloc: Global, input: &[u8], calls: u64, most: u64) -> Result<u64, HeaderError> {
+    let mut source = FuseSource::new(ReadSource::new(input), calls, most.max(1));
+    length_of(read_header(alloc, &mut source, LIMIT))
+}
+
+/// How many calls are enough for the header. With fewer the device has failed.
+fn calls_needed<R: Abort + AllocGlobal>(rt: &R, input: &[u8], most: u64) -> Option<(u64, u64)> {
+    for calls in 0..100 {
+        match length_after(rt.alloc(), input, calls, most) {
+            Ok(length) => return Some((calls, length)),
+            Err(error) => assert!(rt; error == HeaderError::Device, "after {calls}"),
+        }
+    }
+    None
+}
+
+#[test]
+fn failing_sources(rt: HostRuntime) -> Result<(), Fail> {
+    let bytes = bytes_of(rt.alloc(), &FIXED)?;
+    // A call for each field, and a call for each byte.
+    assert!(rt; calls_needed(&rt, &bytes, 5) == Some((23, 80)));
+    assert!(rt; calls_needed(&rt, &bytes, 1) == Some((80, 80)));
+    Ok(())
+}
