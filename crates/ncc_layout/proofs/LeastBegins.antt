@@ -1,13 +1,11 @@
 -- The least begin of a record variable.
 use Rattle.std.proofs.Common.{◌≡◌, ℕ, ◌<◌, ◌≤◌, min, List, [], ◌∷◌, map, Option, Some, None, refl, sym, ap, subst, ◌∙◌, arith, ◌⊎◌, inl, inr}
-use Rattle.std.specs.Prelude.{Contains}
-use Rattle.std.specs.List.{AllByRecursion}
 use Rattle.std.proofs.lemmas.Bool.{cases_lt}
 use Rattle.ncc_layout.specs.declared.extent.Extent.{Extent}
 use Rattle.ncc_layout.specs.Extents.{begin_sooner, least_begin, LeastBegin}
 use Rattle.ncc_layout.specs.Bounds.{least_from, first_begin}
 use Rattle.ncc_layout.proofs.Membership.{In, contains_from_in}
-use Rattle.ncc_layout.proofs.TestsOfRules.{all_from, least_below, least_all}
+use Rattle.ncc_layout.proofs.TestsOfRules.{least_below, least_all}
 
 abbrev begins : List Extent → List ℕ
 begins es = map (λ e. e.begin) es

@@ -1,6 +1,5 @@
 -- Extents in order: the first that begins before the one before it ends is the first that shares a byte.
-use Rattle.std.proofs.Common.{◌≡◌, ℕ, ◌<◌, ◌≤◌, List, [], ◌∷◌, refl, sym, ap, subst, ◌∙◌, arith, ◌⊎◌, inl, inr}
-use Rattle.std.specs.Prelude.{Contains}
+use Rattle.std.proofs.Common.{ℕ, ◌<◌, ◌≤◌, List, [], ◌∷◌, refl, sym, ap, subst, arith, ◌⊎◌, inl, inr}
 use Rattle.std.specs.List.{AllByRecursion}
 use Rattle.std.specs.List.Sorted.{IsPermutation}
 use Rattle.std.proofs.lemmas.Bool.{cases_lt}
@@ -9,7 +8,7 @@ use Rattle.ncc_layout.specs.declared.extent.Extent.{Extent}
 use Rattle.ncc_layout.specs.Extents.{end}
 use Rattle.ncc_layout.specs.Rules.{Apart}
 use Rattle.ncc_layout.specs.Faults.{Before, InOrderFrom, InOrder, FirstInsideFrom, FirstInside, FirstShared}
-use Rattle.ncc_layout.proofs.Membership.{In, in_from_contains, contains_from_in, all_in}
+use Rattle.ncc_layout.proofs.Membership.{In, in_from_contains, contains_from_in}
 use Rattle.ncc_layout.proofs.OneFault.{one_shared, not_before_itself}
 
 -- ---- the order

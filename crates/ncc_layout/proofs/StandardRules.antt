@@ -1,6 +1,6 @@
 -- A standard placement lies packed, and keeps all rules.
-use Rattle.std.proofs.Common.{◌≡◌, ℕ, zero, suc, ◌+◌, ◌*◌, ◌%◌, ◌^◌, ◌<◌, ◌≤◌, Bool, true, false, cond, not, List, [], ◌∷◌, ◌++◌, map, length, take, refl, sym, ap, ap₂, subst, ◌∙◌, arith, append_assoc, length-append, inl, inr}
-use Rattle.std.specs.Prelude.{Contains, AllPairs, filter, sum_by, if◌then◌else◌}
+use Rattle.std.proofs.Common.{◌≡◌, ℕ, zero, suc, ◌+◌, ◌*◌, ◌%◌, ◌≤◌, Bool, true, false, cond, not, List, [], ◌∷◌, ◌++◌, map, length, take, refl, sym, ap, subst, ◌∙◌, arith, append_assoc, length-append, inl, inr}
+use Rattle.std.specs.Prelude.{AllPairs, filter, sum_by, if◌then◌else◌}
 use Rattle.std.specs.List.{AllByRecursion}
 use Rattle.std.proofs.Math.Seq.{take-append_seam}
 use Rattle.std.proofs.lemmas.List.{append-nil}
@@ -17,7 +17,7 @@ use Rattle.ncc_schema.specs.Names.{header_length}
 use Rattle.ncc_layout.specs.declared.extent.Extent.{Extent}
 use Rattle.ncc_layout.specs.Sizes.{up, is_record_var, slab, rounded, record_sum, record_bytes, record_size_of}
 use Rattle.ncc_layout.specs.Extents.{extent_of, extents_from, extents_of, end, fixed_of, records_of, slabs_of_records, counted}
-use Rattle.ncc_layout.specs.Rules.{ByKind, PastHeader, EndsBy, InWindow, BeforeRecords, LastWithin, Within, Apart, AllApart, Rules, IsPlaced}
+use Rattle.ncc_layout.specs.Rules.{ByKind, PastHeader, EndsBy, LastWithin, Apart, AllApart, Rules, IsPlaced}
 use Rattle.ncc_layout.specs.Standard.{fixed_sum, standard_begin, standard_place, standard_from, standard_places, file_length, FitsVersion, PackedFrom, ArePacked, AreInTurn, AreAligned}
 use Rattle.ncc_layout.proofs.Membership.{In, in_from_contains}
 use Rattle.ncc_layout.proofs.TestsOfRules.{all_from}

@@ -1,4 +1,5 @@
--- Where each element lies, and what belongs to each (The NetCDF Classic Format Specification, "Notes on Computing File Offsets").
+-- Where each element lies, and what belongs to each
+-- (The NetCDF Classic Format Specification, "Notes on Computing File Offsets").
 use Rattle.std.specs.Prelude.{◌≡◌, ℕ, suc, ◌+◌, ◌*◌, ◌<◌, ◌≤◌, List, [], ◌∷◌, map, length, get_or, sum_by, Option, Some, None, Contains, Bool, true, false, if◌then◌else◌}
 use Rattle.std.specs.List.{AllByRecursion}
 use Rattle.ncc_values.specs.XType.{size_of}

@@ -1,4 +1,5 @@
--- Where variables lie, and how many records there are (The NetCDF Classic Format Specification, "Notes on Computing File Offsets" and "Note on streaming data").
+-- Where variables lie, and how many records there are
+-- (The NetCDF Classic Format Specification, "Notes on Computing File Offsets" and "Note on streaming data").
 use Rattle.std.specs.Prelude.{◌≡◌, ℕ, suc, ◌+◌, ◌-◌, ◌/◌, ◌≤◌, ltb, List, [], ◌∷◌, map, Contains, Option, Some, None, min, max, filter, not, if◌then◌else◌}
 use Rattle.std.specs.List.{AllByRecursion}
 use Rattle.ncc_schema.specs.declared.schema.Count.{Count}

@@ -43,7 +43,8 @@ IsInFile p n place = LiesInFile (header_length_of p) (file_length_of p) (var_at 
 
 -- all rules hold, and the sizes are those of its variables
 pub record KeepsRules (p : Placed) : Type 0 where
-  pub rules : Rules (header_length_of p) (file_length_of p) (record_size_of_file p) (records_of_file p) (extents_of_file p)
+  pub rules :
+      Rules (header_length_of p) (file_length_of p) (record_size_of_file p) (records_of_file p) (extents_of_file p)
   pub sized : AreSized (record_size_of_file p) (vars_of p)
 
 -- all rules hold with one record more, in a file of this length

@@ -1,4 +1,5 @@
--- The standard placement of a schema that is to be written (The NetCDF Classic Format Specification, "The Format in Detail").
+-- The standard placement of a schema that is to be written
+-- (The NetCDF Classic Format Specification, "The Format in Detail").
 use Rattle.std.specs.Prelude.{◌≡◌, ℕ, suc, ◌+◌, ◌-◌, ◌*◌, ◌%◌, ◌^◌, ◌<◌, ◌≤◌, ltb, map, AllPairs, Option, Some, None, List, [], ◌∷◌, take, filter, sum_by, not, if◌then◌else◌}
 use Rattle.std.specs.List.{AllByRecursion}
 use Rattle.ncc_values.specs.declared.version.Version.{Version}
