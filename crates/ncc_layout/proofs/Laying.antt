@@ -11,10 +11,10 @@ use Rattle.ncc_schema.specs.declared.schema.Dim.{Dim}
 use Rattle.ncc_schema.specs.declared.schema.Var.{Var}
 use Rattle.ncc_schema.specs.declared.schema.VarPlace.{VarPlace}
 use Rattle.ncc_schema.specs.declared.schema.Schema.{Schema}
-use Rattle.ncc_schema.specs.Schema.{Place, place_of, places_of, is_record, count_limit, LegalDims, LegalVar, Sound}
+use Rattle.ncc_schema.specs.Schema.{Place, place_of, places_of, is_record, count_limit, LegalDims, LegalVar, Sound, starts_with_record, is_record_var}
 use Rattle.ncc_layout.specs.declared.extent.Extent.{Extent}
 use Rattle.ncc_layout.specs.declared.placed_var.PlacedVar.{PlacedVar}
-use Rattle.ncc_layout.specs.Sizes.{up, product, length_of, starts_with_record, is_record_var, inner, slab, rounded, record_vars, record_slabs, record_bytes, record_size_of, room, Fit}
+use Rattle.ncc_layout.specs.Sizes.{up, product, length_of, inner, slab, rounded, record_vars, record_slabs, record_bytes, record_size_of, room, Fit}
 use Rattle.ncc_layout.specs.Extents.{extent_of, extents_from, extents_of, NumberedFrom, records_of, slabs_of_records, record_count}
 use Rattle.ncc_layout.specs.Rules.{PastHeader, InWindow, BeforeRecords, Within, Rules}
 use Rattle.ncc_layout.specs.Faults.{FailsFirst, FirstShared, FirstOverlap, RuleFails, PlaceFails, FirstFault}

@@ -5,10 +5,10 @@ use Rattle.ncc_schema.specs.declared.schema.Count.TheVariants.{Known}
 use Rattle.ncc_schema.specs.declared.schema.Dim.{Dim}
 use Rattle.ncc_schema.specs.declared.schema.Var.{Var}
 use Rattle.ncc_schema.specs.declared.schema.Schema.{Schema}
-use Rattle.ncc_schema.specs.Schema.{Place}
+use Rattle.ncc_schema.specs.Schema.{Place, is_record_var}
 use Rattle.ncc_layout.specs.declared.placed_var.PlacedVar.{PlacedVar}
 use Rattle.ncc_layout.specs.declared.placed_file.Placed.{Placed}
-use Rattle.ncc_layout.specs.Sizes.{is_record_var, inner, record_size_of}
+use Rattle.ncc_layout.specs.Sizes.{inner, record_size_of}
 use Rattle.ncc_layout.specs.Extents.{extent_of, extents_of, counted, record_count}
 use Rattle.ncc_layout.specs.Rules.{Rules, IsPlaced}
 use Rattle.ncc_layout.specs.Elements.{placed_var, placed_from, lengthened, with_records}

@@ -12,10 +12,10 @@ use Rattle.ncc_schema.specs.declared.schema.Dim.{Dim}
 use Rattle.ncc_schema.specs.declared.schema.Schema.{Schema}
 use Rattle.ncc_schema.specs.declared.schema.Var.{Var}
 use Rattle.ncc_schema.specs.declared.schema.VarPlace.{VarPlace}
-use Rattle.ncc_schema.specs.Schema.{place_of, places_of}
+use Rattle.ncc_schema.specs.Schema.{place_of, places_of, is_record_var}
 use Rattle.ncc_schema.specs.Names.{capped, list_size, vars_at, begin_at, no_place, unplaced, canon_unplaced, header_length}
 use Rattle.ncc_schema.proofs.Sizes.{length-canon, before-placed, first_size}
-use Rattle.ncc_layout.specs.Sizes.{is_record_var, rounded, record_sum}
+use Rattle.ncc_layout.specs.Sizes.{rounded, record_sum}
 use Rattle.ncc_layout.specs.Standard.{most_vsize, past_vsize, short_word, size_limit, vsize_word, fixed_sum, standard_place, standard_from, standard_places, begin_fields_from, FitsVersion}
 use Rattle.ncc_layout.specs.Plans.{header_end, fixed_end, slabs_end, AreEnds}
 use Rattle.ncc_layout.specs.declared.planning.Ends.{Ends}

@@ -12,10 +12,10 @@ use Rattle.ncc_schema.specs.declared.schema.Count.TheVariants.{Known}
 use Rattle.ncc_schema.specs.declared.schema.Dim.{Dim}
 use Rattle.ncc_schema.specs.declared.schema.Schema.{Schema}
 use Rattle.ncc_schema.specs.declared.schema.Var.{Var}
-use Rattle.ncc_schema.specs.Schema.{Place}
+use Rattle.ncc_schema.specs.Schema.{Place, is_record_var}
 use Rattle.ncc_schema.specs.Names.{header_length}
 use Rattle.ncc_layout.specs.declared.extent.Extent.{Extent}
-use Rattle.ncc_layout.specs.Sizes.{up, is_record_var, slab, rounded, record_sum, record_bytes, record_size_of}
+use Rattle.ncc_layout.specs.Sizes.{up, slab, rounded, record_sum, record_bytes, record_size_of}
 use Rattle.ncc_layout.specs.Extents.{extent_of, extents_from, extents_of, end, fixed_of, records_of, slabs_of_records, counted}
 use Rattle.ncc_layout.specs.Rules.{ByKind, PastHeader, EndsBy, LastWithin, Apart, AllApart, Rules, IsPlaced}
 use Rattle.ncc_layout.specs.Standard.{fixed_sum, standard_begin, standard_place, standard_from, standard_places, file_length, FitsVersion, PackedFrom, ArePacked, AreInTurn, AreAligned}

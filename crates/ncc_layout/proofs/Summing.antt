@@ -8,7 +8,8 @@ use Rattle.std.proofs.lemmas.Bool.{ltb-false}
 use Rattle.ncc_schema.specs.declared.schema.Dim.{Dim}
 use Rattle.ncc_schema.specs.declared.schema.Var.{Var}
 use Rattle.ncc_layout.specs.declared.sizing.Totals.{Totals}
-use Rattle.ncc_layout.specs.Sizes.{up, is_record_var, slab, rounded, record_vars, record_sum, record_bytes, room, Fit, Sums, Adds, is_nil, in_room, with_slab}
+use Rattle.ncc_schema.specs.Schema.{is_record_var}
+use Rattle.ncc_layout.specs.Sizes.{up, slab, rounded, record_vars, record_sum, record_bytes, room, Fit, Sums, Adds, is_nil, in_room, with_slab}
 
 -- ---- sizes
 

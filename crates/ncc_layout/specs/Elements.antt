@@ -7,10 +7,10 @@ use Rattle.ncc_values.specs.declared.xtype.XType.TheVariants.{Byte}
 use Rattle.ncc_schema.specs.declared.schema.Dim.{Dim}
 use Rattle.ncc_schema.specs.declared.schema.Var.{Var}
 use Rattle.ncc_schema.specs.declared.schema.Schema.{Schema}
-use Rattle.ncc_schema.specs.Schema.{Place}
+use Rattle.ncc_schema.specs.Schema.{Place, is_record_var}
 use Rattle.ncc_layout.specs.declared.extent.Extent.{Extent}
 use Rattle.ncc_layout.specs.declared.placed_var.PlacedVar.{PlacedVar}
-use Rattle.ncc_layout.specs.Sizes.{up, product, is_record_var, inner, record_bytes, room}
+use Rattle.ncc_layout.specs.Sizes.{up, product, inner, record_bytes, room}
 use Rattle.ncc_layout.specs.Extents.{extent_of, end, slabs_of_records, record_count, NumberedFrom}
 use Rattle.ncc_layout.specs.Rules.{Rules}
 

@@ -7,9 +7,9 @@ use Rattle.ncc_schema.specs.declared.schema.Count.TheVariants.{Known, Streaming}
 use Rattle.ncc_schema.specs.declared.schema.Dim.{Dim}
 use Rattle.ncc_schema.specs.declared.schema.Var.{Var}
 use Rattle.ncc_schema.specs.declared.schema.Schema.{Schema}
-use Rattle.ncc_schema.specs.Schema.{Place}
+use Rattle.ncc_schema.specs.Schema.{Place, is_record_var}
 use Rattle.ncc_layout.specs.declared.extent.Extent.{Extent}
-use Rattle.ncc_layout.specs.Sizes.{is_record_var, slab, record_size_of}
+use Rattle.ncc_layout.specs.Sizes.{slab, record_size_of}
 
 -- ---- extents
 

@@ -6,7 +6,7 @@ use Rattle.ncc_values.specs.XType.{size_of}
 use Rattle.ncc_schema.specs.declared.schema.Dim.{Dim}
 use Rattle.ncc_schema.specs.declared.schema.Var.{Var}
 use Rattle.ncc_schema.specs.declared.schema.Schema.{Schema}
-use Rattle.ncc_schema.specs.Schema.{lengths, is_record}
+use Rattle.ncc_schema.specs.Schema.{lengths, is_record_var}
 use Rattle.ncc_layout.specs.declared.fault.SizeError.{SizeError}
 use Rattle.ncc_layout.specs.declared.fault.SizeError.TheVariants.{TooLarge, Memory}
 use Rattle.ncc_layout.specs.declared.size_list.Sizes.{Sizes}
@@ -21,14 +21,6 @@ up n = n + padding_of n
 abbrev pub product : List ℕ → ℕ
 product [] = 1
 product (n ∷ ns) = n * product ns
-
--- a variable is a record variable exactly if its first dimension is the record dimension
-abbrev pub starts_with_record : List Dim → List ℕ → Bool
-starts_with_record dims [] = false
-starts_with_record dims (d ∷ ds) = is_record dims d
-
-abbrev pub is_record_var : List Dim → Var → Bool
-is_record_var dims x = starts_with_record dims x.dims
 
 abbrev pub length_of : List Dim → ℕ → ℕ
 length_of dims d = get_or (lengths dims) d 0

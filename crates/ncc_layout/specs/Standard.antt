@@ -7,9 +7,9 @@ use Rattle.ncc_values.specs.declared.version.Version.TheVariants.{V1, V2, V5}
 use Rattle.ncc_schema.specs.declared.schema.Dim.{Dim}
 use Rattle.ncc_schema.specs.declared.schema.Var.{Var}
 use Rattle.ncc_schema.specs.declared.schema.Schema.{Schema}
-use Rattle.ncc_schema.specs.Schema.{Place, streaming_mark, offset_limit}
+use Rattle.ncc_schema.specs.Schema.{Place, streaming_mark, offset_limit, is_record_var}
 use Rattle.ncc_schema.specs.Names.{begin_at, header_length}
-use Rattle.ncc_layout.specs.Sizes.{up, is_record_var, rounded, record_sum, record_size_of, room, Fit}
+use Rattle.ncc_layout.specs.Sizes.{up, rounded, record_sum, record_size_of, room, Fit}
 use Rattle.ncc_layout.specs.declared.extent.Extent.{Extent}
 use Rattle.ncc_layout.specs.Extents.{fixed_of, records_of}
 

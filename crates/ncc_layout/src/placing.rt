@@ -14,8 +14,8 @@ use crate::placed_file::Placed;
 use crate::placed_var::PlacedVar;
 use crate::records::record_count;
 use crate::size_list::Sizes;
-use crate::sizing::{inner_dims, is_record_var};
-use ncc_schema::{Dim, Header, Schema, Var, VarPlace};
+use crate::sizing::inner_dims;
+use ncc_schema::{Dim, Header, Schema, Var, VarPlace, is_record_var};
 use ncc_values::Seq;
 use std::alloc::{AllocError, Global};
 

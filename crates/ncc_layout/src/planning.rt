@@ -2,18 +2,20 @@
 
 ghost use Rattle.std.specs.Prelude.{◌≡◌, ℕ, List, [], ◌∷◌, ◌++◌, map, IfOk, MatchResult, if◌then◌else◌};
 ghost use Rattle.ncc_schema.specs.declared.schema.Var.{Var};
-ghost use Rattle.ncc_schema.specs.Schema.{places_of, LegalDims, Sound, Legal};
-ghost use Rattle.ncc_layout.specs.Sizes.{is_record_var, rounded};
+ghost use Rattle.ncc_schema.specs.Schema.{places_of, LegalDims, Sound, Legal, is_record_var};
+ghost use Rattle.ncc_layout.specs.Sizes.{rounded};
 ghost use Rattle.ncc_layout.specs.Standard.{FitsVersion};
 ghost use Rattle.ncc_layout.specs.Plans.{IsKnown, known, AreEnds, IsStandard, IsPlan, PlanFails};
 
 mod fitting;
 
 use crate::plan_fault::PlanFault;
-use crate::sizing::{is_record_var, sizes};
+use crate::sizing::sizes;
 use crate::vsize::vsize_word;
 use fitting::{fits_version, offsets_fit, records_begin};
-use ncc_schema::{Count, Dim, Schema, Var, VarPlace, header_length, var_size, vars_start};
+use ncc_schema::{
+    Count, Dim, Schema, Var, VarPlace, header_length, is_record_var, var_size, vars_start,
+};
 use std::alloc::{AllocError, Global};
 
 /// Where the variables so far end.

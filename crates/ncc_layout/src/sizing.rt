@@ -2,29 +2,18 @@
 
 ghost use Rattle.std.specs.Prelude.{◌≡◌, ◌*◌, ◌<◌, ◌≤◌, List, map};
 ghost use Rattle.std.specs.List.{AllByRecursion};
-ghost use Rattle.ncc_schema.specs.Schema.{IsFixed, LegalDims, Sound};
-ghost use Rattle.ncc_layout.specs.Sizes.{in_u64, in_room, room, is_record_var, length_of, product, inner, slab, with_slab, Sums, Adds, Fit, IsSizes};
+ghost use Rattle.ncc_schema.specs.Schema.{IsFixed, LegalDims, Sound, is_record_var};
+ghost use Rattle.ncc_layout.specs.Sizes.{in_u64, in_room, room, length_of, product, inner, slab, with_slab, Sums, Adds, Fit, IsSizes};
 ghost use Rattle.ncc_schema.specs.declared.schema.Var.{Var};
 
 use crate::fault::SizeError;
 use crate::size_list::Sizes;
-use ncc_schema::{Dim, Schema, Var};
+use ncc_schema::{Dim, Schema, Var, is_record_var};
 use ncc_values::{Seq, pad};
 use std::alloc::Global;
 
 /// The greatest size in bytes.
 pub const ROOM: u64 = (1 << 63) - 4;
-
-/// Is its first dimension the record dimension?
-pub fn is_record_var(dims: &[Dim], var: &Var) -> bool
-    requires { LegalDims dims.now var.now.dims }
-    ensures { result ≡ is_record_var dims.now var.now }
-{
-    match var.dims.as_slice() {
-        [] => false,
-        [first, ..] => dims[*first].length == 0,
-    }
-}
 
 /// The numbers of its dimensions without the record dimension.
 pub fn inner_dims<'a>(dims: &[Dim], var: &'a Var) -> &'a [usize]

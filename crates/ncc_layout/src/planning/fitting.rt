@@ -8,9 +8,9 @@ ghost use Rattle.ncc_layout.specs.Sizes.{rounded, AreSizes};
 ghost use Rattle.ncc_layout.specs.Standard.{size_limit, fixed_sum, FitsVersion};
 
 use crate::size_list::Sizes;
-use crate::sizing::{ROOM, is_record_var};
+use crate::sizing::ROOM;
 use crate::vsize::MOST_VSIZE;
-use ncc_schema::{Schema, VarPlace, limit_of_offsets};
+use ncc_schema::{Schema, VarPlace, is_record_var, limit_of_offsets};
 use ncc_values::Version;
 
 /// The greatest size that the word of a variable tells.

@@ -1,7 +1,8 @@
 use Rattle.std.proofs.Common.{◌≡◌, ◌-◌, ◌<◌, ◌++◌, ◌∷◌, [], length, take, get_or, ap, sym, subst, ◌∙◌, arith}
 use Rattle.std.specs.Prelude.{if◌then◌else◌}
 use Rattle.std.proofs.lemmas.List.{get_or-map}
-use Rattle.ncc_layout.specs.Sizes.{is_record_var, rounded}
+use Rattle.ncc_schema.specs.Schema.{is_record_var}
+use Rattle.ncc_layout.specs.Sizes.{rounded}
 use Rattle.ncc_layout.specs.Standard.{vsize_word}
 use Rattle.ncc_layout.specs.Plans.{AreEnds}
 use Rattle.ncc_layout.proofs.StandardPlaces.{with_it, place_is, field_is, places_more, fields_more}
