@@ -1,6 +1,6 @@
 //! An open file.
 
-ghost use Rattle.std.specs.Prelude.{◌≡◌, ◌≤◌, ◌+◌, length, take, drop, IsTrue, OnOk};
+ghost use Rattle.std.specs.Prelude.{◌≡◌, ◌≤◌, ◌+◌, false, length, take, drop, IsTrue, OnOk};
 ghost use Rattle.ncc_values.specs.Failures.{Counts};
 ghost use Rattle.ncc_store.specs.Store.{Unmoved, KeepsImages};
 ghost use Rattle.ncc_layout.specs.Placed.{records_of_file, file_length_of};
@@ -21,6 +21,22 @@ pub struct NcFile<S: Store> {
 
 impl<S: Store> NcFile<S> {
     ghost use Rattle.ncc_check.specs.Files.{store_of, schema_of, placed_of, must_reopen};
+
+    /// A file that passed.
+    pub(crate) fn new(store: S, schema: Schema, placed: Placed) -> NcFile<S>
+        requires { IsTrue S.tells_bytes → file_length_of placed ≤ length (S.bytes store) }
+        ensures store { store_of result ≡ store }
+        ensures schema { schema_of result ≡ schema }
+        ensures placed { placed_of result ≡ placed }
+        ensures fresh { must_reopen result ≡ false }
+    {
+        NcFile {
+            store,
+            schema,
+            placed,
+            must_reopen: false,
+        }
+    }
 
     /// What its header says but for the places.
     pub fn schema(&self) -> &Schema
