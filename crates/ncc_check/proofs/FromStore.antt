@@ -1,6 +1,7 @@
 -- Reading a header from a store, piece by piece.
-use Rattle.std.proofs.Common.{◌≡◌, ◌≢◌, ◌⊎◌, ℕ, ◌+◌, ◌≤◌, List, [], ◌++◌, length, take, drop, Result, Ok, Err, refl, sym, ap, ap₂, subst, ◌∙◌, inl, inr, append_assoc, arith}
+use Rattle.std.proofs.Common.{◌≡◌, ◌≢◌, ◌⊎◌, ℕ, ◌+◌, ◌-◌, ◌%◌, ◌<◌, ◌≤◌, min, List, [], ◌++◌, length, take, drop, Result, Ok, Err, refl, sym, ap, ap₂, subst, ◌∙◌, inl, inr, append_assoc, arith}
 use Rattle.std.specs.Prelude.{Bool, IsTrue}
+use Rattle.std.proofs.lemmas.Bool.{cases_lt}
 use Rattle.std.proofs.lemmas.List.{append-nil, length-take-le, take-append-drop, drop_all}
 use Rattle.std.proofs.Math.Seq.{take-add}
 use Rattle.ncc_header.specs.declared.decoder.Decoder.{Decoder}
@@ -21,7 +22,7 @@ use Rattle.ncc_check.specs.declared.fault.FileFault.TheVariants.{Header as OfHea
 use Rattle.ncc_check.specs.declared.fault.Refusal.{Refusal}
 use Rattle.ncc_check.specs.declared.fault.Refusal.TheVariants.{Fault, Device, Memory}
 use Rattle.ncc_check.specs.Refusals.{refusal_of}
-use Rattle.ncc_check.specs.FromStore.{RefusedOn, ReadsHeader, FedPiece, FailsPiece, IsEnough, HasEnough}
+use Rattle.ncc_check.specs.FromStore.{reads_for, RefusedOn, ReadsHeader, FedPiece, FailsPiece, IsEnough, HasEnough}
 
 pub refused_on : (bytes : List ℕ) (limit : ℕ) (e : HeaderError) (r : Refusal) → r ≡ refusal_of e → FailedOn bytes limit e → RefusedOn bytes limit r
 refused_on bytes limit (errors.Fault f) r is failed = subst (RefusedOn bytes limit) (sym is) failed
@@ -136,3 +137,21 @@ pub final_refusal : HeaderIsBegun → Apart → LimitCovers → (bytes taken : L
 final_refusal begun apart covers bytes taken limit (errors.Fault f) r is enough stop = subst (λ (x : Refusal). ReadsHeader bytes limit (Err x)) (sym is) (final_fault begun apart covers bytes taken limit f enough stop)
 final_refusal begun apart covers bytes taken limit errors.Device r is enough stop = absurd stop
 final_refusal begun apart covers bytes taken limit errors.Memory r is enough stop = subst (λ (x : Refusal). ReadsHeader bytes limit (Err x)) (sym is) tt
+
+-- ---- calls
+
+-- one read more, and the bytes up to its end
+pub one_more_read : (at size end : ℕ) → (at % 65536 ≡ 0) ⊎ (at ≡ end) → at < end → size ≡ min (end - at) 65536 → reads_for at + 1 ≡ reads_for (at + size)
+one_more_read at size end (inl whole) more is = omega (arith, whole, more, is)
+one_more_read at size end (inr all) more is = absurd (omega (arith, all, more))
+
+pub still_whole : (at size end : ℕ) → (at % 65536 ≡ 0) ⊎ (at ≡ end) → at < end → size ≡ min (end - at) 65536 → ((at + size) % 65536 ≡ 0) ⊎ (at + size ≡ end)
+still_whole at size end (inr all) more is = absurd (omega (arith, all, more))
+still_whole at size end (inl whole) more is = elim (cases_lt (end - at) 65536) [
+  | inl last ↦ inr (omega (arith, is, last, more))
+  | inr past ↦ inl (omega (arith, whole, is, past))
+]
+
+pub reads_to_end : (at end : ℕ) → (at % 65536 ≡ 0) ⊎ (at ≡ end) → at < end → reads_for at + 1 ≤ reads_for end
+reads_to_end at end (inl whole) more = omega (arith, whole, more)
+reads_to_end at end (inr all) more = absurd (omega (arith, all, more))

@@ -1,5 +1,5 @@
 -- What a decoder has taken of a store.
-use Rattle.std.specs.Prelude.{◌≡◌, ◌⊎◌, ℕ, ◌≤◌, Bool, List, [], ◌++◌, length, take, drop, IsTrue, Result, Ok, Err}
+use Rattle.std.specs.Prelude.{◌≡◌, ◌⊎◌, ℕ, ◌+◌, ◌/◌, ◌≤◌, min, Bool, List, [], ◌++◌, length, take, drop, IsTrue, Result, Ok, Err}
 use Rattle.ncc_schema.specs.declared.schema.Header.{Header}
 use Rattle.ncc_header.specs.declared.decoder.Decoder.{Decoder}
 use Rattle.ncc_header.specs.declared.standing.Fed.{Fed}
@@ -9,6 +9,14 @@ use Rattle.ncc_header.specs.Standing.{StopsForGood, IsWhole, Feeds, front_taken}
 use Rattle.ncc_check.specs.declared.fault.FileFault.TheVariants.{Header as OfHeader, Layout as OfLayout}
 use Rattle.ncc_check.specs.declared.fault.Refusal.{Refusal}
 use Rattle.ncc_check.specs.declared.fault.Refusal.TheVariants.{Fault, Device, Memory}
+
+-- how many reads of at most 65,536 bytes so many bytes take
+abbrev pub reads_for : (bytes : ℕ) → ℕ
+reads_for bytes = (bytes + 65535) / 65536
+
+-- the calls of a check: one for the length, and the reads of what may be the header
+abbrev pub calls_for : (file limit : ℕ) → ℕ
+calls_for file limit = 1 + reads_for (min file limit)
 
 -- a decoder was refused these bytes, whatever follows, unless memory or the device failed
 abbrev pub RefusedOn : (bytes : List ℕ) (limit : ℕ) → Refusal → Type 0

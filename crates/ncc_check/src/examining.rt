@@ -1,10 +1,10 @@
 //! Whether a file passes, and what it holds.
 
-ghost use Rattle.std.specs.Prelude.{◌≡◌, length, IsTrue, IfOk, IfErr};
+ghost use Rattle.std.specs.Prelude.{◌≡◌, ◌+◌, ◌≤◌, length, IsTrue, IfOk, IfErr};
 ghost use Rattle.ncc_store.specs.Store.{Unmoved, KeepsImages};
 ghost use Rattle.ncc_layout.specs.Sizes.{AreSizes};
 ghost use Rattle.ncc_check.specs.Checks.{CountsAs, Refuses, Finds};
-ghost use Rattle.ncc_check.specs.FromStore.{IsBegun};
+ghost use Rattle.ncc_check.specs.FromStore.{calls_for, IsBegun};
 
 use crate::fault::Refusal;
 use crate::judging::{placed_of, sizes_of};
@@ -31,6 +31,7 @@ pub fn examine<S: Store>(alloc: Global, store: &mut S, limit: u64) -> Result<Fou
     ensures unmoved { Unmoved S.bytes S.images S.moment S.images_since store.old store.new }
     ensures kept { KeepsImages (S.images store.old) (S.images store.new) }
     ensures count { CountsAs (S.failures store.old) (S.failures store.new) result }
+    ensures calls { IsTrue S.tells_bytes → S.calls store.new ≤ S.calls store.old + calls_for (length (S.bytes store.old)) limit }
 {
     store_laws::unmoved_calls_join::<S>();
     let file_length = store.len()?;

@@ -1,9 +1,10 @@
 //! Opening a file that passes.
 
-ghost use Rattle.std.specs.Prelude.{◌≡◌, false, IsTrue, IfOk, IfErr, OnOk, MatchResult};
+ghost use Rattle.std.specs.Prelude.{◌≡◌, ◌+◌, ◌≤◌, false, length, IsTrue, IfOk, IfErr, OnOk, MatchResult};
 ghost use Rattle.ncc_store.specs.Store.{Unmoved, KeepsImages};
 ghost use Rattle.ncc_check.specs.Passes.{HasOwnElements};
 ghost use Rattle.ncc_check.specs.Checks.{Refuses, RefusalCounts, Opens};
+ghost use Rattle.ncc_check.specs.FromStore.{calls_for};
 ghost use Rattle.ncc_check.specs.Files.{store_of, schema_of, placed_of, must_reopen};
 
 use crate::examining::{Found, examine};
@@ -30,6 +31,9 @@ pub fn open<S: Store>(alloc: Global, store: S, limit: u64) -> Result<NcFile<S>, 
     ensures count { MatchResult result
         (λ f. S.failures (store_of f) ≡ S.failures store)
         (λ e. RefusalCounts (S.failures store) (S.failures e.0) e.1) }
+    ensures calls { IsTrue S.tells_bytes → MatchResult result
+        (λ f. S.calls (store_of f) ≤ S.calls store + calls_for (length (S.bytes store)) limit)
+        (λ e. S.calls e.0 ≤ S.calls store + calls_for (length (S.bytes store)) limit) }
 {
     passing_elements_are_apart();
     let mut store = store;

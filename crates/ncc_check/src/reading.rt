@@ -1,10 +1,10 @@
 //! Reading the header of a file from a store.
 
-ghost use Rattle.std.specs.Prelude.{◌≡◌, ◌⊎◌, ◌+◌, ◌≤◌, ℕ, List, [], length, take, drop, Err, IsTrue, IfOk, IfErr, OnOk};
+ghost use Rattle.std.specs.Prelude.{◌≡◌, ◌⊎◌, ◌+◌, ◌≤◌, ℕ, List, [], length, take, drop, min, Err, IsTrue, IfOk, IfErr, OnOk};
 ghost use Rattle.ncc_store.specs.Store.{Unmoved, KeepsImages};
 ghost use Rattle.ncc_header.specs.Decoder.{Took, limit_of};
 ghost use Rattle.ncc_check.specs.Checks.{CountsAs};
-ghost use Rattle.ncc_check.specs.FromStore.{FedPiece, FailsPiece, HasEnough, ReadsHeader, IsBegun, RefusedOn};
+ghost use Rattle.ncc_check.specs.FromStore.{reads_for, FedPiece, FailsPiece, HasEnough, ReadsHeader, IsBegun};
 
 use crate::fault::Refusal;
 use ncc_header::{Decoder, Fed, Header, laws};
@@ -29,6 +29,7 @@ fn feed_piece<S: Store>(
     ensures unmoved { Unmoved S.bytes S.images S.moment S.images_since store.old store.new }
     ensures kept { KeepsImages (S.images store.old) (S.images store.new) }
     ensures count { CountsAs (S.failures store.old) (S.failures store.new) result }
+    ensures calls { S.calls store.new ≤ S.calls store.old + 1 }
 {
     store.read_at(at, room)?;
     match decoder.feed(room) {
@@ -48,6 +49,7 @@ fn feed_front<S: Store>(store: &mut S, decoder: &mut Decoder, end: u64) -> Resul
     ensures unmoved { Unmoved S.bytes S.images S.moment S.images_since store.old store.new }
     ensures kept { KeepsImages (S.images store.old) (S.images store.new) }
     ensures count { CountsAs (S.failures store.old) (S.failures store.new) result }
+    ensures calls { S.calls store.new ≤ S.calls store.old + reads_for end }
 {
     laws::stop_stays();
     store_laws::unmoved_calls_join::<S>();
@@ -78,6 +80,7 @@ pub fn header_of<S: Store>(
     ensures unmoved { Unmoved S.bytes S.images S.moment S.images_since store.old store.new }
     ensures kept { KeepsImages (S.images store.old) (S.images store.new) }
     ensures count { CountsAs (S.failures store.old) (S.failures store.new) result }
+    ensures calls { S.calls store.new ≤ S.calls store.old + reads_for (min file_length limit) }
 {
     laws::header_or_stop();
     laws::header_is_begun();

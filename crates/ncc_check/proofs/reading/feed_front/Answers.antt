@@ -4,7 +4,7 @@ use Rattle.std.proofs.lemmas.List.{length-take}
 use Rattle.std.proofs.lemmas.Result.{err_from_is_err_and}
 use Rattle.ncc_header.specs.Decoder.{limit_of}
 use Rattle.ncc_check.specs.FromStore.{ReadsHeader}
-use Rattle.ncc_check.proofs.FromStore.{same_piece, more_taken, took_all, took_some, whole_enough, all_enough, refused_piece}
+use Rattle.ncc_check.proofs.FromStore.{reads_to_end, one_more_read, still_whole, same_piece, more_taken, took_all, took_some, whole_enough, all_enough, refused_piece}
 use Rattle.ncc_check.proofs.reading.feed_front.Goals as goal
 
 pub loop-at-preserved : goal.loop-at-preserved
@@ -26,6 +26,8 @@ loop-at-preserved g c =
       within = omega (arith, c.min-size.ensures, c.loop-at-test.true);
       unmoved = c.unmoved_calls_join.ensures c.args.store.now c.loop-at.store c.feed_piece.new.store so_far.unmoved c.in_ok-feed_piece.ensures.unmoved;
       kept = λ image was. c.in_ok-feed_piece.ensures.kept image (so_far.kept image was);
+      calls = omega (arith, so_far.calls, c.in_ok-feed_piece.ensures.calls, one_more_read c.loop-at.at size c.args.end so_far.whole c.loop-at-test.true c.min-size.ensures);
+      whole = still_whole c.loop-at.at size c.args.end so_far.whole c.loop-at-test.true c.min-size.ensures;
       count = c.in_ok-feed_piece.ensures.count ∙ so_far.count;
     }
 
@@ -65,3 +67,13 @@ returns-in_err-feed_piece-clause-err g c =
     let p = err_from_is_err_and c.from_residual.result c.from_residual.ensures.1 in
     rw (p.1, p.2) (λ told. refused_piece c.stop_stays.ensures c.loop-at.decoder old so_far.took.0 _ limit c.loop-at.at size c.in_err-feed_piece.field-0.0 g.S.Store.tells_bytes told
     (so_far.took.2 told) (same_piece _ size c.loop-at.at _ old room so_far.unmoved.same) so_far.took.1 so_far.limit c.in_err-feed_piece.ensures.err)
+
+pub returns-in_err-feed_piece-clause-calls : goal.returns-in_err-feed_piece-clause-calls
+returns-in_err-feed_piece-clause-calls g c =
+    let so_far = c.loop-at.invariant in
+    omega (arith, so_far.calls, c.in_err-feed_piece.ensures.calls, reads_to_end c.loop-at.at c.args.end so_far.whole c.loop-at-test.true)
+
+pub returns-in-Done-clause-calls : goal.returns-in-Done-clause-calls
+returns-in-Done-clause-calls g c =
+    let so_far = c.loop-at.invariant in
+    omega (arith, so_far.calls, c.in_ok-feed_piece.ensures.calls, reads_to_end c.loop-at.at c.args.end so_far.whole c.loop-at-test.true)
