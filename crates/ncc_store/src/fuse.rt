@@ -112,6 +112,7 @@ impl<S: Store> Store for FuseStore<S> {
         ensures unmoved { Unmoved S.bytes S.images S.moment S.images_since (fuse_inner self.old) (fuse_inner self.new) }
         ensures kept { KeepsImages (S.images (fuse_inner self.old)) (S.images (fuse_inner self.new)) }
         ensures burns { Burns S.failures self.old self.new result }
+        ensures below { S.calls (fuse_inner self.new) ≤ S.calls (fuse_inner self.old) + 1 }
         ensures nothing { fuse_left self.old ≡ 0 → fuse_inner self.new ≡ fuse_inner self.old }
     {
         if self.left == 0 {
@@ -127,6 +128,7 @@ impl<S: Store> Store for FuseStore<S> {
         ensures unmoved { Unmoved S.bytes S.images S.moment S.images_since (fuse_inner self.old) (fuse_inner self.new) }
         ensures kept { KeepsImages (S.images (fuse_inner self.old)) (S.images (fuse_inner self.new)) }
         ensures burns { Burns S.failures self.old self.new result }
+        ensures below { S.calls (fuse_inner self.new) ≤ S.calls (fuse_inner self.old) + 1 }
         ensures nothing { fuse_left self.old ≡ 0 → fuse_inner self.new ≡ fuse_inner self.old }
     {
         if self.left == 0 {
@@ -143,6 +145,7 @@ impl<S: Store> Store for FuseStore<S> {
         ensures err { IsTrue S.tells_bytes → OnErr result (FrontWritten (S.bytes (fuse_inner self.old)) place piece.now (S.bytes (fuse_inner self.new))) }
         ensures images { Elapses S.images S.moment S.images_since (fuse_inner self.old) (fuse_inner self.new) (AfterWrite place piece.now (S.images (fuse_inner self.old))) }
         ensures burns { Burns S.failures self.old self.new result }
+        ensures below { S.calls (fuse_inner self.new) ≤ S.calls (fuse_inner self.old) + 1 }
         ensures nothing { fuse_left self.old ≡ 0 → failed_front (fuse_front self.old) piece.now ≡ [] → fuse_inner self.new ≡ fuse_inner self.old }
 
         // A write that fails does its front, unless the store below fails too.
@@ -168,6 +171,7 @@ impl<S: Store> Store for FuseStore<S> {
         ensures unmoved { Unmoved S.bytes S.images S.moment S.images_since (fuse_inner self.old) (fuse_inner self.new) }
         ensures kept { OnErr result (KeepsImages (S.images (fuse_inner self.old)) (S.images (fuse_inner self.new))) }
         ensures burns { Burns S.failures self.old self.new result }
+        ensures below { S.calls (fuse_inner self.new) ≤ S.calls (fuse_inner self.old) + 1 }
         ensures nothing { fuse_left self.old ≡ 0 → fuse_inner self.new ≡ fuse_inner self.old }
     {
         if self.left == 0 {

@@ -126,6 +126,7 @@ impl Store for LogStore {
         ensures unchanged { OnErr result (HoldsSame self.old self.new) }
         ensures err { OnErr result (FrontWritten (log_bytes self.old) place piece.now (log_bytes self.new)) }
         ensures images { Elapses log_images log_moment log_images_since self.old self.new (AfterWrite place piece.now (log_images self.old)) }
+        ensures torn { OnOk result ((c : List ℕ) → AfterWrite place piece.now (log_images self.old) c → log_images self.new c) }
         ensures count { Counts (log_failures self.old) (log_failures self.new) result }
     {
         match write_logged(
