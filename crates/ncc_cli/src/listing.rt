@@ -43,6 +43,7 @@ pub fn list_engine<R: Source, W: Sink>(
     sink: &mut W,
 ) -> Answer
     ensures lists { IfSome (R.left source.old) (λ input. (out : List ℕ) × Puts (W.put sink.old) (W.put sink.new) out × Lists input limit result out) }
+    ensures quiet { (result ≡ Answer.Device → ⊥) → (R.failures source.new ≡ R.failures source.old) × (W.failures sink.new ≡ W.failures sink.old) }
     ensures device { result ≡ Answer.Device → Rose (R.failures source.old) (R.failures source.new) ⊎ Rose (W.failures sink.old) (W.failures sink.new) }
 {
     laws::header_or_stop();
