@@ -101,7 +101,8 @@ count "closed error" 0 $?
 "$ncc" list ocean.nc | head -c 1 > out
 count "an output that is read in part" f "$(cat out)"
 
-# ---- headers at the limit, and 4 bytes past it
+# ---- headers at the limit, and 4 bytes past it, where the last field is: its 48 bytes besides the values are
+# the fields, and the lines are 57 bytes besides them
 
 head_of() {
   printf 'CDF\1\0\0\0\0\0\0\0\0\0\0\0\0\0\0\0\x0c\0\0\0\1\0\0\0\1n\0\0\0\0\0\0\2'
@@ -112,10 +113,10 @@ head_of() {
 }
 head_of $((67108864 - 48)) > at_the_limit.nc
 "$ncc" list at_the_limit.nc > out 2> err
-count "a header of 67,108,864 bytes" "0 67108864 $((67108864 - 48 + 61)) " \
+count "a header of 67,108,864 bytes" "0 67108864 $((67108864 - 48 + 57)) " \
   "$? $(wc -c < at_the_limit.nc | tr -d ' ') $(wc -c < out | tr -d ' ') $(cat err)"
 head_of $((67108864 - 44)) > past_the_limit.nc
-expect "a header of 67,108,868 bytes" 1 "fault HeaderTooLong at 67108860" "" list past_the_limit.nc
+expect "a header of 67,108,868 bytes" 1 "fault HeaderTooLong at 67108864" "" list past_the_limit.nc
 
 echo "$passed passed, $failed failed"
 [ "$failed" = 0 ]
