@@ -1,7 +1,7 @@
 //! Files as words of four bytes, and what `list` says of them.
 
 use crate::answer::Answer;
-use crate::listing::list_engine;
+use crate::list::listing::list_engine;
 use ncc_header::{ReadSource, WriteSink};
 use std::alloc::{AllocError, Global};
 use std::process::Abort;

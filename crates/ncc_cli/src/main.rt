@@ -9,19 +9,17 @@ mod failure_tests;
 mod fault_tests;
 #[cfg(test)]
 mod fixtures;
-mod heads;
+mod lines;
+mod list;
 #[cfg(test)]
 mod list_tests;
-mod listing;
-mod printed;
+mod page;
 mod run;
 #[cfg(test)]
 mod run_tests;
-mod sections;
-mod sending;
-mod texts;
 #[cfg(test)]
 mod value_tests;
+mod values;
 
 use answer::Answer;
 use std::io::ErrorKind;

@@ -8,7 +8,7 @@ ghost use Rattle.ncc_cli.specs.Listing.{Lists};
 ghost use Rattle.ncc_cli.specs.Status.{status_of, Explains, Flushes};
 
 use crate::answer::Answer;
-use crate::listing::list_engine;
+use crate::list::listing::list_engine;
 use clap::error::ErrorKind;
 use clap::{Arg, ArgAction, Command, Error};
 use ncc_header::{ReadSource, WriteSink};
