@@ -1,13 +1,16 @@
 //! Values as they are printed.
 
-ghost use Rattle.std.specs.Prelude.{◌≡◌, ◌++◌, codes, OnOk};
+ghost use Rattle.std.specs.Prelude.{◌≡◌, ◌≤◌, ◌++◌, length, map, codes, OnOk};
 ghost use Rattle.std.specs.List.{flat_map};
 ghost use Rattle.ncc_cli.specs.Words.{bits_word};
 
-use crate::escape::{push_bits, push_escaped};
+use crate::escape::{push_bits, push_escaped, push_name};
 use itoa::{Buffer, Integer};
 use ncc_values::{Char, F32Bits, F64Bits};
 use std::alloc::AllocError;
+
+/// How many values are printed at once: a number has at most 21 bytes, a character at most 4.
+pub const PIECE: usize = 128;
 
 /// A value of an attribute.
 pub trait Printed: Copy {
@@ -19,6 +22,27 @@ pub trait Printed: Copy {
     /// Adds its text.
     fn print(self, out: &mut Vec<u8>) -> Result<(), AllocError>
         ensures { OnOk result (out.new.items ≡ out.old.items ++ text self) };
+
+    /// Adds the texts of a few values, one after the other.
+    fn print_all(values: &[Self], out: &mut Vec<u8>) -> Result<(), AllocError>
+        requires { length values.now ≤ PIECE }
+        ensures { OnOk result (out.new.items ≡ out.old.items ++ flat_map text values.now) }
+    {
+        for value in values {
+            value.print(out)?;
+        }
+        Ok(())
+    }
+}
+
+/// The bytes of characters.
+fn copy_chars(chars: &[Char], bytes: &mut [u8])
+    requires { length chars.now ≡ length bytes.old }
+    ensures { bytes.new ≡ map (λ c. c.0) chars.now }
+{
+    for (i, c) in chars.iter().enumerate() {
+        bytes[i] = c.0;
+    }
 }
 
 /// Adds an integer behind a space.
@@ -39,16 +63,6 @@ fn push_float(out: &mut Vec<u8>, bytes: &[u8]) -> Result<(), AllocError>
     push_bits(out, bytes)
 }
 
-/// Adds the values, one after the other.
-pub fn push_values<T: Printed>(out: &mut Vec<u8>, values: &[T]) -> Result<(), AllocError>
-    ensures { OnOk result (out.new.items ≡ out.old.items ++ flat_map T.text values.now) }
-{
-    for value in values {
-        value.print(out)?;
-    }
-    Ok(())
-}
-
 impl Printed for Char {
     ghost use Rattle.ncc_cli.specs.Words.{char_text};
 
@@ -56,6 +70,13 @@ impl Printed for Char {
 
     fn print(self, out: &mut Vec<u8>) -> Result<(), AllocError> {
         push_escaped(out, self.0)
+    }
+
+    fn print_all(values: &[Char], out: &mut Vec<u8>) -> Result<(), AllocError> {
+        let mut room = [0; PIECE];
+        let bytes = &mut room[..values.len()];
+        copy_chars(values, bytes);
+        push_name(out, bytes)
     }
 }
 

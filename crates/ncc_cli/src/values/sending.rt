@@ -1,18 +1,15 @@
 //! Sending the text of values, piece by piece.
 
-ghost use Rattle.std.specs.Prelude.{◌++◌};
+ghost use Rattle.std.specs.Prelude.{◌≤◌, ◌++◌, length};
 ghost use Rattle.std.specs.List.{flat_map};
 ghost use Rattle.ncc_cli.specs.Words.{chars_word, values_text};
 ghost use Rattle.ncc_cli.specs.Listing.{Sends, Blames};
 
 use crate::answer::Halt;
 use crate::page::{send, turn_page};
-use crate::values::printed::{Printed, push_values};
+use crate::values::printed::{PIECE, Printed};
 use ncc_header::{Sink, Values};
 use ncc_values::Char;
-
-/// How many values, each printed as at most 21 bytes, are added at once.
-const PIECE: usize = 128;
 
 /// Sends the text of a few values.
 fn send_piece<T: Printed, W: Sink>(
@@ -20,10 +17,11 @@ fn send_piece<T: Printed, W: Sink>(
     page: &mut Vec<u8>,
     sink: &mut W,
 ) -> Result<(), Halt>
+    requires { length piece.now ≤ PIECE }
     ensures sent { Sends (W.put sink.old) (W.put sink.new) (page.old.items ++ flat_map T.text piece.now) page.new.items result }
     ensures count { Blames (W.failures sink.old) (W.failures sink.new) result }
 {
-    push_values(page, piece)?;
+    T::print_all(piece, page)?;
     turn_page(page, sink)
 }
 
