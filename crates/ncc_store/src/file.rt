@@ -84,7 +84,8 @@ impl<F: SystemFile> Store for FileStore<F> {
     }
 
     fn read_at(&mut self, place: u64, out: &mut [u8]) -> Result<(), Device>
-        ensures told { IfSome (F.bytes (file_of self.old)) (λ b. OnOk result (out.new ≡ take (length out.old) (drop place b))) }
+        ensures told { IfSome (F.bytes (file_of self.old))
+            (λ b. OnOk result (out.new ≡ take (length out.old) (drop place b))) }
         ensures same { F.bytes (file_of self.new) ≡ F.bytes (file_of self.old) }
         ensures writes { file_writes self.new ≡ file_writes self.old }
         ensures count { Counts (file_failures self.old) (file_failures self.new) result }
