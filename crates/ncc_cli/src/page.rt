@@ -48,7 +48,8 @@ pub fn send<W: Sink>(text: &[u8], page: &mut Vec<u8>, sink: &mut W) -> Result<()
 
 /// Sends a short name.
 fn send_short<W: Sink>(name: &[u8], page: &mut Vec<u8>, sink: &mut W) -> Result<(), Halt>
-    ensures sent { Sends (W.put sink.old) (W.put sink.new) (page.old.items ++ name_text name.now) page.new.items result }
+    ensures sent { Sends (W.put sink.old) (W.put sink.new)
+        (page.old.items ++ name_text name.now) page.new.items result }
     ensures count { Blames (W.failures sink.old) (W.failures sink.new) result }
 {
     push_name(page, name)?;
@@ -57,7 +58,8 @@ fn send_short<W: Sink>(name: &[u8], page: &mut Vec<u8>, sink: &mut W) -> Result<
 
 /// Sends a name, piece by piece.
 pub fn send_name<W: Sink>(name: &[u8], page: &mut Vec<u8>, sink: &mut W) -> Result<(), Halt>
-    ensures sent { Sends (W.put sink.old) (W.put sink.new) (page.old.items ++ name_text name.now) page.new.items result }
+    ensures sent { Sends (W.put sink.old) (W.put sink.new)
+        (page.old.items ++ name_text name.now) page.new.items result }
     ensures count { Blames (W.failures sink.old) (W.failures sink.new) result }
 {
     let mut rest = name;

@@ -53,9 +53,12 @@ pub fn list_engine<R: Source, W: Sink>(
     limit: u64,
     sink: &mut W,
 ) -> Answer
-    ensures lists { IfSome (R.left source.old) (λ input. (out : List ℕ) × Puts (W.put sink.old) (W.put sink.new) out × Lists input limit result out) }
-    ensures quiet { (result ≡ Answer.Device → ⊥) → (R.failures source.new ≡ R.failures source.old) × (W.failures sink.new ≡ W.failures sink.old) }
-    ensures device { result ≡ Answer.Device → Rose (R.failures source.old) (R.failures source.new) ⊎ Rose (W.failures sink.old) (W.failures sink.new) }
+    ensures lists { IfSome (R.left source.old) (λ input. (out : List ℕ)
+        × Puts (W.put sink.old) (W.put sink.new) out × Lists input limit result out) }
+    ensures quiet { (result ≡ Answer.Device → ⊥)
+        → (R.failures source.new ≡ R.failures source.old) × (W.failures sink.new ≡ W.failures sink.old) }
+    ensures device { result ≡ Answer.Device
+        → Rose (R.failures source.old) (R.failures source.new) ⊎ Rose (W.failures sink.old) (W.failures sink.new) }
 {
     laws::header_or_stop();
     match read_header(alloc, source, limit) {

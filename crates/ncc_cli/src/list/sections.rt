@@ -16,7 +16,8 @@ use ncc_header::{Attr, Dim, Header, Schema, Sink, Var, VarPlace};
 
 /// Sends the line of a dimension.
 fn send_dim<W: Sink>(number: usize, dim: &Dim, page: &mut Vec<u8>, sink: &mut W) -> Result<(), Halt>
-    ensures sent { Sends (W.put sink.old) (W.put sink.new) (page.old.items ++ dim_line number dim.now) page.new.items result }
+    ensures sent { Sends (W.put sink.old) (W.put sink.new)
+        (page.old.items ++ dim_line number dim.now) page.new.items result }
     ensures count { Blames (W.failures sink.old) (W.failures sink.new) result }
 {
     push_dim_start(page, number)?;
@@ -27,7 +28,8 @@ fn send_dim<W: Sink>(number: usize, dim: &Dim, page: &mut Vec<u8>, sink: &mut W)
 
 /// Sends a line for each dimension.
 fn send_dims<W: Sink>(dims: &[Dim], page: &mut Vec<u8>, sink: &mut W) -> Result<(), Halt>
-    ensures sent { Sends (W.put sink.old) (W.put sink.new) (page.old.items ++ dim_lines 0 dims.now) page.new.items result }
+    ensures sent { Sends (W.put sink.old) (W.put sink.new)
+        (page.old.items ++ dim_lines 0 dims.now) page.new.items result }
     ensures count { Blames (W.failures sink.old) (W.failures sink.new) result }
 {
     for (number, dim) in dims.iter().enumerate() {
@@ -43,7 +45,8 @@ fn send_attr_head<W: Sink>(
     page: &mut Vec<u8>,
     sink: &mut W,
 ) -> Result<(), Halt>
-    ensures sent { Sends (W.put sink.old) (W.put sink.new) (page.old.items ++ attr_head owner attr.now) page.new.items result }
+    ensures sent { Sends (W.put sink.old) (W.put sink.new)
+        (page.old.items ++ attr_head owner attr.now) page.new.items result }
     ensures count { Blames (W.failures sink.old) (W.failures sink.new) result }
 {
     push_attr_start(page, owner)?;
@@ -59,7 +62,8 @@ fn send_attr<W: Sink>(
     page: &mut Vec<u8>,
     sink: &mut W,
 ) -> Result<(), Halt>
-    ensures sent { Sends (W.put sink.old) (W.put sink.new) (page.old.items ++ attr_line owner attr.now) page.new.items result }
+    ensures sent { Sends (W.put sink.old) (W.put sink.new)
+        (page.old.items ++ attr_line owner attr.now) page.new.items result }
     ensures count { Blames (W.failures sink.old) (W.failures sink.new) result }
 {
     send_attr_head(owner, attr, page, sink)?;
@@ -74,7 +78,8 @@ fn send_attrs<W: Sink>(
     page: &mut Vec<u8>,
     sink: &mut W,
 ) -> Result<(), Halt>
-    ensures sent { Sends (W.put sink.old) (W.put sink.new) (page.old.items ++ attr_lines owner attrs.now) page.new.items result }
+    ensures sent { Sends (W.put sink.old) (W.put sink.new)
+        (page.old.items ++ attr_lines owner attrs.now) page.new.items result }
     ensures count { Blames (W.failures sink.old) (W.failures sink.new) result }
 {
     for attr in attrs {
@@ -90,7 +95,8 @@ fn send_dim_word<W: Sink>(
     page: &mut Vec<u8>,
     sink: &mut W,
 ) -> Result<(), Halt>
-    ensures sent { Sends (W.put sink.old) (W.put sink.new) (page.old.items ++ dim_word dims.now number) page.new.items result }
+    ensures sent { Sends (W.put sink.old) (W.put sink.new)
+        (page.old.items ++ dim_word dims.now number) page.new.items result }
     ensures count { Blames (W.failures sink.old) (W.failures sink.new) result }
 {
     send(b" ", page, sink)?;
@@ -104,7 +110,8 @@ fn send_dim_words<W: Sink>(
     page: &mut Vec<u8>,
     sink: &mut W,
 ) -> Result<(), Halt>
-    ensures sent { Sends (W.put sink.old) (W.put sink.new) (page.old.items ++ flat_map (dim_word dims.now) numbers.now) page.new.items result }
+    ensures sent { Sends (W.put sink.old) (W.put sink.new)
+        (page.old.items ++ flat_map (dim_word dims.now) numbers.now) page.new.items result }
     ensures count { Blames (W.failures sink.old) (W.failures sink.new) result }
 {
     for number in numbers {
@@ -122,7 +129,8 @@ fn send_var_head<W: Sink>(
     page: &mut Vec<u8>,
     sink: &mut W,
 ) -> Result<(), Halt>
-    ensures sent { Sends (W.put sink.old) (W.put sink.new) (page.old.items ++ var_head dims.now number begin var.now) page.new.items result }
+    ensures sent { Sends (W.put sink.old) (W.put sink.new)
+        (page.old.items ++ var_head dims.now number begin var.now) page.new.items result }
     ensures count { Blames (W.failures sink.old) (W.failures sink.new) result }
 {
     push_var_start(page, number)?;
@@ -140,7 +148,8 @@ fn send_var_line<W: Sink>(
     page: &mut Vec<u8>,
     sink: &mut W,
 ) -> Result<(), Halt>
-    ensures sent { Sends (W.put sink.old) (W.put sink.new) (page.old.items ++ var_line dims.now number begin var.now) page.new.items result }
+    ensures sent { Sends (W.put sink.old) (W.put sink.new)
+        (page.old.items ++ var_line dims.now number begin var.now) page.new.items result }
     ensures count { Blames (W.failures sink.old) (W.failures sink.new) result }
 {
     send_var_head(dims, number, begin, var, page, sink)?;
@@ -157,7 +166,8 @@ fn send_var<W: Sink>(
     page: &mut Vec<u8>,
     sink: &mut W,
 ) -> Result<(), Halt>
-    ensures sent { Sends (W.put sink.old) (W.put sink.new) (page.old.items ++ var_text dims.now number begin var.now) page.new.items result }
+    ensures sent { Sends (W.put sink.old) (W.put sink.new)
+        (page.old.items ++ var_text dims.now number begin var.now) page.new.items result }
     ensures count { Blames (W.failures sink.old) (W.failures sink.new) result }
 {
     send_var_line(dims, number, begin, var, page, sink)?;
@@ -172,7 +182,8 @@ fn send_vars<W: Sink>(
     page: &mut Vec<u8>,
     sink: &mut W,
 ) -> Result<(), Halt>
-    ensures sent { Sends (W.put sink.old) (W.put sink.new) (page.old.items ++ var_texts dims.now places.now 0 vars.now) page.new.items result }
+    ensures sent { Sends (W.put sink.old) (W.put sink.new)
+        (page.old.items ++ var_texts dims.now places.now 0 vars.now) page.new.items result }
     ensures count { Blames (W.failures sink.old) (W.failures sink.new) result }
 {
     for (number, var) in vars.iter().enumerate() {
@@ -183,7 +194,8 @@ fn send_vars<W: Sink>(
 
 /// Sends the lines above those of variables.
 fn send_schema<W: Sink>(schema: &Schema, page: &mut Vec<u8>, sink: &mut W) -> Result<(), Halt>
-    ensures sent { Sends (W.put sink.old) (W.put sink.new) (page.old.items ++ schema_lines schema.now) page.new.items result }
+    ensures sent { Sends (W.put sink.old) (W.put sink.new)
+        (page.old.items ++ schema_lines schema.now) page.new.items result }
     ensures count { Blames (W.failures sink.old) (W.failures sink.new) result }
 {
     push_head(page, schema)?;
@@ -193,7 +205,8 @@ fn send_schema<W: Sink>(schema: &Schema, page: &mut Vec<u8>, sink: &mut W) -> Re
 
 /// Sends all lines of a header; the last of them are left on the page.
 pub fn send_list<W: Sink>(header: &Header, page: &mut Vec<u8>, sink: &mut W) -> Result<(), Halt>
-    ensures sent { Sends (W.put sink.old) (W.put sink.new) (page.old.items ++ list_text header.now) page.new.items result }
+    ensures sent { Sends (W.put sink.old) (W.put sink.new)
+        (page.old.items ++ list_text header.now) page.new.items result }
     ensures count { Blames (W.failures sink.old) (W.failures sink.new) result }
 {
     let dims = header.schema.dims.as_slice();

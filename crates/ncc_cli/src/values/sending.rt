@@ -18,7 +18,8 @@ fn send_piece<T: Printed, W: Sink>(
     sink: &mut W,
 ) -> Result<(), Halt>
     requires { length piece.now ≤ PIECE }
-    ensures sent { Sends (W.put sink.old) (W.put sink.new) (page.old.items ++ flat_map T.text piece.now) page.new.items result }
+    ensures sent { Sends (W.put sink.old) (W.put sink.new)
+        (page.old.items ++ flat_map T.text piece.now) page.new.items result }
     ensures count { Blames (W.failures sink.old) (W.failures sink.new) result }
 {
     T::print_all(piece, page)?;
@@ -31,7 +32,8 @@ fn send_pieces<T: Printed, W: Sink>(
     page: &mut Vec<u8>,
     sink: &mut W,
 ) -> Result<(), Halt>
-    ensures sent { Sends (W.put sink.old) (W.put sink.new) (page.old.items ++ flat_map T.text values.now) page.new.items result }
+    ensures sent { Sends (W.put sink.old) (W.put sink.new)
+        (page.old.items ++ flat_map T.text values.now) page.new.items result }
     ensures count { Blames (W.failures sink.old) (W.failures sink.new) result }
 {
     let mut rest = values;
@@ -45,7 +47,8 @@ fn send_pieces<T: Printed, W: Sink>(
 
 /// Sends a text as one word.
 fn send_chars<W: Sink>(chars: &[Char], page: &mut Vec<u8>, sink: &mut W) -> Result<(), Halt>
-    ensures sent { Sends (W.put sink.old) (W.put sink.new) (page.old.items ++ chars_word chars.now) page.new.items result }
+    ensures sent { Sends (W.put sink.old) (W.put sink.new)
+        (page.old.items ++ chars_word chars.now) page.new.items result }
     ensures count { Blames (W.failures sink.old) (W.failures sink.new) result }
 {
     if chars.is_empty() {
@@ -57,7 +60,8 @@ fn send_chars<W: Sink>(chars: &[Char], page: &mut Vec<u8>, sink: &mut W) -> Resu
 
 /// Sends what values add to a line.
 pub fn send_values<W: Sink>(values: &Values, page: &mut Vec<u8>, sink: &mut W) -> Result<(), Halt>
-    ensures sent { Sends (W.put sink.old) (W.put sink.new) (page.old.items ++ values_text values.now) page.new.items result }
+    ensures sent { Sends (W.put sink.old) (W.put sink.new)
+        (page.old.items ++ values_text values.now) page.new.items result }
     ensures count { Blames (W.failures sink.old) (W.failures sink.new) result }
 {
     match values {
