@@ -2,7 +2,7 @@
 
 use crate::answer::Answer;
 use crate::fixtures::{ATTRIBUTES, ATTRIBUTES_TEXT, LIMIT, bytes_of};
-use crate::listing::list_engine;
+use crate::list::listing::list_engine;
 use ncc_header::{ReadSource, WriteSink};
 use std::io;
 use std::io::{Error, ErrorKind, Read, Write};

@@ -1,7 +1,7 @@
 //! Files as words of four bytes, and what `list` says of them.
 
 use crate::answer::Answer;
-use crate::listing::list_engine;
+use crate::list::listing::list_engine;
 use ncc_header::{ReadSource, WriteSink};
 use std::alloc::{AllocError, Global};
 use std::process::Abort;
@@ -9,8 +9,14 @@ use std::process::Abort;
 /// The usual limit.
 pub const LIMIT: u64 = 67_108_864;
 
-/// No dimension, no attribute, no variable.
+/// No dimension, no attribute, no variable: the empty file of the standard's section "Examples".
 pub const EMPTY: [u32; 8] = [0x43444601, 0, 0, 0, 0, 0, 0, 0];
+
+/// The variable vx(dim) of five shorts, as the standard's section "Examples" dumps it.
+pub const TINY: [u32; 23] = [
+    0x43444601, 0, 0x0a, 1, 3, 0x64696d00, 5, 0, 0, 0x0b, 1, 2, 0x76780000, 1, 0, 0, 0, 3, 0x0c,
+    0x50, 0x00030001, 0x00040001, 0x00058001,
+];
 
 /// The variable v(x) of three shorts.
 pub const FIXED: [u32; 22] = [

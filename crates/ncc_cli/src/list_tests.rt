@@ -3,7 +3,7 @@
 use crate::answer::Answer;
 use crate::fixtures::{
     ATTRIBUTES, ATTRIBUTES_TEXT, EMPTY, FIXED, FIXED_IN_CDF_2, FIXED_IN_CDF_5, RECORDS,
-    RECORDS_DATA, TITLED, TWO_RECORD_VARIABLES, bytes_of, expect_list, expect_within,
+    RECORDS_DATA, TINY, TITLED, TWO_RECORD_VARIABLES, bytes_of, expect_list, expect_within,
 };
 use std::test::*;
 
@@ -13,6 +13,10 @@ fn empty_headers(rt: HostRuntime) -> Result<(), Fail> {
     let empty = bytes_of(alloc, &EMPTY)?;
     let text = "format CDF-1\nrecords 0\n";
     expect_list(&rt, &empty, text);
+    let tiny = bytes_of(alloc, &TINY)?;
+    let tiny_text =
+        "format CDF-1\nrecords 0\ndimension 0 dim 5\nvariable 0 vx short fixed begin 80 dims 1 dim\n";
+    expect_list(&rt, &tiny, tiny_text);
     expect_within(&rt, &empty, 32, Answer::Passed, text);
     let tagged = bytes_of(alloc, &[0x43444601, 0, 0x0a, 0, 0, 0, 0, 0])?;
     expect_list(&rt, &tagged, text);
