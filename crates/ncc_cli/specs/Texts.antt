@@ -17,7 +17,7 @@ use Rattle.ncc_schema.specs.declared.schema.Header.{Header}
 use Rattle.ncc_schema.specs.declared.schema.Schema.{Schema}
 use Rattle.ncc_schema.specs.declared.schema.Var.{Var}
 use Rattle.ncc_schema.specs.declared.schema.VarPlace.{VarPlace}
-use Rattle.ncc_schema.specs.Schema.{is_record}
+use Rattle.ncc_schema.specs.Schema.{is_record_var}
 use Rattle.ncc_cli.specs.Words.{name_text, values_text}
 
 -- ---- the format and the number of records
@@ -87,13 +87,8 @@ name_of dims number = get_or (map (λ d. d.name) dims) number []
 abbrev pub begin_of : List VarPlace → (number : ℕ) → ℕ
 begin_of places number = get_or (map (λ p. p.begin) places) number 0
 
--- whether the first of these dimensions is the record dimension
-abbrev pub has_records : List Dim → (numbers : List ℕ) → Bool
-has_records dims [] = false
-has_records dims (number ∷ numbers) = is_record dims number
-
 abbrev pub kind_of : List Dim → Var → List ℕ
-kind_of dims x = if has_records dims x.dims then codes "record" else codes "fixed"
+kind_of dims x = if is_record_var dims x then codes "record" else codes "fixed"
 
 unfoldable pub var_start : (number : ℕ) → List ℕ
 var_start number = codes "variable " ++ decimal number ++ codes " "

@@ -3,22 +3,12 @@
 
 mod answer;
 mod escape;
-#[cfg(test)]
-mod failure_tests;
-#[cfg(test)]
-mod fault_tests;
-#[cfg(test)]
-mod fixtures;
 mod lines;
 mod list;
-#[cfg(test)]
-mod list_tests;
 mod page;
 mod run;
 #[cfg(test)]
-mod run_tests;
-#[cfg(test)]
-mod value_tests;
+mod tests;
 mod values;
 
 use answer::Answer;

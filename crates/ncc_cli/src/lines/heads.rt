@@ -1,10 +1,10 @@
 //! The lines of attributes and variables, but for what may be long.
 
 ghost use Rattle.std.specs.Prelude.{◌≡◌, ◌++◌, OnOk};
-ghost use Rattle.ncc_cli.specs.Texts.{owner_text, attr_start, attr_type, name_of, begin_of, has_records, kind_of, var_start, var_type};
+ghost use Rattle.ncc_cli.specs.Texts.{owner_text, attr_start, attr_type, name_of, begin_of, kind_of, var_start, var_type};
 
 use crate::lines::texts::push_decimal;
-use ncc_header::{Dim, Values, Var, VarPlace};
+use ncc_header::{Dim, Values, Var, VarPlace, is_record_var};
 use std::alloc::AllocError;
 
 /// Adds whose an attribute is: the variable's number, or the whole file.
@@ -62,22 +62,11 @@ pub fn offset_of(places: &[VarPlace], number: usize) -> u64
     }
 }
 
-/// Whether the first of these dimensions is the record dimension.
-fn is_over_records(dims: &[Dim], numbers: &[usize]) -> bool
-    ensures { result ≡ has_records dims.now numbers.now }
-{
-    if numbers.is_empty() {
-        return false;
-    }
-    let number = numbers[0];
-    number < dims.len() && dims[number].length == 0
-}
-
 /// The word for the kind of a variable.
 fn var_kind(dims: &[Dim], var: &Var) -> &'static str
     ensures { result.now ≡ kind_of dims.now var.now }
 {
-    if is_over_records(dims, var.dims.as_slice()) {
+    if is_record_var(dims, var) {
         "record"
     } else {
         "fixed"

@@ -1,6 +1,7 @@
 //! Values of each type.
 
-use crate::fixtures::{bytes_of, expect_list};
+use super::helpers::expect_list;
+use ncc_files::bytes_of;
 use std::alloc::AllocError;
 use std::process::Abort;
 use std::test::*;

@@ -1,9 +1,8 @@
 //! The lines of faults.
 
+use super::helpers::{expect_fault, expect_within};
 use crate::answer::Answer;
-use crate::fixtures::{
-    EMPTY, FIXED, FIXED_IN_CDF_5, bytes_of, expect_fault, expect_within, with_byte,
-};
+use ncc_files::{EMPTY, FIXED, FIXED_IN_CDF_5, bytes_of, with_byte};
 use std::test::*;
 
 #[test]

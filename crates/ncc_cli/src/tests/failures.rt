@@ -1,8 +1,9 @@
 //! Sources and sinks that fail.
 
+use super::helpers::ATTRIBUTES_TEXT;
 use crate::answer::Answer;
-use crate::fixtures::{ATTRIBUTES, ATTRIBUTES_TEXT, LIMIT, bytes_of};
 use crate::list::listing::list_engine;
+use ncc_files::{ATTRIBUTES, LIMIT, bytes_of};
 use ncc_header::{ReadSource, WriteSink};
 use std::io;
 use std::io::{Error, ErrorKind, Read, Write};

@@ -1,9 +1,10 @@
 //! The lines of headers.
 
+use super::helpers::{ATTRIBUTES_TEXT, expect_list, expect_within};
 use crate::answer::Answer;
-use crate::fixtures::{
-    ATTRIBUTES, ATTRIBUTES_TEXT, EMPTY, FIXED, FIXED_IN_CDF_2, FIXED_IN_CDF_5, RECORDS,
-    RECORDS_DATA, TINY, TITLED, TWO_RECORD_VARIABLES, bytes_of, expect_list, expect_within,
+use ncc_files::{
+    ATTRIBUTES, EMPTY, FIXED, FIXED_IN_CDF_2, FIXED_IN_CDF_5, RECORDS, RECORDS_DATA, TINY, TITLED,
+    TWO_RECORD_VARIABLES, bytes_of,
 };
 use std::test::*;
 

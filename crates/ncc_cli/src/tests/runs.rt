@@ -1,7 +1,7 @@
 //! The program's statuses, and what it writes.
 
-use crate::fixtures::{EMPTY, TITLED, bytes_of, with_byte};
 use crate::run::run;
+use ncc_files::{EMPTY, TITLED, bytes_of, with_byte};
 use std::alloc::{AllocError, Global};
 use std::io::{Error, ErrorKind, Write};
 use std::process::Abort;
