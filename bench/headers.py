@@ -58,10 +58,11 @@ def descending(count):
 
 
 def listed_files():
-    twenty = [attribute(b"attribute_%d" % i, b"some text of it") for i in range(20)]
+    twenty = [attribute(b"attribute_%d" % i, b"some text about it.") for i in range(20)]
     return {
         "2000_variables_of_20_attributes": scalars(2000, twenty),
         "24000_variables": scalars(24000, []),
+        "24000_variables_of_20_attributes": scalars(24000, twenty),
         "one_attribute_of_60_MiB": header([attribute(b"text", b"a" * (60 << 20))], []),
     }
 

@@ -1,6 +1,7 @@
 #!/usr/bin/env bash
-# Times `ncc list` on three large headers, and `ncdump -h` beside it where that is installed.
-# The program is the first word, or the ncc of the path. The aim is a third of ncdump's time.
+# Times `ncc list` on large headers, with its peak memory, and `ncdump -h` beside it where that is installed
+# (netcdf-bin). The program is the first word, or the ncc of the path: one that scripts/install.sh built. The
+# aim is 0.3 of ncdump's time; the runs of the two go by turns.
 set -euo pipefail
 ncc=${1:-ncc}
 here=$(cd "$(dirname "$0")" && pwd)
@@ -8,22 +9,37 @@ folder=$(mktemp -d)
 trap 'rm -rf "$folder"' EXIT
 python3 "$here/headers.py" listed "$folder"
 
-# The least time of five runs, in milliseconds.
-least() {
-    local best=
-    for _ in 1 2 3 4 5; do
-        local begin end
-        begin=$(date +%s%N)
-        "$@" > /dev/null
-        end=$(date +%s%N)
-        local took=$(((end - begin) / 1000000))
-        if [ -z "$best" ] || [ "$took" -lt "$best" ]; then best=$took; fi
-    done
-    echo "$best"
+# The microseconds of one run.
+once() {
+    local begin end
+    begin=$(date +%s%N)
+    "$@" > /dev/null
+    end=$(date +%s%N)
+    echo $(((end - begin) / 1000))
+}
+
+# The lesser of two numbers, of which the first may be missing.
+lesser() {
+    if [ -z "$1" ] || [ "$2" -lt "$1" ]; then echo "$2"; else echo "$1"; fi
+}
+
+# The most memory of a run, in KiB.
+peak() {
+    /usr/bin/time -f %M -o "$folder/peak" "$@" > /dev/null
+    cat "$folder/peak"
 }
 
 for file in "$folder"/*.nc; do
-    line="$(basename "$file"): ncc list $(least "$ncc" list "$file") ms"
-    if command -v ncdump > /dev/null; then line+=", ncdump -h $(least ncdump -h "$file") ms"; fi
+    listed=
+    dumped=
+    for _ in 1 2 3 4 5 6 7; do
+        listed=$(lesser "$listed" "$(once "$ncc" list "$file")")
+        if command -v ncdump > /dev/null; then dumped=$(lesser "$dumped" "$(once ncdump -h "$file")"); fi
+    done
+    line="$(basename "$file" .nc), $(stat -c %s "$file") bytes: ncc list $((listed / 1000)) ms, $(peak "$ncc" list "$file") KiB"
+    if [ -n "$dumped" ]; then
+        ratio=$(awk "BEGIN { printf \"%.2f\", $listed / $dumped }")
+        line+="; ncdump -h $((dumped / 1000)) ms, $(peak ncdump -h "$file") KiB; ratio $ratio"
+    fi
     echo "$line"
 done

@@ -1,4 +1,4 @@
--- The program's status, by what the command came to or why the words were not taken.
+-- The program's status, by what the command came to or why the command line was not taken.
 use Rattle.std.specs.Prelude.{◌≡◌, ℕ, ◌⊎◌}
 use Rattle.clap.specs.declared.error.kind.ErrorKind.{ErrorKind}
 use Rattle.clap.specs.declared.error.kind.ErrorKind.TheVariants.{DisplayHelp, DisplayVersion, OutOfMemory}
@@ -11,7 +11,7 @@ status_of Refused = 1
 status_of Device = 3
 status_of Memory = 3
 
--- help is no fault, and the words' faults are 2; either may fail to be written
+-- help is no fault, and the command line's faults are 2; either may fail to be written
 abbrev pub Explains : ErrorKind → (status : ℕ) → Type 0
 Explains DisplayHelp status = (status ≡ 0) ⊎ (status ≡ 3)
 Explains DisplayVersion status = (status ≡ 0) ⊎ (status ≡ 3)

@@ -3,6 +3,7 @@ use Rattle.std.specs.Prelude.{ℕ, ◌+◌, Bool, false, List, [], ◌∷◌, �
 use Rattle.std.specs.List.{flat_map}
 use Rattle.ncc_values.specs.Values.{type_of, count_of}
 use Rattle.ncc_values.specs.XType.{word_of}
+use Rattle.ncc_values.specs.declared.values.Values.{Values}
 use Rattle.ncc_values.specs.declared.version.Version.{Version}
 use Rattle.ncc_values.specs.declared.version.Version.TheVariants.{V1, V2, V5}
 use Rattle.ncc_header.specs.declared.fault.Fault.{Fault}
@@ -16,7 +17,7 @@ use Rattle.ncc_schema.specs.declared.schema.Header.{Header}
 use Rattle.ncc_schema.specs.declared.schema.Schema.{Schema}
 use Rattle.ncc_schema.specs.declared.schema.Var.{Var}
 use Rattle.ncc_schema.specs.declared.schema.VarPlace.{VarPlace}
-use Rattle.ncc_schema.specs.Schema.{is_record}
+use Rattle.ncc_schema.specs.Schema.{is_record_var}
 use Rattle.ncc_cli.specs.Words.{name_text, values_text}
 
 -- ---- the format and the number of records
@@ -38,8 +39,14 @@ head_lines s = format_line s.version ++ records_line s.count
 abbrev pub length_text : ℕ → List ℕ
 length_text n = if n == 0 then codes "unlimited" else decimal n
 
-unfoldable pub dim_line : (number : ℕ) → Dim → List ℕ
-dim_line number d = codes "dimension " ++ decimal number ++ codes " " ++ name_text d.name ++ codes " " ++ length_text d.length ++ codes "\n"
+unfoldable pub dim_start : (number : ℕ) → List ℕ
+dim_start number = codes "dimension " ++ decimal number ++ codes " "
+
+unfoldable pub dim_end : (length : ℕ) → List ℕ
+dim_end length = codes " " ++ length_text length ++ codes "\n"
+
+abbrev pub dim_line : (number : ℕ) → Dim → List ℕ
+dim_line number d = dim_start number ++ (name_text d.name ++ dim_end d.length)
 
 -- the lines of dimensions that are numbered from here on
 abbrev pub dim_lines : (number : ℕ) → List Dim → List ℕ
@@ -53,8 +60,15 @@ abbrev pub owner_text : (owner : Option ℕ) → List ℕ
 owner_text (Some number) = decimal number
 owner_text None = codes "global"
 
-unfoldable pub attr_head : (owner : Option ℕ) → Attr → List ℕ
-attr_head owner a = codes "attribute " ++ owner_text owner ++ codes " " ++ name_text a.name ++ codes " " ++ word_of (type_of a.values) ++ codes " " ++ decimal (count_of a.values)
+unfoldable pub attr_start : (owner : Option ℕ) → List ℕ
+attr_start owner = codes "attribute " ++ owner_text owner ++ codes " "
+
+-- the type and the number of values
+unfoldable pub attr_type : Values → List ℕ
+attr_type values = codes " " ++ word_of (type_of values) ++ codes " " ++ decimal (count_of values)
+
+abbrev pub attr_head : (owner : Option ℕ) → Attr → List ℕ
+attr_head owner a = attr_start owner ++ (name_text a.name ++ attr_type a.values)
 
 abbrev pub attr_line : (owner : Option ℕ) → Attr → List ℕ
 attr_line owner a = attr_head owner a ++ (values_text a.values ++ codes "\n")
@@ -73,18 +87,19 @@ name_of dims number = get_or (map (λ d. d.name) dims) number []
 abbrev pub begin_of : List VarPlace → (number : ℕ) → ℕ
 begin_of places number = get_or (map (λ p. p.begin) places) number 0
 
--- whether the first of these dimensions is the record dimension
-abbrev pub has_records : List Dim → (numbers : List ℕ) → Bool
-has_records dims [] = false
-has_records dims (number ∷ numbers) = is_record dims number
-
 abbrev pub kind_of : List Dim → Var → List ℕ
-kind_of dims x = if has_records dims x.dims then codes "record" else codes "fixed"
+kind_of dims x = if is_record_var dims x then codes "record" else codes "fixed"
 
-unfoldable pub var_head : List Dim → (number begin : ℕ) → Var → List ℕ
-var_head dims number begin x =
-    codes "variable " ++ decimal number ++ codes " " ++ name_text x.name ++ codes " " ++ word_of x.xtype ++ codes " " ++ kind_of dims x
-    ++ codes " begin " ++ decimal begin ++ codes " dims " ++ decimal (length x.dims)
+unfoldable pub var_start : (number : ℕ) → List ℕ
+var_start number = codes "variable " ++ decimal number ++ codes " "
+
+-- the type, the kind, the place and the number of dimensions
+unfoldable pub var_type : List Dim → (begin : ℕ) → Var → List ℕ
+var_type dims begin x =
+    codes " " ++ word_of x.xtype ++ codes " " ++ kind_of dims x ++ codes " begin " ++ decimal begin ++ codes " dims " ++ decimal (length x.dims)
+
+abbrev pub var_head : List Dim → (number begin : ℕ) → Var → List ℕ
+var_head dims number begin x = var_start number ++ (name_text x.name ++ var_type dims begin x)
 
 -- the name of a dimension, behind a space
 abbrev pub dim_word : List Dim → (number : ℕ) → List ℕ

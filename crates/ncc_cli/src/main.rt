@@ -3,39 +3,27 @@
 
 mod answer;
 mod escape;
-#[cfg(test)]
-mod failure_tests;
-#[cfg(test)]
-mod fault_tests;
-#[cfg(test)]
-mod fixtures;
-mod heads;
-#[cfg(test)]
-mod list_tests;
-mod listing;
-mod printed;
+mod lines;
+mod list;
+mod page;
 mod run;
 #[cfg(test)]
-mod run_tests;
-mod sections;
-mod sending;
-mod texts;
-#[cfg(test)]
-mod value_tests;
+mod tests;
+mod values;
 
 use answer::Answer;
 use std::io::ErrorKind;
 use std::process::ExitCode;
 use std::{env, io};
 
-/// The words that the program was started with.
-fn words(rt: &HostRuntime) -> io::Result<Vec<String>> {
+/// The command line: the program's name, and then its arguments.
+fn command_line(rt: &HostRuntime) -> io::Result<Vec<String>> {
     Ok(env::args(rt)?.collect(rt.alloc())?)
 }
 
 fn main(rt: HostRuntime) -> ExitCode {
-    let status = match words(&rt) {
-        Ok(words) => run::run(&rt, &words, &mut rt.stdout(), &mut rt.stderr()),
+    let status = match command_line(&rt) {
+        Ok(line) => run::run(&rt, &line, &mut rt.stdout(), &mut rt.stderr()),
         Err(error) if error.kind() == ErrorKind::OutOfMemory => {
             run::finish(Answer::Memory, &mut rt.stderr())
         }

@@ -1,24 +1,27 @@
 //! The command line.
 
-ghost use Rattle.std.specs.Prelude.{◌≡◌, ◌≤◌};
+ghost use Rattle.std.specs.Prelude.{◌≡◌, ◌≢◌, ◌≤◌, [], List, ℕ, IfSome};
+ghost use Rattle.std.specs.Io.Buffered.{writer_buffer};
 ghost use Rattle.clap.specs.Values.{kind_of};
+ghost use Rattle.ncc_schema.specs.Device.{Puts};
+ghost use Rattle.ncc_cli.specs.Listing.{Lists};
 ghost use Rattle.ncc_cli.specs.Status.{status_of, Explains, Flushes};
 
 use crate::answer::Answer;
-use crate::listing::list_engine;
+use crate::list::listing::list_engine;
 use clap::error::ErrorKind;
 use clap::{Arg, ArgAction, Command, Error};
 use ncc_header::{ReadSource, WriteSink};
 use std::alloc::{AllocError, Global};
 use std::fs;
-use std::io::{BufReader, BufWriter, Write};
+use std::io::{BufReader, BufWriter, Read, Write};
 use std::rt::Files;
 
 /// How long a header may be, in bytes.
 const LIMIT: u64 = 67_108_864;
 
-/// The program's statuses: it passed, the file was refused, the words were wrong, or a device or
-/// memory failed.
+/// The program's statuses: it passed, the file was refused, the command line was wrong, or a device
+/// or memory failed.
 const PASSED: u8 = 0;
 
 const REFUSED: u8 = 1;
@@ -27,6 +30,23 @@ const USAGE: u8 = 2;
 
 const FAILED: u8 = 3;
 
+/// What the help of `ncc` says of them.
+const STATUSES: &str = "Status:
+  0  it passed
+  1  the file was refused
+  2  the command line is wrong
+  3  a device or memory failed";
+
+/// What the help of `list` says of them, and of the limit.
+const LIST_STATUSES: &str =
+    "A header may have 67,108,864 bytes; a longer one is the fault HeaderTooLong.
+
+Status:
+  0  listed
+  1  the header has a fault, which is the only line
+  2  the command line is wrong
+  3  a device or memory failed";
+
 fn command<'a>(alloc: Global) -> Result<Command<'a>, AllocError> {
     let file = Arg::new(alloc, "FILE")
         .help("A netCDF classic file")
@@ -34,11 +54,13 @@ fn command<'a>(alloc: Global) -> Result<Command<'a>, AllocError> {
         .action(ArgAction::Set);
     let list = Command::new(alloc, "list")
         .about("Lists what the header of a file says")
+        .after_help(LIST_STATUSES)
         .arg(file)?;
     Command::new(alloc, "ncc")
         .bin_name("ncc")?
         .version("0.1.0")
         .about("Lists the headers of netCDF classic files")
+        .after_help(STATUSES)
         .subcommand_required(true)
         .arg_required_else_help(true)
         .subcommand(list)
@@ -64,8 +86,9 @@ pub fn finish<E: Write>(answer: Answer, err: &mut E) -> u8
 }
 
 /// The answer, once what is left in a buffer went out.
-fn flushed<W: Write>(writer: &mut W, answer: Answer) -> Answer
-    ensures { Flushes answer result }
+fn flushed<W: Write + Drop>(writer: &mut BufWriter<W>, answer: Answer) -> Answer
+    ensures answer { Flushes answer result }
+    ensures empty { result ≢ Answer.Device → result ≢ Answer.Memory → writer_buffer writer.new ≡ [] }
 {
     if writer.flush().is_ok() {
         return answer;
@@ -74,6 +97,17 @@ fn flushed<W: Write>(writer: &mut W, answer: Answer) -> Answer
         Answer::Memory => Answer::Memory,
         _ => Answer::Device,
     }
+}
+
+/// Lists what a reader gives, onto a writer.
+fn listed<I: Read + Drop, O: Write>(alloc: Global, reader: I, writer: O) -> (Answer, O)
+    ensures lists { IfSome (I.remaining reader) (λ input. (out : List ℕ)
+        × Puts (O.contents writer) (O.contents result.1) out × Lists input LIMIT result.0 out) }
+{
+    let mut source = ReadSource::new(reader);
+    let mut sink = WriteSink::new(writer);
+    let answer = list_engine(alloc, &mut source, LIMIT, &mut sink);
+    (answer, sink.into_inner())
 }
 
 fn list<R: Files + AllocGlobal, O: Write>(rt: &R, path: &str, out: &mut O) -> Answer {
@@ -86,14 +120,24 @@ fn list<R: Files + AllocGlobal, O: Write>(rt: &R, path: &str, out: &mut O) -> An
     let Ok(writer) = BufWriter::new(rt.alloc(), out) else {
         return Answer::Memory;
     };
-    let mut source = ReadSource::new(reader);
-    let mut sink = WriteSink::new(writer);
-    let answer = list_engine(rt.alloc(), &mut source, LIMIT, &mut sink);
-    let mut writer = sink.into_inner();
+    let (answer, mut writer) = listed(rt.alloc(), reader, writer);
     flushed(&mut writer, answer)
 }
 
-/// Writes the parser's own text: help to `out`, and faults of the words to `err`.
+/// Writes a text whole.
+fn shown<O: Write>(alloc: Global, text: &str, out: &mut O) -> Answer
+    ensures { result ≢ Answer.Refused }
+{
+    let Ok(mut writer) = BufWriter::new(alloc, out) else {
+        return Answer::Memory;
+    };
+    if writer.write_all(text.as_bytes()).is_err() {
+        return Answer::Device;
+    }
+    flushed(&mut writer, Answer::Passed)
+}
+
+/// Writes the parser's own text: help to `out`, and faults of the command line to `err`.
 fn explain<O: Write, E: Write>(alloc: Global, error: &Error, out: &mut O, err: &mut E) -> u8
     ensures { Explains (kind_of error.now) result }
 {
@@ -107,16 +151,13 @@ fn explain<O: Write, E: Write>(alloc: Global, error: &Error, out: &mut O, err: &
         let _ = err.write_all(text.as_bytes());
         return USAGE;
     }
-    if out.write_all(text.as_bytes()).is_err() {
-        return finish(Answer::Device, err);
-    }
-    finish(flushed(out, Answer::Passed), err)
+    finish(shown(alloc, &text, out), err)
 }
 
-/// Runs the command that the words name, and gives the program's status.
+/// Runs the command that the command line names, and gives the program's status.
 pub fn run<R: Files + AllocGlobal, O: Write, E: Write>(
     rt: &R,
-    words: &[String],
+    line: &[String],
     out: &mut O,
     err: &mut E,
 ) -> u8
@@ -125,7 +166,7 @@ pub fn run<R: Files + AllocGlobal, O: Write, E: Write>(
     let Ok(command) = command(rt.alloc()) else {
         return finish(Answer::Memory, err);
     };
-    match command.try_get_matches_from(words) {
+    match command.try_get_matches_from(line) {
         Ok(matches) => match matches.subcommand() {
             Some(("list", matches)) => {
                 let answer = list(rt, matches.get_str("FILE").unwrap_or(""), out);

@@ -8,8 +8,14 @@ use std::alloc::{AllocError, Global};
 /// The usual limit of a header's length, in bytes.
 pub const LIMIT: u64 = 67_108_864;
 
-/// No dimension, no attribute, no variable.
+/// No dimension, no attribute, no variable: the empty file of the standard's section "Examples".
 pub const EMPTY: [u32; 8] = [0x43444601, 0, 0, 0, 0, 0, 0, 0];
+
+/// The variable vx(dim) of five shorts, as the standard's section "Examples" dumps it.
+pub const TINY: [u32; 23] = [
+    0x43444601, 0, 0x0a, 1, 3, 0x64696d00, 5, 0, 0, 0x0b, 1, 2, 0x76780000, 1, 0, 0, 0, 3, 0x0c,
+    0x50, 0x00030001, 0x00040001, 0x00058001,
+];
 
 /// The variable short v(x), with x of length 3, and its values 1 2 3; the begin is word 19, at offset 76.
 pub const FIXED: [u32; 22] = [

@@ -57,14 +57,18 @@ fn is_whole(reading: &Reading) -> bool
 /// Takes a piece.
 fn advance(alloc: Global, standing: &mut Standing, piece: &[u8]) -> Result<Fed, HeaderError>
     ensures limit { limit_at standing.new ≡ limit_at standing.old }
-    ensures answers { (taken : List ℕ) → TookAt standing.old taken → Feeds taken piece.now (limit_at standing.old) result }
-    ensures takes { (taken : List ℕ) → TookAt standing.old taken → TookAt standing.new (taken ++ front_taken result piece.now) }
+    ensures answers { (taken : List ℕ) → TookAt standing.old taken
+        → Feeds taken piece.now (limit_at standing.old) result }
+    ensures takes { (taken : List ℕ) → TookAt standing.old taken
+        → TookAt standing.new (taken ++ front_taken result piece.now) }
     ensures failed { (e : TheError) → HasFailedAt standing.old e → (result ≡ Err e) × HasFailedAt standing.new e }
     ensures fails { IfErr result (HasFailedAt standing.new) }
     ensures fresh { IfOk result (λ _. (e : TheError) → ¬ HasFailedAt standing.new e) }
-    ensures whole { (taken : List ℕ) → TookAt standing.old taken → IsWhole taken (limit_at standing.old) → ¬ HasFailedAt standing.old HeaderError.Memory → result ≡ Ok (TheFed.Done 0) }
+    ensures whole { (taken : List ℕ) → TookAt standing.old taken → IsWhole taken (limit_at standing.old)
+        → ¬ HasFailedAt standing.old HeaderError.Memory → result ≡ Ok (TheFed.Done 0) }
     // Eight bytes fit a decoder without memory.
-    ensures few { (taken : List ℕ) → TookAt standing.old taken → length taken + length piece.now ≤ 8 → result ≡ Err HeaderError.Memory → HasFailedAt standing.old HeaderError.Memory }
+    ensures few { (taken : List ℕ) → TookAt standing.old taken → length taken + length piece.now ≤ 8
+        → result ≡ Err HeaderError.Memory → HasFailedAt standing.old HeaderError.Memory }
 {
     let (limit, error) = match standing {
         Standing::Failed(_, error) => return Err(*error),

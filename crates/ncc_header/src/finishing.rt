@@ -17,7 +17,8 @@ use ncc_values::Seq;
 
 /// How many bytes the next field lacks, where it ends within the limit.
 pub fn lacks(reading: &Reading) -> u64
-    ensures { result ≡ lacks_of (size_of (left_of reading.now.state)) reading.now.limit reading.now.at (length (held_of reading.now)) }
+    ensures { result
+        ≡ lacks_of (size_of (left_of reading.now.state)) reading.now.limit reading.now.at (length (held_of reading.now)) }
 {
     let room = (reading.limit - reading.at) as u128;
     match size(&reading.state) {

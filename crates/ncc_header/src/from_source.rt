@@ -22,7 +22,8 @@ fn read_piece<R: Source>(
 ) -> Result<usize, HeaderError>
     requires took { (bytes : List ℕ) × Took decoder.old bytes }
     requires fresh { ¬ HasFailed decoder.old HeaderError.Memory }
-    ensures ok { IfOk result (λ n. HasFed (R.left source.old) (R.left source.new) decoder.old decoder.new (length room.old) n) }
+    ensures ok { IfOk result (λ n.
+        HasFed (R.left source.old) (R.left source.new) decoder.old decoder.new (length room.old) n) }
     ensures err { IfErr result (FailsFeeding (R.left source.old) (R.left source.new) decoder.old (length room.old)) }
     ensures count { CountsAs (R.failures source.old) (R.failures source.new) result }
 {
@@ -43,7 +44,9 @@ fn read_wanted<R: Source>(
     requires took { Took decoder.old [] }
     requires fresh { ¬ HasFailed decoder.old HeaderError.Memory }
     requires limit { limit_of decoder.old ≡ limit }
-    ensures ok { IfOk result (λ _. (taken : ℕ) × HasRead (R.left source.old) (R.left source.new) decoder.new limit taken × IsOver (R.left source.new) decoder.new limit) }
+    ensures ok { IfOk result (λ _. (taken : ℕ)
+        × HasRead (R.left source.old) (R.left source.new) decoder.new limit taken
+        × IsOver (R.left source.new) decoder.new limit) }
     ensures err { IfErr result (λ e. IfSome (R.left source.old) (λ input. AnswersOf input limit (Err e))) }
     ensures fresh { OnOk result (¬ HasFailed decoder.new HeaderError.Memory) }
     ensures memory { result ≡ Err HeaderError.Memory → IfSome (R.left source.old) (λ input. 8 < length input) }

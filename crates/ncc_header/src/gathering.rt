@@ -56,7 +56,8 @@ fn gather_values(
     ensures left { OnOk result (left_of (states.AttrValues body.new) ≡ left_of (states.AttrValues body.old)) }
     ensures begins { OnOk result (begins_of (states.AttrValues body.new) ≡ begins_of (states.AttrValues body.old)) }
     ensures part { OnOk result (length held.new.items < bytes_each (type_of body.new.values)) }
-    ensures bytes { OnOk result (bytes_of body.new.values ++ held.new.items ≡ (bytes_of body.old.values ++ held.old.items) ++ front.now) }
+    ensures bytes { OnOk result (bytes_of body.new.values ++ held.new.items
+        ≡ (bytes_of body.old.values ++ held.old.items) ++ front.now) }
 {
     if held.is_empty() {
         return add_whole(body, held, front);

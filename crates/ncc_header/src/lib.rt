@@ -34,8 +34,8 @@ pub use fault::{Fault, FaultKind, HeaderError};
 pub use from_source::read_header;
 pub use ncc_schema::{
     Attr, Count, Dim, Failed, FuseSink, FuseSource, Header, Mark, NameOf, ReadSource, Schema, Sink,
-    Source, Var, VarPlace, WriteSink, encode, header_length, legal, limit_of_offsets, name_at,
-    sound, streaming_mark, var_size, vars_start, write_all,
+    Source, Var, VarPlace, WriteSink, encode, header_length, is_record_var, legal,
+    limit_of_offsets, name_at, sound, streaming_mark, var_size, vars_start, write_all,
 };
 pub use ncc_values::{Seq, Values, Version, XType, pad};
 pub use standing::Fed;

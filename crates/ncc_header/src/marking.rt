@@ -27,7 +27,8 @@ pub fn push_mark(
     at: u64,
     held: &[u8],
 ) -> Result<(), AllocError>
-    ensures ok { OnOk result (marks.new.items ≡ marks.old.items ++ mark_of (label_of (left_of state.now)) at (front_of state.now held.now)) }
+    ensures ok { OnOk result (marks.new.items
+        ≡ marks.old.items ++ mark_of (label_of (left_of state.now)) at (front_of state.now held.now)) }
     ensures memory { IfErr result (λ _. 12 ≤ first_at state.now) }
 {
     match state {

@@ -69,7 +69,8 @@ fn stepped(
     requires small { length (front_of state.old held.old.items ++ front.now) < 2 ^ 64 }
     ensures held { held.new.items ≡ [] }
     ensures ok { OnOk result (StepsTo state.old at (front_of state.old held.old.items ++ front.now) state.new) }
-    ensures marks { OnOk result (marks.new.items ≡ marks.old.items ++ mark_of (label_of (left_of state.old)) at (front_of state.old held.old.items ++ front.now)) }
+    ensures marks { OnOk result (marks.new.items
+        ≡ marks.old.items ++ mark_of (label_of (left_of state.old)) at (front_of state.old held.old.items ++ front.now)) }
     ensures idle { size_of (left_of state.old) ≡ Some 0 → OnOk result (idle_of state.new < idle_of state.old) }
     ensures none { OnErr result (state.new ≡ states.Magic) }
     ensures err { IfErr result (λ e. Steps state.old at (front_of state.old held.old.items ++ front.now) (Err e)) }

@@ -96,7 +96,8 @@ fn behind(used: usize, turn: Turn, piece: &[u8]) -> Turn
 fn next_turn(alloc: Global, reading: &mut Reading, turn: Turn, piece: &[u8]) -> Turn
     requires within { IsWithin turn piece.now }
     requires more { ¬ IsOver turn }
-    ensures turns { (first : TheReading) → Turns first reading.old piece.now turn → Turns first reading.new piece.now result }
+    ensures turns { (first : TheReading) → Turns first reading.old piece.now turn
+        → Turns first reading.new piece.now result }
     ensures effort { effort_of reading.new result piece.now < effort_of reading.old turn piece.now }
 {
     match turn {
@@ -136,9 +137,11 @@ pub fn take(alloc: Global, reading: &mut Reading, piece: &[u8]) -> Result<usize,
     ensures within { IfOk result (λ used. used ≤ length piece.now) }
     ensures takes { IfOk result (λ used. Takes reading.old reading.new (take used piece.now)) }
     ensures waits { IfOk result (λ _. Waits reading.new) }
-    ensures all { IfOk result (λ used. (n : ℕ) → size_of (left_of reading.new.state) ≡ Some n → used ≡ length piece.now) }
+    ensures all { IfOk result (λ used. (n : ℕ) → size_of (left_of reading.new.state) ≡ Some n
+        → used ≡ length piece.now) }
     ensures fails { IfErr result (FailsBehind reading.old piece.now) }
-    ensures memory { result ≡ Err HeaderError.Memory → 12 ≤ reading.old.at + length (held_of reading.old) + length piece.now }
+    ensures memory { result ≡ Err HeaderError.Memory
+        → 12 ≤ reading.old.at + length (held_of reading.old) + length piece.now }
 {
     let mut turn = Turn::GoesOn(0);
     while goes_on(turn) {

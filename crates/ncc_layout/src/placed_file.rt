@@ -132,7 +132,7 @@ impl Placed {
         self.vars[var].extent.slab
     }
 
-    /// One record more, in a file of this length that has room for it. It takes no memory.
+    /// One record more, in a file of this length that has room for it. It allocates nothing.
     pub fn one_more(&mut self, file_length: u64)
         requires countable { records_of_file self.old + 1 < 2 ^ 64 }
         requires rules { HasRoom self.old file_length }

@@ -113,7 +113,8 @@ fn put_dim<W: Sink>(sink: &mut W, version: Version, dim: &Dim) -> Result<(), Fai
 fn put_dims<W: Sink>(sink: &mut W, version: Version, dims: &[Dim]) -> Result<(), Failed>
     requires number { length dims.now < count_limit version }
     requires each { AllByRecursion (LegalDim version) dims.now }
-    ensures bytes { WritesAll (W.put sink.old) (W.put sink.new) result (canon_list version nc_dimension (canon_dim version) dims.now) }
+    ensures bytes { WritesAll (W.put sink.old) (W.put sink.new) result
+        (canon_list version nc_dimension (canon_dim version) dims.now) }
     ensures count { Counts (W.failures sink.old) (W.failures sink.new) result }
 {
     put_head(sink, version, NC_DIMENSION, dims.len())?;
@@ -169,7 +170,8 @@ fn put_attr<W: Sink>(sink: &mut W, version: Version, attr: &Attr) -> Result<(), 
 fn put_attrs<W: Sink>(sink: &mut W, version: Version, attrs: &[Attr]) -> Result<(), Failed>
     requires number { length attrs.now < count_limit version }
     requires each { AllByRecursion (LegalAttr version) attrs.now }
-    ensures bytes { WritesAll (W.put sink.old) (W.put sink.new) result (canon_list version nc_attribute (canon_attr version) attrs.now) }
+    ensures bytes { WritesAll (W.put sink.old) (W.put sink.new) result
+        (canon_list version nc_attribute (canon_attr version) attrs.now) }
     ensures count { Counts (W.failures sink.old) (W.failures sink.new) result }
 {
     put_head(sink, version, NC_ATTRIBUTE, attrs.len())?;
@@ -202,7 +204,8 @@ fn put_var<W: Sink>(
 ) -> Result<(), Failed>
     requires var { (dims : List DimOf) × (length dims < count_limit version) × LegalVar version dims var.now }
     requires place { LegalPlace version (place_of place.now) }
-    ensures bytes { WritesAll (W.put sink.old) (W.put sink.new) result (canon_var version (var.now, place_of place.now)) }
+    ensures bytes { WritesAll (W.put sink.old) (W.put sink.new) result
+        (canon_var version (var.now, place_of place.now)) }
     ensures count { Counts (W.failures sink.old) (W.failures sink.new) result }
 {
     put_name(sink, version, var.name.as_slice())?;
@@ -216,7 +219,8 @@ fn put_var<W: Sink>(
 /// var_list = ABSENT | NC_VARIABLE nelems [var ...]
 fn put_vars<W: Sink>(sink: &mut W, schema: &Schema, places: &[VarPlace]) -> Result<(), Failed>
     requires { Legal schema.now (places_of places.now) }
-    ensures bytes { WritesAll (W.put sink.old) (W.put sink.new) result (canon_list schema.now.version nc_variable (canon_var schema.now.version) (zip schema.now.vars (places_of places.now))) }
+    ensures bytes { WritesAll (W.put sink.old) (W.put sink.new) result
+        (canon_list schema.now.version nc_variable (canon_var schema.now.version) (zip schema.now.vars (places_of places.now))) }
     ensures count { Counts (W.failures sink.old) (W.failures sink.new) result }
 {
     let vars = schema.vars.as_slice();
@@ -230,7 +234,8 @@ fn put_vars<W: Sink>(sink: &mut W, schema: &Schema, places: &[VarPlace]) -> Resu
 /// numrecs = NON_NEG | STREAMING
 fn put_numrecs<W: Sink>(sink: &mut W, version: Version, count: Count) -> Result<(), Failed>
     requires { LegalCount version count }
-    ensures bytes { WritesAll (W.put sink.old) (W.put sink.new) result (big_endian (count_width_of version) (counted version count)) }
+    ensures bytes { WritesAll (W.put sink.old) (W.put sink.new) result
+        (big_endian (count_width_of version) (counted version count)) }
     ensures count { Counts (W.failures sink.old) (W.failures sink.new) result }
 {
     match count {

@@ -104,11 +104,14 @@ impl<R: Source> Source for FuseSource<R> {
 
     fn read(&mut self, buffer: &mut [u8]) -> Result<usize, Failed>
         ensures bytes { Reads (R.left (source_of self.old)) (R.left (source_of self.new)) result buffer.new }
-        ensures count { Counts (joint_count (own_read_failures self.old) (R.failures (source_of self.old))) (joint_count (own_read_failures self.new) (R.failures (source_of self.new))) result }
+        ensures count { Counts
+            (joint_count (own_read_failures self.old) (R.failures (source_of self.old)))
+            (joint_count (own_read_failures self.new) (R.failures (source_of self.new))) result }
         ensures calls { last_count - reads_left self.new ≤ last_count - reads_left self.old + 1 }
 
         // A call is passed once, as long as some are left.
-        ensures passes { 0 < reads_left self.old → Counts (R.failures (source_of self.old)) (R.failures (source_of self.new)) result }
+        ensures passes { 0 < reads_left self.old
+            → Counts (R.failures (source_of self.old)) (R.failures (source_of self.new)) result }
         ensures spends { reads_left self.new ≡ reads_left self.old - 1 }
         ensures below { R.calls (source_of self.new) ≤ R.calls (source_of self.old) + 1 }
         ensures few { IfOk result (λ n. n ≤ most_read self.old) }
@@ -169,11 +172,14 @@ impl<W: Sink> Sink for FuseSink<W> {
 
     fn write(&mut self, bytes: &[u8]) -> Result<usize, Failed>
         ensures bytes { Writes (W.put (sink_of self.old)) (W.put (sink_of self.new)) result bytes.now }
-        ensures count { Counts (joint_count (own_write_failures self.old) (W.failures (sink_of self.old))) (joint_count (own_write_failures self.new) (W.failures (sink_of self.new))) result }
+        ensures count { Counts
+            (joint_count (own_write_failures self.old) (W.failures (sink_of self.old)))
+            (joint_count (own_write_failures self.new) (W.failures (sink_of self.new))) result }
         ensures calls { last_count - writes_left self.new ≤ last_count - writes_left self.old + 1 }
 
         // A call is passed once, as long as some are left.
-        ensures passes { 0 < writes_left self.old → Counts (W.failures (sink_of self.old)) (W.failures (sink_of self.new)) result }
+        ensures passes { 0 < writes_left self.old
+            → Counts (W.failures (sink_of self.old)) (W.failures (sink_of self.new)) result }
         ensures spends { writes_left self.new ≡ writes_left self.old - 1 }
         ensures below { W.calls (sink_of self.new) ≤ W.calls (sink_of self.old) + 1 }
         ensures few { IfOk result (λ n. n ≤ most_written self.old) }

@@ -17,20 +17,25 @@ pub fn canonical_header()
 /// A header is as long as the canonical spelling of its schema and placement, whatever bytes its
 /// padding has and whichever tags its empty lists.
 pub fn canonical_length()
-    ensures { (s : Schema) (places : List Place) (b : List ℕ) → IsHeader s places b → length b ≡ length (canon s places) }
+    ensures { (s : Schema) (places : List Place) (b : List ℕ) → IsHeader s places b
+        → length b ≡ length (canon s places) }
 {}
 
 /// Where a name of a canonical header is told to stand, it stands with its length and its padding.
 pub fn name_is_there()
-    ensures { (s : Schema) (places : List Place) (of : NameOf) → Legal s places → HasName s of → StandsAt (canon s places) (canon_name s.version (name_of s of)) (name_at s places of) }
+    ensures { (s : Schema) (places : List Place) (of : NameOf) → Legal s places → HasName s of
+        → StandsAt (canon s places) (canon_name s.version (name_of s of)) (name_at s places of) }
 {}
 
 /// The length of a canonical header doesn't depend on where its variables are.
 pub fn one_length()
-    ensures { (s : Schema) (places : List Place) → length places ≡ length s.vars → length (canon s places) ≡ header_length s }
+    ensures { (s : Schema) (places : List Place) → length places ≡ length s.vars
+        → length (canon s places) ≡ header_length s }
 {}
 
 /// Where the begin field of a variable is told to stand, its begin stands.
 pub fn begin_is_there()
-    ensures { (s : Schema) (places : List Place) (i : ℕ) (p : Place) → length places ≡ length s.vars → slice_get places i ≡ Some p → StandsAt (canon s places) (big_endian (offset_width_of s.version) p.begin) (begin_at s places i) }
+    ensures { (s : Schema) (places : List Place) (i : ℕ) (p : Place) → length places ≡ length s.vars
+        → slice_get places i ≡ Some p
+        → StandsAt (canon s places) (big_endian (offset_width_of s.version) p.begin) (begin_at s places i) }
 {}

@@ -22,7 +22,8 @@ pub enum NameOf {
 /// Where a dimension is.
 fn dim_at(schema: &Schema, i: usize) -> u64
     requires { i < length schema.now.dims }
-    ensures { result ≡ capped (head_size schema.now.version + list_size schema.now.version + before (canon_dim schema.now.version) i schema.now.dims) }
+    ensures { result ≡ capped (head_size schema.now.version + list_size schema.now.version
+        + before (canon_dim schema.now.version) i schema.now.dims) }
 {
     let version = schema.version;
     dims_size(version, &schema.dims.as_slice()[..i]).saturating_add(2 * list_size(version))
@@ -31,7 +32,8 @@ fn dim_at(schema: &Schema, i: usize) -> u64
 /// Where an attribute of the file is.
 fn global_at(schema: &Schema, i: usize) -> u64
     requires { i < length schema.now.gatts }
-    ensures { result ≡ capped (gatts_at schema.now + list_size schema.now.version + before (canon_attr schema.now.version) i schema.now.gatts) }
+    ensures { result ≡ capped (gatts_at schema.now + list_size schema.now.version
+        + before (canon_attr schema.now.version) i schema.now.gatts) }
 {
     let version = schema.version;
     gatts_at(schema)
@@ -42,7 +44,8 @@ fn global_at(schema: &Schema, i: usize) -> u64
 /// Where a variable is.
 fn var_at(schema: &Schema, i: usize) -> u64
     requires { i < length schema.now.vars }
-    ensures { result ≡ capped (vars_at schema.now + list_size schema.now.version + before (canon_unplaced schema.now.version) i schema.now.vars) }
+    ensures { result ≡ capped (vars_at schema.now + list_size schema.now.version
+        + before (canon_unplaced schema.now.version) i schema.now.vars) }
 {
     vars_start(schema).saturating_add(vars_size(schema.version, &schema.vars.as_slice()[..i]))
 }

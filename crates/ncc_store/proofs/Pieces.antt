@@ -8,7 +8,7 @@ use Rattle.ncc_store.specs.Fuse.{failed_front}
 
 -- ---- a failed write
 
-written-nil : (old : List ℕ) (place : ℕ) → written old place [] ≡ old
+pub written-nil : (old : List ℕ) (place : ℕ) → written old place [] ≡ old
 written-nil old place = ap (λ (l : List ℕ). l ++ drop (place + 0) old) (append-nil (take place old)) ∙ ap (λ (k : ℕ). take place old ++ drop k old) (add-zero place) ∙ take-append-drop place old
 
 -- one that did nothing

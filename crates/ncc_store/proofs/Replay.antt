@@ -99,6 +99,15 @@ module _ (old : List ℕ) (place : ℕ) (copy kept : Vec ℕ Global) (within : p
         let three = subst (λ (l : List ℕ). images_of (Write place copy ∷ reverse calls) (kept ∷ reverse replaced) l c) is_new two in
         written_follows (reverse calls) (reverse replaced) c three
 
+    -- each image that the write may leave is one
+    pub write_torn : (c : List ℕ) → AfterWrite place copy.items (images_after calls replaced old) c → images_after later more new c
+    write_torn c torn =
+        let first : reverse later ≡ Write place copy ∷ reverse calls = ap reverse is_later ∙ newest_first calls (Write place copy) in
+        let before = subst (λ (l : List ℕ). images_of (reverse calls) (reverse replaced) l torn.0) (sym was_old) torn.1 in
+        let one : images_of (Write place copy ∷ reverse calls) (kept ∷ reverse replaced) new c = inr (torn.0, before, torn.2) in
+        let two = subst (λ (l : List (Vec ℕ Global)). images_of (Write place copy ∷ reverse calls) l new c) (sym listed) one in
+        subst (λ (l : List Call). images_of l (reverse more) new c) (sym first) two
+
 -- a sync, after which there are no more images
 module _ (calls later : List Call) (replaced : List (Vec ℕ Global)) (now : List ℕ) (is_later : later ≡ calls ++ Sync ∷ []) where
   pub sync_moments : Moments calls later replaced replaced now now

@@ -112,6 +112,7 @@ impl<S: Store> Store for FuseStore<S> {
         ensures unmoved { Unmoved S.bytes S.images S.moment S.images_since (fuse_inner self.old) (fuse_inner self.new) }
         ensures kept { KeepsImages (S.images (fuse_inner self.old)) (S.images (fuse_inner self.new)) }
         ensures burns { Burns S.failures self.old self.new result }
+        ensures below { S.calls (fuse_inner self.new) ≤ S.calls (fuse_inner self.old) + 1 }
         ensures nothing { fuse_left self.old ≡ 0 → fuse_inner self.new ≡ fuse_inner self.old }
     {
         if self.left == 0 {
@@ -123,10 +124,12 @@ impl<S: Store> Store for FuseStore<S> {
 
     fn read_at(&mut self, place: u64, out: &mut [u8]) -> Result<(), Device>
         requires { IsTrue S.tells_bytes → place + length out.old ≤ length (S.bytes (fuse_inner self.old)) }
-        ensures told { IsTrue S.tells_bytes → OnOk result (out.new ≡ take (length out.old) (drop place (S.bytes (fuse_inner self.old)))) }
+        ensures told { IsTrue S.tells_bytes
+            → OnOk result (out.new ≡ take (length out.old) (drop place (S.bytes (fuse_inner self.old)))) }
         ensures unmoved { Unmoved S.bytes S.images S.moment S.images_since (fuse_inner self.old) (fuse_inner self.new) }
         ensures kept { KeepsImages (S.images (fuse_inner self.old)) (S.images (fuse_inner self.new)) }
         ensures burns { Burns S.failures self.old self.new result }
+        ensures below { S.calls (fuse_inner self.new) ≤ S.calls (fuse_inner self.old) + 1 }
         ensures nothing { fuse_left self.old ≡ 0 → fuse_inner self.new ≡ fuse_inner self.old }
     {
         if self.left == 0 {
@@ -139,15 +142,21 @@ impl<S: Store> Store for FuseStore<S> {
     fn write_at(&mut self, place: u64, piece: &[u8]) -> Result<(), Device>
         requires end { place + length piece.now < 2 ^ 63 }
         requires begin { IsTrue S.tells_bytes → place ≤ length (S.bytes (fuse_inner self.old)) }
-        ensures ok { IsTrue S.tells_bytes → OnOk result (S.bytes (fuse_inner self.new) ≡ written (S.bytes (fuse_inner self.old)) place piece.now) }
-        ensures err { IsTrue S.tells_bytes → OnErr result (FrontWritten (S.bytes (fuse_inner self.old)) place piece.now (S.bytes (fuse_inner self.new))) }
-        ensures images { Elapses S.images S.moment S.images_since (fuse_inner self.old) (fuse_inner self.new) (AfterWrite place piece.now (S.images (fuse_inner self.old))) }
+        ensures ok { IsTrue S.tells_bytes
+            → OnOk result (S.bytes (fuse_inner self.new) ≡ written (S.bytes (fuse_inner self.old)) place piece.now) }
+        ensures err { IsTrue S.tells_bytes → OnErr result
+            (FrontWritten (S.bytes (fuse_inner self.old)) place piece.now (S.bytes (fuse_inner self.new))) }
+        ensures images { Elapses S.images S.moment S.images_since (fuse_inner self.old) (fuse_inner self.new)
+            (AfterWrite place piece.now (S.images (fuse_inner self.old))) }
         ensures burns { Burns S.failures self.old self.new result }
-        ensures nothing { fuse_left self.old ≡ 0 → failed_front (fuse_front self.old) piece.now ≡ [] → fuse_inner self.new ≡ fuse_inner self.old }
+        ensures below { S.calls (fuse_inner self.new) ≤ S.calls (fuse_inner self.old) + 1 }
+        ensures nothing { fuse_left self.old ≡ 0 → failed_front (fuse_front self.old) piece.now ≡ []
+            → fuse_inner self.new ≡ fuse_inner self.old }
 
         // A write that fails does its front, unless the store below fails too.
         ensures front { IsTrue S.tells_bytes → fuse_left self.old ≡ 0
-            → (S.bytes (fuse_inner self.new) ≡ written (S.bytes (fuse_inner self.old)) place (failed_front (fuse_front self.old) piece.now))
+            → (S.bytes (fuse_inner self.new)
+            ≡ written (S.bytes (fuse_inner self.old)) place (failed_front (fuse_front self.old) piece.now))
             ⊎ Rose (S.failures (fuse_inner self.old)) (S.failures (fuse_inner self.new)) }
     {
         if self.left > 0 {
@@ -168,6 +177,7 @@ impl<S: Store> Store for FuseStore<S> {
         ensures unmoved { Unmoved S.bytes S.images S.moment S.images_since (fuse_inner self.old) (fuse_inner self.new) }
         ensures kept { OnErr result (KeepsImages (S.images (fuse_inner self.old)) (S.images (fuse_inner self.new))) }
         ensures burns { Burns S.failures self.old self.new result }
+        ensures below { S.calls (fuse_inner self.new) ≤ S.calls (fuse_inner self.old) + 1 }
         ensures nothing { fuse_left self.old ≡ 0 → fuse_inner self.new ≡ fuse_inner self.old }
     {
         if self.left == 0 {

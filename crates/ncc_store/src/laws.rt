@@ -32,11 +32,13 @@ pub fn settled_store_leaves_its_bytes<S: Store>()
 pub fn write_goes_on<S: Store>()
     ensures { (old mid new : S) (place : ℕ) (piece c : List ℕ) → S.moment old ≤ S.moment mid
         → Elapses S.images S.moment S.images_since mid new (AfterWrite place piece (S.images mid))
-        → S.images_since new (S.moment old) c → S.images_since mid (S.moment old) c ⊎ AfterWrite place piece (S.images mid) c }
+        → S.images_since new (S.moment old) c
+        → S.images_since mid (S.moment old) c ⊎ AfterWrite place piece (S.images mid) c }
 {}
 
 /// Calls that write nothing are together such a call.
 pub fn unmoved_calls_join<S: Store>()
     ensures { (old mid new : S) → Unmoved S.bytes S.images S.moment S.images_since old mid
-        → Unmoved S.bytes S.images S.moment S.images_since mid new → Unmoved S.bytes S.images S.moment S.images_since old new }
+        → Unmoved S.bytes S.images S.moment S.images_since mid new
+        → Unmoved S.bytes S.images S.moment S.images_since old new }
 {}

@@ -11,6 +11,7 @@ mod long;
 mod memory;
 mod putting;
 mod store;
+mod system_file;
 
 pub use device::Device;
 pub use file::FileStore;
@@ -19,6 +20,7 @@ pub use log::{Call, LogStore};
 pub use long::LongStore;
 pub use memory::MemStore;
 pub use store::Store;
+pub use system_file::SystemFile;
 
 #[cfg(test)]
 mod tests;

@@ -93,9 +93,11 @@ impl Store for LogStore {
 
     ghost stands = { λ s told. images_stand (reverse (log_calls s)) (reverse (log_replaced s)) (log_bytes s) };
 
-    ghost counts_now = { λ s t c le now. back_now (log_moment s - t) (reverse (log_calls s)) (reverse (log_replaced s)) (log_bytes s) c now };
+    ghost counts_now = { λ s t c le now. back_now (log_moment s - t) (reverse (log_calls s))
+        (reverse (log_replaced s)) (log_bytes s) c now };
 
-    ghost only_now = { λ s c left. back_only (log_moment s) (reverse (log_calls s)) (reverse (log_replaced s)) (log_bytes s) c left };
+    ghost only_now = { λ s c left. back_only (log_moment s) (reverse (log_calls s)) (reverse (log_replaced s))
+        (log_bytes s) c left };
 
     ghost at_most_last = { λ s. s.counted };
 
@@ -121,11 +123,15 @@ impl Store for LogStore {
         requires end { place + length piece.now < 2 ^ 63 }
         requires begin { place ≤ length (log_bytes self.old) }
         ensures ok { OnOk result (log_bytes self.new ≡ written (log_bytes self.old) place piece.now) }
-        ensures logged { OnOk result (LogsWrite place piece.now (take (length piece.now) (drop place (log_bytes self.old)))
+        ensures logged { OnOk result (LogsWrite place piece.now
+            (take (length piece.now) (drop place (log_bytes self.old)))
             (log_calls self.old) (log_calls self.new) (log_replaced self.old) (log_replaced self.new)) }
         ensures unchanged { OnErr result (HoldsSame self.old self.new) }
         ensures err { OnErr result (FrontWritten (log_bytes self.old) place piece.now (log_bytes self.new)) }
-        ensures images { Elapses log_images log_moment log_images_since self.old self.new (AfterWrite place piece.now (log_images self.old)) }
+        ensures images { Elapses log_images log_moment log_images_since self.old self.new
+            (AfterWrite place piece.now (log_images self.old)) }
+        ensures torn { OnOk result ((c : List ℕ) → AfterWrite place piece.now (log_images self.old) c
+            → log_images self.new c) }
         ensures count { Counts (log_failures self.old) (log_failures self.new) result }
     {
         match write_logged(

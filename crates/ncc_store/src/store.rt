@@ -52,7 +52,8 @@ pub trait Store {
     /// their end fails. After an `Err` `out` may hold anything.
     fn read_at(&mut self, place: u64, out: &mut [u8]) -> Result<(), Device>
         requires { IsTrue tells_bytes → place + length out.old ≤ length (bytes self.old) }
-        ensures told { IsTrue tells_bytes → OnOk result (out.new ≡ take (length out.old) (drop place (bytes self.old))) }
+        ensures told { IsTrue tells_bytes
+            → OnOk result (out.new ≡ take (length out.old) (drop place (bytes self.old))) }
         ensures unmoved { Unmoved bytes images moment images_since self.old self.new }
         ensures kept { KeepsImages (images self.old) (images self.new) }
         ensures count { Counts (failures self.old) (failures self.new) result }
@@ -64,8 +65,10 @@ pub trait Store {
         requires end { place + length piece.now < 2 ^ 63 }
         requires begin { IsTrue tells_bytes → place ≤ length (bytes self.old) }
         ensures ok { IsTrue tells_bytes → OnOk result (bytes self.new ≡ written (bytes self.old) place piece.now) }
-        ensures err { IsTrue tells_bytes → OnErr result (FrontWritten (bytes self.old) place piece.now (bytes self.new)) }
-        ensures images { Elapses images moment images_since self.old self.new (AfterWrite place piece.now (images self.old)) }
+        ensures err { IsTrue tells_bytes
+            → OnErr result (FrontWritten (bytes self.old) place piece.now (bytes self.new)) }
+        ensures images { Elapses images moment images_since self.old self.new
+            (AfterWrite place piece.now (images self.old)) }
         ensures count { Counts (failures self.old) (failures self.new) result }
         ensures calls { calls self.new ≤ calls self.old + 1 };
 
@@ -81,7 +84,8 @@ pub trait Store {
     ghost stands: { (store : Self) → IsTrue tells_images → images store (bytes store) };
 
     /// This moment is one of those since an earlier one.
-    ghost counts_now: { (store : Self) (t : ℕ) (c : List ℕ) → t ≤ moment store → images store c → images_since store t c };
+    ghost counts_now: { (store : Self) (t : ℕ) (c : List ℕ) → t ≤ moment store → images store c
+        → images_since store t c };
 
     /// Since this moment there is no other.
     ghost only_now: { (store : Self) (c : List ℕ) → images_since store (moment store) c → images store c };

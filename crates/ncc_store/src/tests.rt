@@ -34,7 +34,8 @@ fn commit<S: Store>(store: &mut S, place: u64, count: &[u8]) -> Result<(), Devic
     requires inside { IsTrue S.tells_bytes → place + length count.now ≤ length (S.bytes store.old) }
     ensures ok { IsTrue S.tells_bytes → OnOk result (S.bytes store.new ≡ written (S.bytes store.old) place count.now) }
     ensures durable { OnOk result (Only (S.bytes store.new) (S.images store.new)) }
-    ensures err { IsTrue S.tells_bytes → OnErr result (IsOldOrWritten (S.bytes store.old) place count.now (S.bytes store.new)) }
+    ensures err { IsTrue S.tells_bytes
+        → OnErr result (IsOldOrWritten (S.bytes store.old) place count.now (S.bytes store.new)) }
     ensures any_moment { IsTrue S.tells_bytes → Only (S.bytes store.old) (S.images store.old)
         → LeavesOnly S.moment S.images_since store.old store.new (IsOldOrWritten (S.bytes store.old) place count.now) }
     ensures count { Counts (S.failures store.old) (S.failures store.new) result }
@@ -58,11 +59,14 @@ fn grow<S: Store>(
     requires end { size + length few.now + length image.now < 2 ^ 63 }
     requires short { length count.now ≤ 8 }
     requires inside { place + length count.now ≤ size }
-    ensures ok { IsTrue S.tells_bytes → OnOk result (S.bytes store.new ≡ written (S.bytes store.old ++ (few.now ++ image.now)) place count.now) }
+    ensures ok { IsTrue S.tells_bytes
+        → OnOk result (S.bytes store.new ≡ written (S.bytes store.old ++ (few.now ++ image.now)) place count.now) }
     ensures durable { OnOk result (Only (S.bytes store.new) (S.images store.new)) }
-    ensures err { IsTrue S.tells_bytes → OnErr result (IsOldOrGrown (S.bytes store.old) (few.now ++ image.now) place count.now (S.bytes store.new)) }
+    ensures err { IsTrue S.tells_bytes
+        → OnErr result (IsOldOrGrown (S.bytes store.old) (few.now ++ image.now) place count.now (S.bytes store.new)) }
     ensures any_moment { IsTrue S.tells_bytes → Only (S.bytes store.old) (S.images store.old)
-        → LeavesOnly S.moment S.images_since store.old store.new (IsOldOrGrown (S.bytes store.old) (few.now ++ image.now) place count.now) }
+        → LeavesOnly S.moment S.images_since store.old store.new
+        (IsOldOrGrown (S.bytes store.old) (few.now ++ image.now) place count.now) }
     ensures count { Counts (S.failures store.old) (S.failures store.new) result }
     ensures calls { S.calls store.new ≤ S.calls store.old + 5 }
 {

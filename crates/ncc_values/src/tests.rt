@@ -283,8 +283,19 @@ fn lists_keep_their_elements(rt: HostRuntime) -> Result<(), Fail> {
 
 #[test]
 fn names_fit_by_the_rule(rt: HostRuntime) -> Result<(), Fail> {
-    let table: [(&[u8], bool); 13] = [
+    let table: [(&[u8], bool); 24] = [
         (b"a", true),
+        (b"A", true),
+        (b"Z", true),
+        (b"z9", true),
+        (b"a~", true),
+        (b"a b!", true),
+        (&[0x61, 0xc2, 0x80], true),
+        (&[0x61, 0x1f], false),
+        (&[0x01, 0x61], false),
+        (b"a\n", false),
+        (b"~a", false),
+        (b"@a", false),
         (b"_a b", true),
         (b"1a", true),
         (b"a+", true),

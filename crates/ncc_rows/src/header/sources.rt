@@ -2,10 +2,58 @@
 
 use super::helpers::length_of;
 use ncc_files::{FIXED, LIMIT, bytes_of};
-use ncc_header::{FuseSource, HeaderError, ReadSource, read_header};
+use ncc_header::{
+    Failed, FuseSource, HeaderError, ReadSource, Sink, Source, WriteSink, read_header,
+};
 use std::alloc::Global;
+use std::io;
+use std::io::{Error, ErrorKind, Read, Write};
 use std::process::Abort;
 use std::test::*;
+
+/// Fails at its first call, and would pass each later one.
+#[derive(Drop)]
+struct FailsOnce {
+    failed: bool,
+}
+
+impl FailsOnce {
+    fn passes(&mut self) -> io::Result<usize> {
+        if self.failed {
+            return Ok(1);
+        }
+        self.failed = true;
+        Err(Error::from(ErrorKind::Other))
+    }
+}
+
+impl Read for FailsOnce {
+    fn read(&mut self, buffer: &mut [u8]) -> io::Result<usize> {
+        Ok(self.passes()?.min(buffer.len()))
+    }
+}
+
+impl Write for FailsOnce {
+    fn write(&mut self, bytes: &[u8]) -> io::Result<usize> {
+        Ok(self.passes()?.min(bytes.len()))
+    }
+
+    fn flush(&mut self) -> io::Result<()> {
+        Ok(())
+    }
+}
+
+/// An error is answered at once, and not tried again.
+#[test]
+fn errors_are_answered(rt: HostRuntime) {
+    let mut source = ReadSource::new(FailsOnce { failed: false });
+    let mut room = [0; 4];
+    assert!(rt; source.read(&mut room) == Err(Failed));
+    assert!(rt; source.read(&mut room) == Ok(1));
+    let mut sink = WriteSink::new(FailsOnce { failed: false });
+    assert!(rt; sink.write(b"ab") == Err(Failed));
+    assert!(rt; sink.write(b"ab") == Ok(1));
+}
 
 /// The length of the header from a source that passes so many calls of at most `most` bytes.
 fn length_after(alloc: Global, input: &[u8], calls: u64, most: u64) -> Result<u64, HeaderError> {

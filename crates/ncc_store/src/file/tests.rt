@@ -1,5 +1,6 @@
 use super::FileStore;
-use crate::{Device, Store};
+use crate::putting::put;
+use crate::{Device, Store, SystemFile};
 use std::fs;
 use std::test::Fail;
 
@@ -55,5 +56,112 @@ fn refused_paths(rt: HostRuntime) -> Result<(), Fail> {
         assert!(rt; FileStore::open(&rt, path, false).is_err(), "{path}");
     }
     fs::remove_dir(&rt, "folder.nc")?;
+    Ok(())
+}
+
+// The system syncs no such file.
+#[test]
+fn sync_that_fails_is_counted(rt: HostRuntime) -> Result<(), Fail> {
+    let mut store = FileStore::open(&rt, "/proc/sys/kernel/osrelease", false)?;
+    assert_eq!(rt; store.sync(), Err(Device));
+    assert_eq!(rt; store.failures, 1);
+    assert_eq!(rt; store.write_at(0, b"1"), Err(Device));
+    assert_eq!(rt; store.failures, 2);
+    Ok(())
+}
+
+/// A file that takes at most two bytes a call, and none past so many calls.
+#[derive(Drop)]
+struct ShortFile {
+    bytes: Vec<u8>,
+    calls: u64,
+    pending: bool,
+}
+
+impl SystemFile for ShortFile {
+    ghost use Rattle.std.specs.Prelude.{◌≡◌, Some, false};
+
+    ghost bytes = { λ f. Some f.bytes.items };
+
+    ghost settled = { λ f. f.pending ≡ false };
+
+    fn size(&mut self) -> Result<u64, Device> {
+        Ok(self.bytes.len() as u64)
+    }
+
+    fn fill(&mut self, place: u64, out: &mut [u8]) -> Result<(), Device> {
+        let size = self.bytes.len() as u64;
+        if place > size || out.len() as u64 > size - place {
+            return Err(Device);
+        }
+        let place = place as usize;
+        out.copy_from_slice(&self.bytes[place..place + out.len()]);
+        Ok(())
+    }
+
+    fn write_some(&mut self, place: u64, piece: &[u8]) -> Result<usize, Device> {
+        if self.calls == 0 || place > self.bytes.len() as u64 {
+            return Err(Device);
+        }
+        let front = &piece[..piece.len().min(2)];
+        if put(&mut self.bytes, place as usize, front).is_err() {
+            return Err(Device);
+        }
+        self.calls -= 1;
+        self.pending = true;
+        Ok(front.len())
+    }
+
+    fn settle(&mut self) -> Result<(), Device> {
+        if self.calls == 0 {
+            return Err(Device);
+        }
+        self.pending = false;
+        Ok(())
+    }
+}
+
+// Seven bytes take four writes of two bytes at most: with fewer, a front is there.
+#[test]
+fn short_writes_go_on(rt: HostRuntime) -> Result<(), Fail> {
+    for calls in 0..6 {
+        let file = ShortFile {
+            bytes: [1, 2, 3].to_vec(rt.alloc())?,
+            calls,
+            pending: false,
+        };
+        let mut store = FileStore {
+            file,
+            writes: true,
+            failures: 0,
+        };
+        let whole = calls >= 4;
+        assert_eq!(rt; store.write_at(1, &[9, 8, 7, 6, 5, 4, 3]).is_ok(), whole);
+        assert_eq!(rt; store.file.pending, calls > 0);
+        assert_eq!(rt; store.sync().is_ok(), calls > 4);
+        assert_eq!(rt; store.file.pending, 0 < calls && calls <= 4);
+        assert_eq!(rt;
+            store.failures,
+            if calls < 4 {
+                2
+            } else if calls == 4 {
+                1
+            } else {
+                0
+            }
+        );
+        let mut out = [0; 8];
+        let there = store.read_at(0, &mut out).is_ok();
+        assert_eq!(rt; there, whole);
+        assert!(rt; !whole || out == [1, 9, 8, 7, 6, 5, 4, 3]);
+        let front: &[u8] = match calls {
+            0 => &[1, 2, 3],
+            1 => &[1, 9, 8],
+            2 => &[1, 9, 8, 7, 6],
+            3 => &[1, 9, 8, 7, 6, 5, 4],
+            _ => &[1, 9, 8, 7, 6, 5, 4, 3],
+        };
+        assert_eq!(rt; store.file.bytes.as_slice(), front);
+    }
     Ok(())
 }

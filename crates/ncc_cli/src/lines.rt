@@ -1,0 +1,4 @@
+//! The lines of dimensions, attributes, variables and faults, part by part.
+
+pub mod heads;
+pub mod texts;

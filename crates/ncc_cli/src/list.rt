@@ -1,0 +1,4 @@
+//! `list`: what the header alone says.
+
+pub mod listing;
+pub mod sections;

@@ -1,0 +1,71 @@
+//! `list`: what the header alone says.
+
+ghost use Rattle.std.specs.Prelude.{◌≡◌, ◌⊎◌, ℕ, List, IfSome};
+ghost use Rattle.ncc_schema.specs.Device.{LosesAtMost, Puts};
+ghost use Rattle.ncc_values.specs.Failures.{Rose};
+ghost use Rattle.ncc_cli.specs.Texts.{list_text, fault_line};
+ghost use Rattle.ncc_cli.specs.Listing.{Lists, SendsAll, Blames, answer_of};
+
+use crate::answer::{Answer, Halt};
+use crate::lines::texts::push_fault;
+use crate::list::sections::send_list;
+use crate::page::send_page;
+use ncc_header::{Fault, Header, HeaderError, Sink, Source, laws, read_header, write_all};
+use std::alloc::Global;
+
+/// Sends the line of a fault.
+fn send_fault<W: Sink>(alloc: Global, fault: Fault, sink: &mut W) -> Result<(), Halt>
+    ensures sent { SendsAll (W.put sink.old) (W.put sink.new) (fault_line fault) result }
+    ensures count { Blames (W.failures sink.old) (W.failures sink.new) result }
+{
+    let mut line = Vec::new(alloc);
+    push_fault(&mut line, fault)?;
+    write_all(sink, &line)?;
+    Ok(())
+}
+
+/// Sends all lines of a header, by one page that is used again.
+fn send_header<W: Sink>(alloc: Global, header: &Header, sink: &mut W) -> Result<(), Halt>
+    ensures sent { SendsAll (W.put sink.old) (W.put sink.new) (list_text header.now) result }
+    ensures count { Blames (W.failures sink.old) (W.failures sink.new) result }
+{
+    let mut page = Vec::new(alloc);
+    send_list(header, &mut page, sink)?;
+    send_page(&mut page, sink)
+}
+
+/// This answer, where the text went out.
+fn answered(sent: Result<(), Halt>, answer: Answer) -> Answer
+    ensures { result ≡ answer_of sent answer }
+{
+    match sent {
+        Ok(()) => answer,
+        Err(Halt::Device) => Answer::Device,
+        Err(Halt::Memory) => Answer::Memory,
+    }
+}
+
+/// Writes the lines of the header at the front of the source, of at most `limit` bytes, or the line
+/// of its fault. No byte past the limit is read.
+pub fn list_engine<R: Source, W: Sink>(
+    alloc: Global,
+    source: &mut R,
+    limit: u64,
+    sink: &mut W,
+) -> Answer
+    ensures lists { IfSome (R.left source.old) (λ input. (out : List ℕ)
+        × Puts (W.put sink.old) (W.put sink.new) out × Lists input limit result out) }
+    ensures most { LosesAtMost (R.left source.old) (R.left source.new) limit }
+    ensures quiet { (result ≡ Answer.Device → ⊥)
+        → (R.failures source.new ≡ R.failures source.old) × (W.failures sink.new ≡ W.failures sink.old) }
+    ensures device { result ≡ Answer.Device
+        → Rose (R.failures source.old) (R.failures source.new) ⊎ Rose (W.failures sink.old) (W.failures sink.new) }
+{
+    laws::header_or_stop();
+    match read_header(alloc, source, limit) {
+        Ok(header) => answered(send_header(alloc, &header, sink), Answer::Passed),
+        Err(HeaderError::Fault(fault)) => answered(send_fault(alloc, fault, sink), Answer::Refused),
+        Err(HeaderError::Device) => Answer::Device,
+        Err(HeaderError::Memory) => Answer::Memory,
+    }
+}

@@ -1,0 +1,95 @@
+//! Sources and sinks that fail.
+
+use super::helpers::ATTRIBUTES_TEXT;
+use crate::answer::Answer;
+use crate::list::listing::list_engine;
+use ncc_files::{ATTRIBUTES, LIMIT, bytes_of};
+use ncc_header::{ReadSource, WriteSink};
+use std::io;
+use std::io::{Error, ErrorKind, Read, Write};
+use std::test::*;
+
+/// A reader that gives at most 5 bytes a call, and fails once it has given so many.
+#[derive(Drop)]
+struct FailingReader<'a> {
+    bytes: &'a [u8],
+    left: usize,
+}
+
+impl Read for FailingReader<'_> {
+    fn read(&mut self, buffer: &mut [u8]) -> io::Result<usize> {
+        let n = self.left.min(5).min(self.bytes.len()).min(buffer.len());
+        if n == 0 {
+            return Err(Error::from(ErrorKind::Other));
+        }
+        let (front, after) = self.bytes.split_at(n);
+        buffer[..n].copy_from_slice(front);
+        self.bytes = after;
+        self.left -= n;
+        Ok(n)
+    }
+}
+
+/// A writer that takes at most 3 bytes a call, and fails once it has taken so many.
+#[derive(Drop)]
+struct FailingWriter {
+    taken: Vec<u8>,
+    left: usize,
+}
+
+impl Write for FailingWriter {
+    fn write(&mut self, bytes: &[u8]) -> io::Result<usize> {
+        let n = self.left.min(3).min(bytes.len());
+        if n == 0 {
+            return Err(Error::from(ErrorKind::Other));
+        }
+        let (front, _after) = bytes.split_at(n);
+        self.taken.extend_from_slice(front)?;
+        self.left -= n;
+        Ok(n)
+    }
+
+    fn flush(&mut self) -> io::Result<()> {
+        Ok(())
+    }
+}
+
+/// The source fails in mid-stream: no line goes out.
+#[test]
+fn failing_sources(rt: HostRuntime) -> Result<(), Fail> {
+    let alloc = rt.alloc();
+    let input = bytes_of(alloc, &ATTRIBUTES)?;
+    for left in 0..input.len() {
+        let mut source = ReadSource::new(FailingReader {
+            bytes: &input,
+            left,
+        });
+        let mut sink = WriteSink::new(Vec::new(alloc));
+        assert!(rt; list_engine(alloc, &mut source, LIMIT, &mut sink) == Answer::Device);
+        assert!(rt; sink.into_inner().is_empty());
+    }
+    Ok(())
+}
+
+/// The sink fails in mid-stream: what it took is a front of the text.
+#[test]
+fn failing_sinks(rt: HostRuntime) -> Result<(), Fail> {
+    let alloc = rt.alloc();
+    let input = bytes_of(alloc, &ATTRIBUTES)?;
+    let text = ATTRIBUTES_TEXT.as_bytes();
+    for left in 0..=text.len() {
+        let mut source = ReadSource::new(input.as_slice());
+        let taken = Vec::new(alloc);
+        let mut sink = WriteSink::new(FailingWriter { taken, left });
+        let answer = list_engine(alloc, &mut source, LIMIT, &mut sink);
+        let wanted = if left < text.len() {
+            Answer::Device
+        } else {
+            Answer::Passed
+        };
+        assert!(rt; answer == wanted);
+        let (front, _rest) = text.split_at(left.min(text.len()));
+        assert!(rt; sink.into_inner().taken.as_slice() == front);
+    }
+    Ok(())
+}

@@ -1,0 +1,4 @@
+//! The values of attributes, as they are printed.
+
+pub mod printed;
+pub mod sending;

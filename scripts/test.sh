@@ -1,0 +1,34 @@
+#!/usr/bin/env bash
+# All tests: the gate `rt ci` (every proof from nothing, the must-fail edits, the unit tests, the program's own
+# run), and then the built program (scripts/test_program.sh). The last line is `N passed, M failed` of both.
+set -uo pipefail
+top=$(cd "$(dirname "$0")/.." && pwd)
+log=$(mktemp)
+trap 'rm -f "$log"' EXIT
+passed=0
+failed=0
+status=0
+
+# Runs a part, and adds the numbers of its last line. A part that ends badly without a failure is one.
+part() {
+  local before=$failed last
+  "$@" 2>&1 | tee "$log"
+  local ended=${PIPESTATUS[0]}
+  last=$(tail -n 1 "$log")
+  if [[ $last =~ ^([0-9]+)\ passed,\ ([0-9]+)\ failed$ ]]; then
+    passed=$((passed + BASH_REMATCH[1]))
+    failed=$((failed + BASH_REMATCH[2]))
+  elif [ "$ended" = 0 ]; then
+    ended=1
+  fi
+  if [ "$ended" != 0 ]; then
+    status=1
+    if [ "$failed" = "$before" ]; then failed=$((failed + 1)); fi
+  fi
+}
+
+cd "$top" || exit 1
+part rt ci
+part scripts/test_program.sh
+echo "$passed passed, $failed failed"
+[ "$status" = 0 ] && [ "$failed" = 0 ]

@@ -1,0 +1,122 @@
+#!/usr/bin/env bash
+# Runs the built program as a user does, in a folder of its own: its statuses, full and closed outputs, its
+# help, and the files of examples/. The program is the first word, or else crates/ncc_cli is proved and built.
+# The last line is `N passed, M failed`.
+set -uo pipefail
+top=$(cd "$(dirname "$0")/.." && pwd)
+folder=$(mktemp -d)
+trap 'rm -rf "$folder"' EXIT
+if [ $# -gt 0 ]; then
+  ncc=$(realpath "$1") || exit 1
+else
+  "$top/scripts/install.sh" "$folder/built" > "$folder/build.log" 2>&1 || { cat "$folder/build.log"; exit 1; }
+  ncc=$folder/built/bin/ncc
+fi
+passed=0
+failed=0
+
+# Counts a case, and says what is wrong with one that failed.
+count() {
+  if [ "$2" = "$3" ]; then
+    passed=$((passed + 1))
+  else
+    failed=$((failed + 1))
+    printf 'FAILED %s\n--- wanted\n%s\n--- found\n%s\n' "$1" "$2" "$3"
+  fi
+}
+
+# A run's status, its output and its error, in one text.
+seen() {
+  "$ncc" "$@" > out 2> err < /dev/null
+  printf 'status %s\n%s\n%s' "$?" "$(cat out)" "$(cat err)"
+}
+
+# The case NAME: STATUS, OUT and ERR of the words that follow.
+expect() {
+  local name=$1 wanted
+  wanted=$(printf 'status %s\n%s\n%s' "$2" "$3" "$4")
+  shift 4
+  count "$name" "$wanted" "$(seen "$@")"
+}
+
+# The case NAME: STATUS, and a first line of OUT and of ERR, of the words that follow.
+expect_first() {
+  local name=$1 wanted found
+  wanted=$(printf '%s|%s|%s' "$2" "$3" "$4")
+  shift 4
+  "$ncc" "$@" > out 2> err < /dev/null
+  found=$(printf '%s|%s|%s' "$?" "$(head -n 1 out)" "$(head -n 1 err)")
+  count "$name" "$wanted" "$found"
+}
+
+cd "$folder" || exit 1
+cp "$top"/examples/*.nc .
+
+# ---- each example has the lines beside it; its status is 1 where that is a fault's line
+
+for file in *.nc; do
+  lines=$top/examples/${file%.nc}.expected
+  if grep -q '^fault ' "$lines"; then status=1; else status=0; fi
+  expect "list $file" "$status" "$(cat "$lines")" "" list "$file"
+done
+whole=$(wc -c < "$top/examples/ocean.expected")
+count "list writes its last newline" "$whole" "$("$ncc" list ocean.nc | wc -c | tr -d ' ')"
+
+# ---- statuses
+
+expect "no such file" 3 "" "error device" list not_there.nc
+expect "a folder" 3 "" "error device" list .
+: > nothing.nc
+expect "an empty file" 1 "fault EndsEarly at 0" "" list nothing.nc
+expect "version" 0 "ncc 0.1.0" "" --version
+expect_first "help" 0 "Lists the headers of netCDF classic files" "" --help
+expect_first "help of list" 0 "Lists what the header of a file says" "" list --help
+expect_first "help by a word" 0 "Lists what the header of a file says" "" help list
+expect_first "no word" 2 "" "Lists the headers of netCDF classic files"
+expect_first "no such command" 2 "" "error: unrecognized subcommand 'lst'" lst ocean.nc
+expect_first "no file" 2 "" "error: the following required arguments were not provided:" list
+expect_first "two files" 2 "" "error: unexpected argument 'tiny.nc' found" list ocean.nc tiny.nc
+expect_first "no such option" 2 "" "error: unexpected argument '--all' found" list --all ocean.nc
+"$ncc" list --help > out
+for line in '  0  listed' '  1  the header has a fault, which is the only line' '  2  the command line is wrong' \
+  '  3  a device or memory failed' \
+  'A header may have 67,108,864 bytes; a longer one is the fault HeaderTooLong.'; do
+  count "help of list: $line" 1 "$(grep -cxF -- "$line" out)"
+done
+
+# ---- outputs that take nothing
+
+for file in ocean.nc bad_magic_1.nc; do
+  "$ncc" list "$file" > /dev/full 2> err
+  count "list $file, full output" "3 error device" "$? $(cat err)"
+  "$ncc" list "$file" >&- 2> err
+  count "list $file, closed output" "3 error device" "$? $(cat err)"
+done
+"$ncc" list --help > /dev/full 2> err
+count "help, full output" "3 error device" "$? $(cat err)"
+"$ncc" list not_there.nc > out 2> /dev/full
+count "full error" "3 " "$? $(cat out)"
+"$ncc" list ocean.nc 2>&- > out
+count "closed error" 0 $?
+"$ncc" list ocean.nc | head -c 1 > out
+count "an output that is read in part" f "$(cat out)"
+
+# ---- headers at the limit, and 4 bytes past it, where the last field is: its 48 bytes besides the values are
+# the fields, and the lines are 57 bytes besides them
+
+head_of() {
+  printf 'CDF\1\0\0\0\0\0\0\0\0\0\0\0\0\0\0\0\x0c\0\0\0\1\0\0\0\1n\0\0\0\0\0\0\2'
+  printf "\\x$(printf '%02x' $(($1 >> 24)))\\x$(printf '%02x' $(($1 >> 16 & 255)))"
+  printf "\\x$(printf '%02x' $(($1 >> 8 & 255)))\\x$(printf '%02x' $(($1 & 255)))"
+  head -c "$1" /dev/zero | tr '\0' a
+  printf '\0\0\0\0\0\0\0\0'
+}
+head_of $((67108864 - 48)) > at_the_limit.nc
+"$ncc" list at_the_limit.nc > out 2> err
+count "a header of 67,108,864 bytes" "0 67108864 $((67108864 - 48 + 57)) " \
+  "$? $(wc -c < at_the_limit.nc | tr -d ' ') $(wc -c < out | tr -d ' ') $(cat err)"
+head_of $((67108864 - 44)) > past_the_limit.nc
+expect "a header of 67,108,868 bytes" 1 "fault HeaderTooLong at 67108864" "" list past_the_limit.nc
+
+echo "$passed passed, $failed failed"
+[ "$failed" = 0 ]
