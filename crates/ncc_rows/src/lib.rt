@@ -5,3 +5,5 @@
 mod header;
 #[cfg(test)]
 mod layout;
+#[cfg(test)]
+mod verdict;

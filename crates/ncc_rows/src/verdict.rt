@@ -1,0 +1,4 @@
+//! Whether a file passes, by its bytes.
+
+mod helpers;
+mod opened;
