@@ -15,7 +15,8 @@ pub fn list_size(version: Version) -> u64
     4 + version.count_width() as u64
 }
 
-fn name_size(version: Version, name: &[u8]) -> u64
+/// The length, the bytes and the padding of a name.
+pub fn name_size(version: Version, name: &[u8]) -> u64
     ensures { result ≡ capped (length (canon_name version name.now)) }
 {
     let length = name.len() as u64;
@@ -23,7 +24,8 @@ fn name_size(version: Version, name: &[u8]) -> u64
     length.saturating_add(width + pad(length))
 }
 
-fn dim_size(version: Version, dim: &Dim) -> u64
+/// The bytes of a dimension.
+pub fn dim_size(version: Version, dim: &Dim) -> u64
     ensures { result ≡ capped (length (canon_dim version dim.now)) }
 {
     name_size(version, dim.name.as_slice()).saturating_add(version.count_width() as u64)
@@ -39,7 +41,8 @@ pub fn dims_size(version: Version, dims: &[Dim]) -> u64
     size
 }
 
-fn attr_size(version: Version, attr: &Attr) -> u64
+/// The bytes of an attribute.
+pub fn attr_size(version: Version, attr: &Attr) -> u64
     ensures { result ≡ capped (length (canon_attr version attr.now)) }
 {
     let number = attr.values.len() as u64;

@@ -19,7 +19,10 @@ pub use encoder::encode;
 pub use failed::Failed;
 pub use fuse::{FuseSink, FuseSource};
 pub use legality::{legal, sound};
-pub use lengths::{header_length, var_size, vars_start};
+pub use lengths::{
+    attr_size, attrs_in, dim_size, gatts_at, header_length, list_size, name_size, var_size,
+    vars_start,
+};
 pub use limits::{
     greatest_vsize, limit_of_counts, limit_of_lengths, limit_of_offsets, streaming_mark,
 };

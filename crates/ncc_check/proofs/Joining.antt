@@ -1,0 +1,118 @@
+-- Notes that join others.
+use Rattle.std.proofs.Common.{◌≡◌, ℕ, zero, suc, ◌+◌, ◌<◌, ◌≤◌, List, [], ◌∷◌, ◌++◌, length, map, drop, get_or, refl, sym, ap, ap₂, subst, ◌∙◌, ◌⊎◌, inl, inr, arith, append_assoc, append-nil}
+use Rattle.std.specs.Prelude.{Contains}
+use Rattle.std.proofs.lemmas.Bool.{cases_lt}
+use Rattle.std.proofs.lemmas.List.{drop_more, map-append}
+use Rattle.std.proofs.lemmas.List.Elements.{Contains-append_left, Contains-append_right, Contains-append_cases}
+use Rattle.ncc_schema.specs.Names.{capped}
+use Rattle.ncc_check.specs.declared.note.Note.{Note}
+use Rattle.ncc_check.specs.declared.note.NoteKind.{NoteKind}
+use Rattle.ncc_check.specs.declared.notes.named.Named.{Named}
+use Rattle.ncc_check.specs.Noting.{Adds, NoteIf, Below, names_in, offsets_in, offsets_from, Names, NamesUpTo}
+
+pub nothing_joins : (P : Note → Type 0) (xs : List Note) → ((n : Note) → P n → ⊥) → Adds P xs xs
+nothing_joins P xs none = record { kept = λ n h. h; due = λ n h. inl h; all = λ n p. absurd (none n p) }
+
+pub none_below : (P : ℕ → Note → Type 0) (xs : List Note) → Adds (Below P 0) xs xs
+none_below P xs = nothing_joins (Below P 0) xs (λ n p. omega (arith, p.1))
+
+only : (m n : Note) → Contains (m ∷ []) n → n ≡ m
+only m n (zero, below, is) = sym is
+only m n (suc k, below, is) = absurd (omega (arith, below))
+
+pub one_joins : (due : Type 0) (kind : NoteKind) (offset : ℕ) (xs ys : List Note) → due → ys ≡ xs ++ (record { kind = kind; offset = offset }) ∷ [] → Adds (NoteIf due kind offset) xs ys
+one_joins due kind offset xs ys d e =
+    let m : Note = record { kind = kind; offset = offset } in
+    record {
+      kept = λ n h. subst (λ zs. Contains zs n) (sym e) (Contains-append_left xs (m ∷ []) n h);
+      due = λ n h. by n (Contains-append_cases xs (m ∷ []) n (subst (λ zs. Contains zs n) e h));
+      all = λ n p. subst (λ zs. Contains zs n) (sym e) (Contains-append_right xs (m ∷ []) n (0, omega arith, sym p.is));
+    }
+  where
+    by : (n : Note) → Contains xs n ⊎ Contains ((record { kind = kind; offset = offset }) ∷ []) n → Contains xs n ⊎ NoteIf due kind offset n
+    by n (inl h) = inl h
+    by n (inr h) = inr (record { is_due = d; is = only _ n h })
+
+-- the same notes by other words
+pub as_well : (P Q : Note → Type 0) (xs ys : List Note) → ((n : Note) → P n → Q n) → ((n : Note) → Q n → P n) → Adds P xs ys → Adds Q xs ys
+as_well P Q xs ys to from a = record { kept = a.kept; due = λ n h. by n (a.due n h); all = λ n q. a.all n (from n q) }
+  where
+    by : (n : Note) → Contains xs n ⊎ P n → Contains xs n ⊎ Q n
+    by n (inl h) = inl h
+    by n (inr p) = inr (to n p)
+
+-- one after the other
+pub both_join : (P Q : Note → Type 0) (xs ys zs : List Note) → Adds P xs ys → Adds Q ys zs → Adds (λ n. P n ⊎ Q n) xs zs
+both_join P Q xs ys zs a b = record { kept = λ n h. b.kept n (a.kept n h); due = λ n h. by n (b.due n h); all = all }
+  where
+    first : (n : Note) → Contains xs n ⊎ P n → Contains xs n ⊎ (P n ⊎ Q n)
+    first n (inl h) = inl h
+    first n (inr p) = inr (inl p)
+
+    by : (n : Note) → Contains ys n ⊎ Q n → Contains xs n ⊎ (P n ⊎ Q n)
+    by n (inl h) = first n (a.due n h)
+    by n (inr q) = inr (inr q)
+
+    all : (n : Note) → P n ⊎ Q n → Contains zs n
+    all n (inl p) = b.kept n (a.all n p)
+    all n (inr q) = b.all n q
+
+-- those of one more item
+pub one_more : (P : ℕ → Note → Type 0) (i : ℕ) (xs ys zs : List Note) → Adds (Below P i) xs ys → Adds (P i) ys zs → Adds (Below P (i + 1)) xs zs
+one_more P i xs ys zs a b = as_well (λ n. Below P i n ⊎ P i n) (Below P (i + 1)) xs zs to from (both_join (Below P i) (P i) xs ys zs a b)
+  where
+    to : (n : Note) → Below P i n ⊎ P i n → Below P (i + 1) n
+    to n (inl b) = (b.0, omega (arith, b.1), b.2)
+    to n (inr p) = (i, omega arith, p)
+
+    at : (n : Note) (k : ℕ) → k < i + 1 → P k n → (k < i) ⊎ (i ≤ k) → Below P i n ⊎ P i n
+    at n k below p (inl less) = inl (k, less, p)
+    at n k below p (inr more) = inr (subst (λ j. P j n) (omega arith) p)
+
+    from : (n : Note) → Below P (i + 1) n → Below P i n ⊎ P i n
+    from n (k, below, p) = at n k below p (cases_lt k i)
+
+-- a note under other words for the same condition
+pub note_as : (A B : Type 0) (kind kind' : NoteKind) (offset offset' : ℕ) (xs ys : List Note) → (A → B) → (B → A) → kind ≡ kind' → offset ≡ offset' → Adds (NoteIf A kind offset) xs ys → Adds (NoteIf B kind' offset') xs ys
+note_as A B kind kind' offset offset' xs ys to from e f =
+    as_well (NoteIf A kind offset) (NoteIf B kind' offset') xs ys
+    (λ n a. record { is_due = to a.is_due; is = a.is ∙ (λ i. record { kind = e i; offset = f i }) })
+    (λ n b. record { is_due = from b.is_due; is = b.is ∙ (λ i. record { kind = sym e i; offset = sym f i }) })
+
+-- ---- names
+
+pub names_begin : {A : Type 0} (name item : A → List ℕ) (start : ℕ) (items : List A) → NamesUpTo name item start items 0 start []
+names_begin name item start items = record { names = refl; offsets = refl }
+
+pub names_go_on : {A : Type 0} (name item : A → List ℕ) (start : ℕ) (items : List A) (i at : ℕ) (named : List Named) (x : A) (new : Named) (size : ℕ)
+    → i < length items → x ≡ get_or items i x → new.name.now ≡ name x → new.at ≡ at → size ≡ capped (length (item x))
+    → NamesUpTo name item start items i at named → NamesUpTo name item start items (i + 1) (capped (at + size)) (named ++ new ∷ [])
+names_go_on name item start items i at named x new size below is called stands long u =
+    let next = drop_more items i x below ∙ ap (λ y. y ∷ drop (i + 1) items) (sym is) in
+    let bound : capped (at + size) ≡ capped (at + length (item x)) = omega (arith, long) in
+    record {
+      names =
+          ap (λ z. z ++ map name (drop (i + 1) items)) (map-append (λ (y : Named). y.name.now) named (new ∷ []))
+          ∙ append_assoc (names_in named) (new.name.now ∷ []) (map name (drop (i + 1) items))
+          ∙ ap (λ z. names_in named ++ (z ∷ map name (drop (i + 1) items))) called
+          ∙ ap (λ ys. names_in named ++ map name ys) (sym next) ∙ u.names;
+      offsets =
+          ap (λ z. z ++ offsets_from item (capped (at + size)) (drop (i + 1) items)) (map-append (λ (y : Named). y.at) named (new ∷ []))
+          ∙ append_assoc (offsets_in named) (new.at ∷ []) (offsets_from item (capped (at + size)) (drop (i + 1) items))
+          ∙ ap₂ (λ y z. offsets_in named ++ (y ∷ offsets_from item z (drop (i + 1) items))) stands bound
+          ∙ ap (λ ys. offsets_in named ++ offsets_from item at ys) (sym next) ∙ u.offsets;
+    }
+
+drop_all : {A : Type 0} (items : List A) (i : ℕ) → length items ≤ i → drop i items ≡ []
+drop_all [] zero h = refl
+drop_all [] (suc i) h = refl
+drop_all (x ∷ items) zero h = absurd (omega (arith, h))
+drop_all (x ∷ items) (suc i) h = drop_all items i (omega (arith, h))
+
+pub names_end : {A : Type 0} (name item : A → List ℕ) (start : ℕ) (items : List A) (i at : ℕ) (named : List Named) → length items ≤ i → NamesUpTo name item start items i at named → Names name item start items named
+names_end name item start items i at named over u =
+    let none = drop_all items i over in
+    record {
+      names = sym (append-nil (names_in named)) ∙ ap (λ ys. names_in named ++ map name ys) (sym none) ∙ u.names;
+      offsets = sym (append-nil (offsets_in named)) ∙ ap (λ ys. offsets_in named ++ offsets_from item at ys) (sym none) ∙ u.offsets;
+    }

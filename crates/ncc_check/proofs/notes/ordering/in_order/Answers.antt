@@ -1,0 +1,12 @@
+use Rattle.std.proofs.Common.{◌∙◌, ap, rules}
+use Rattle.std.specs.List.Sorted.{IsNonDecreasingBy}
+use Rattle.std.proofs.lemmas.List.Sorted.{IsNonDecreasingBy-from_sort_by_key}
+use Rattle.ncc_check.specs.Noting.{distinct_from, key_of}
+use Rattle.ncc_check.proofs.Ordering.{same_in_order}
+use Rattle.ncc_check.proofs.notes.ordering.in_order.Goals as goal
+
+pub returns : goal.returns
+returns c =
+    let ns = c.sort_unstable_by_key.new.self.items in
+    let order : IsNonDecreasingBy key_of ns = IsNonDecreasingBy-from_sort_by_key key_of ns c.sort_unstable_by_key.ensures.sorted (λ a r q k. search rules) in
+    same_in_order c.args.notes.items ns c.in_ok-ordered.ordered.items c.sort_unstable_by_key.ensures.permutation order (c.in_ok-ordered.ensures ∙ ap (distinct_from 0) c.as_slice.ensures.value)

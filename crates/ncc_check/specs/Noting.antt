@@ -1,0 +1,206 @@
+-- The notes of a header list by list, as they are found.
+use Rattle.std.specs.Prelude.{◌≡◌, ℕ, ◌+◌, ◌<◌, ◌-◌, ◌*◌, ◌%◌, ◌≢◌, ◌≤◌, ◌⊎◌, Bool, List, [], ◌∷◌, ◌++◌, length, map, drop, get_or, slice_get, Some, Contains, if◌then◌else◌, nat_le}
+use Rattle.std.specs.Borrow.{Bor}
+use Rattle.ncc_values.specs.Name.{FitsAsName}
+use Rattle.ncc_values.specs.Version.{count_width_of}
+use Rattle.ncc_values.specs.declared.version.Version.{Version}
+use Rattle.ncc_schema.specs.declared.schema.Attr.{Attr}
+use Rattle.ncc_schema.specs.declared.schema.Dim.{Dim}
+use Rattle.ncc_schema.specs.declared.schema.Header.{Header}
+use Rattle.ncc_schema.specs.declared.schema.Mark.{Mark}
+use Rattle.ncc_schema.specs.declared.schema.Mark.TheVariants as marks
+use Rattle.ncc_schema.specs.declared.schema.Schema.{Schema}
+use Rattle.ncc_schema.specs.declared.schema.Var.{Var}
+use Rattle.ncc_schema.specs.declared.schema.VarPlace.{VarPlace}
+use Rattle.ncc_schema.specs.Header.{canon_name, canon_dim, canon_attr}
+use Rattle.ncc_schema.specs.Names.{capped, attrs_in, canon_unplaced, gatts_at, head_size, list_size, vars_at}
+use Rattle.ncc_schema.specs.Schema.{count_limit, lengths}
+use Rattle.ncc_layout.specs.Sizes.{is_record_var}
+use Rattle.ncc_layout.specs.Standard.{vsize_word}
+use Rattle.ncc_check.specs.declared.note.Note.{Note}
+use Rattle.ncc_check.specs.declared.note.NoteKind.{NoteKind}
+use Rattle.ncc_check.specs.declared.note.NoteKind.TheVariants.{VsizeField, HeaderPadding, TaggedEmpty, NameRule, DuplicateName, UnalignedBegin, Order, LargeCount}
+use Rattle.ncc_check.specs.declared.notes.named.Named.{Named}
+use Rattle.ncc_check.specs.declared.notes.placing.Greatest.{Greatest}
+use Rattle.ncc_check.specs.Notes.{HasLargeCount, numrecs_at, rank, AreInOrder, vsizes}
+use Rattle.ncc_layout.specs.Placed.{begin_field}
+
+-- ---- notes that join others
+
+-- these notes join the old ones, and no others
+pub record Adds (P : Note → Type 0) (old new : List Note) : Type 0 where
+  pub kept : (n : Note) → Contains old n → Contains new n
+  pub due : (n : Note) → Contains new n → Contains old n ⊎ P n
+  pub all : (n : Note) → P n → Contains new n
+
+-- this note, where it is due
+pub record NoteIf (due : Type 0) (kind : NoteKind) (offset : ℕ) (n : Note) : Type 0 where
+  pub is_due : due
+  pub is : n ≡ record { kind = kind; offset = offset }
+
+-- those of the items with a number below this one
+abbrev pub Below : (ℕ → Note → Type 0) → ℕ → Note → Type 0
+Below P i n = (k : ℕ) × (k < i) × P k n
+
+-- ---- a list of names
+
+abbrev pub names_in : List Named → List (List ℕ)
+names_in xs = map (λ x. x.name.now) xs
+
+abbrev pub offsets_in : List Named → List ℕ
+offsets_in xs = map (λ x. x.at) xs
+
+-- where the items of a list stand, from the first one's offset on
+abbrev pub offsets_from : {A : Type 0} → (A → List ℕ) → (at : ℕ) → List A → List ℕ
+offsets_from item at [] = []
+offsets_from item at (x ∷ xs) = at ∷ offsets_from item (capped (at + length (item x))) xs
+
+-- the names of these items, with their offsets
+pub record Names {A : Type 0} (name item : A → List ℕ) (at : ℕ) (items : List A) (named : List Named) : Type 0 where
+  pub names : names_in named ≡ map name items
+  pub offsets : offsets_in named ≡ offsets_from item at items
+
+-- the first names, and the offset of the next item
+pub record NamesUpTo {A : Type 0} (name item : A → List ℕ) (start : ℕ) (items : List A) (i at : ℕ) (named : List Named) : Type 0 where
+  pub names : names_in named ++ map name (drop i items) ≡ map name items
+  pub offsets : offsets_in named ++ offsets_from item at (drop i items) ≡ offsets_from item start items
+
+abbrev pub BadName : (names : List (List ℕ)) (offsets : List ℕ) → ℕ → Note → Type 0
+BadName names offsets k n = NoteIf (¬ FitsAsName (get_or names k [])) NameRule (get_or offsets k 0) n
+
+abbrev pub IsRepeated : (names : List (List ℕ)) → ℕ → List ℕ → Type 0
+IsRepeated names k name = (j : ℕ) × (j < k) × (get_or names j [] ≡ name)
+
+abbrev pub Repeated : (names : List (List ℕ)) (offsets : List ℕ) → ℕ → Note → Type 0
+Repeated names offsets k n = NoteIf (IsRepeated names k (get_or names k [])) DuplicateName (get_or offsets k 0) n
+
+-- the notes of a list of names
+abbrev pub NameNotes : (names : List (List ℕ)) (offsets : List ℕ) → Note → Type 0
+NameNotes names offsets n = Below (BadName names offsets) (length names) n ⊎ Below (Repeated names offsets) (length names) n
+
+-- ---- the lists of names of a header
+
+abbrev pub DimNames : Schema → List Named → Type 0
+DimNames s named = Names (λ d. d.name) (canon_dim s.version) (capped (head_size s.version + list_size s.version)) s.dims named
+
+-- the names of attributes from this offset on
+abbrev pub AttrNotes : Version → (at : ℕ) → List Attr → Note → Type 0
+AttrNotes v at attrs n = NameNotes (map (λ a. a.name) attrs) (offsets_from (canon_attr v) at attrs) n
+
+abbrev pub GlobalNotes : Schema → Note → Type 0
+GlobalNotes s n = AttrNotes s.version (capped (gatts_at s + list_size s.version)) s.gatts n
+
+-- where the variables stand
+abbrev pub var_offsets : Schema → List ℕ
+var_offsets s = offsets_from (canon_unplaced s.version) (capped (vars_at s + list_size s.version)) s.vars
+
+abbrev pub VarNotes : Schema → Note → Type 0
+VarNotes s n = NameNotes (map (λ x. x.name) s.vars) (var_offsets s) n
+
+-- the attributes of a variable that stands at this offset
+abbrev pub VarAttrNotes : Version → (offset : ℕ) → Var → Note → Type 0
+VarAttrNotes v offset x n = AttrNotes v (capped (offset + attrs_in v x)) x.attrs n
+
+-- the attributes of the variable of this number
+abbrev pub AttrNotesAt : Version → List Var → (offsets : List ℕ) → (number : ℕ) → Note → Type 0
+AttrNotesAt v vars offsets k n = (x : Var) × (slice_get vars k ≡ Some x) × VarAttrNotes v (get_or offsets k 0) x n
+
+-- ---- numbers
+
+abbrev pub LargeLength : Version → List Dim → (names : List (List ℕ)) (offsets : List ℕ) → ℕ → Note → Type 0
+LargeLength v dims names offsets k n =
+    NoteIf (count_limit v ≤ get_or (lengths dims) k 0) LargeCount (capped (get_or offsets k 0 + length (canon_name v (get_or names k [])))) n
+
+abbrev pub dim_names : List Dim → List (List ℕ)
+dim_names dims = map (λ d. d.name) dims
+
+abbrev pub dim_offsets : Schema → List ℕ
+dim_offsets s = offsets_from (canon_dim s.version) (capped (head_size s.version + list_size s.version)) s.dims
+
+-- the notes on dimensions
+abbrev pub DimNotes : Schema → Note → Type 0
+DimNotes s n =
+    NameNotes (dim_names s.dims) (dim_offsets s) n
+    ⊎ Below (LargeLength s.version s.dims (dim_names s.dims) (dim_offsets s)) (length s.dims) n
+
+abbrev pub CountNote : Schema → Note → Type 0
+CountNote s n = NoteIf (HasLargeCount s s.count) LargeCount numrecs_at n
+
+-- ---- marks
+
+abbrev pub note_of_mark : Mark → Note
+note_of_mark (marks.Padding offset) = record { kind = HeaderPadding; offset = offset }
+note_of_mark (marks.TaggedEmpty offset) = record { kind = TaggedEmpty; offset = offset }
+
+abbrev pub MarkNote : List Mark → ℕ → Note → Type 0
+MarkNote ms k n = get_or (map note_of_mark ms) k n ≡ n
+
+-- ---- places
+
+abbrev pub begins_of : List VarPlace → List ℕ
+begins_of places = map (λ p. p.begin) places
+
+-- is each variable a record variable
+abbrev pub kinds_of : Schema → List Bool
+kinds_of s = map (is_record_var s.dims) s.vars
+
+-- an earlier one of the same kind begins later
+abbrev pub IsSwapped : (kinds : List Bool) → List VarPlace → ℕ → Type 0
+IsSwapped kinds places k =
+    (j : ℕ) × (j < k) × (slice_get kinds j ≡ slice_get kinds k) × (get_or (begins_of places) k 0 < get_or (begins_of places) j 0)
+
+abbrev pub PlaceNotes : Version → VarPlace → (rounded greatest : ℕ) → Note → Type 0
+PlaceNotes v p r g n =
+    NoteIf (p.vsize ≢ vsize_word v r) VsizeField (p.begin_at - count_width_of v) n
+    ⊎ (NoteIf (p.begin % 4 ≢ 0) UnalignedBegin p.begin_at n ⊎ NoteIf (p.begin < g) Order p.begin_at n)
+
+-- the notes on the place of this variable
+abbrev pub PlaceNotesAt : Version → (kinds : List Bool) → (sizes : List ℕ) → List VarPlace → (number : ℕ) → Note → Type 0
+PlaceNotesAt v kinds sizes places k n =
+    NoteIf (get_or (vsizes places) k 0 ≢ vsize_word v (get_or sizes k 0)) VsizeField (begin_field places k - count_width_of v) n
+    ⊎ (NoteIf (get_or (begins_of places) k 0 % 4 ≢ 0) UnalignedBegin (begin_field places k) n
+    ⊎ NoteIf (IsSwapped kinds places k) Order (begin_field places k) n)
+
+abbrev pub greatest_of : Greatest → Bool → ℕ
+greatest_of g is_record = if is_record then g.records else g.fixed
+
+-- the greatest begin of a kind among the first variables, 0 where there is none
+pub record IsGreatest (kinds : List Bool) (places : List VarPlace) (i : ℕ) (kind : Bool) (greatest : ℕ) : Type 0 where
+  pub bound : (k : ℕ) → k < i → slice_get kinds k ≡ Some kind → get_or (begins_of places) k 0 ≤ greatest
+  pub met : (greatest ≡ 0) ⊎ ((k : ℕ) × (k < i) × (slice_get kinds k ≡ Some kind) × (get_or (begins_of places) k 0 ≡ greatest))
+
+-- ---- all notes of a header
+
+abbrev pub Found : Header → (sizes : List ℕ) → Note → Type 0
+Found h sizes n =
+    (Below (MarkNote h.marks) (length h.marks) n ⊎ CountNote h.schema n)
+    ⊎ ((DimNotes h.schema n ⊎ GlobalNotes h.schema n)
+    ⊎ ((VarNotes h.schema n ⊎ Below (AttrNotesAt h.schema.version h.schema.vars (var_offsets h.schema)) (length h.schema.vars) n)
+    ⊎ Below (PlaceNotesAt h.schema.version (kinds_of h.schema) sizes h.places) (length h.places) n))
+
+-- ---- order
+
+-- a number that orders notes
+abbrev pub key_of : Note → ℕ
+key_of n = n.offset * 16 + rank n.kind
+
+-- the same notes, each once, in their order
+pub record SameInOrder (notes ordered : List Note) : Type 0 where
+  pub from : (n : Note) → Contains ordered n → Contains notes n
+  pub all : (n : Note) → Contains notes n → Contains ordered n
+  pub in_order : AreInOrder ordered
+
+-- of notes in the order of their keys, each at its first place, from this key on
+abbrev pub distinct_from : (next : ℕ) → List Note → List Note
+distinct_from next [] = []
+distinct_from next (n ∷ ns) = if nat_le next (key_of n) then n ∷ distinct_from (key_of n + 1) ns else distinct_from next ns
+
+-- ---- a table of names
+
+abbrev pub texts_of : List (Bor (List ℕ)) → List (List ℕ)
+texts_of keys = map (λ k. k.now) keys
+
+-- the keys are the first names
+pub record Seen (names : List (List ℕ)) (i : ℕ) (keys : List (Bor (List ℕ))) : Type 0 where
+  pub in_table : (name : List ℕ) → IsRepeated names i name → Contains (texts_of keys) name
+  pub from_names : (name : List ℕ) → Contains (texts_of keys) name → IsRepeated names i name
