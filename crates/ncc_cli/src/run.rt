@@ -1,9 +1,10 @@
 //! The command line.
 
-ghost use Rattle.std.specs.Prelude.{◌≡◌, ◌≢◌, ◌≤◌, [], List, ℕ, IfSome};
+ghost use Rattle.std.specs.Prelude.{◌≡◌, ◌≢◌, ◌≤◌, ◌⊎◌, [], List, ℕ, IfSome};
 ghost use Rattle.std.specs.Io.Buffered.{writer_buffer};
 ghost use Rattle.clap.specs.Values.{kind_of};
-ghost use Rattle.ncc_schema.specs.Device.{Puts};
+ghost use Rattle.ncc_values.specs.Failures.{Rose};
+ghost use Rattle.ncc_schema.specs.Device.{LosesAtMost, Puts};
 ghost use Rattle.ncc_cli.specs.Listing.{Lists};
 ghost use Rattle.ncc_cli.specs.Status.{status_of, Explains, Flushes};
 
@@ -11,10 +12,10 @@ use crate::answer::Answer;
 use crate::list::listing::list_engine;
 use clap::error::ErrorKind;
 use clap::{Arg, ArgAction, Command, Error};
-use ncc_header::{ReadSource, WriteSink};
+use ncc_header::{ReadSource, Sink, Source, WriteSink};
 use std::alloc::{AllocError, Global};
 use std::fs;
-use std::io::{BufReader, BufWriter, Read, Write};
+use std::io::{BufReader, BufWriter, Write};
 use std::rt::Files;
 
 /// How long a header may be, in bytes.
@@ -99,15 +100,17 @@ fn flushed<W: Write + Drop>(writer: &mut BufWriter<W>, answer: Answer) -> Answer
     }
 }
 
-/// Lists what a reader gives, onto a writer.
-fn listed<I: Read + Drop, O: Write>(alloc: Global, reader: I, writer: O) -> (Answer, O)
-    ensures lists { IfSome (I.remaining reader) (λ input. (out : List ℕ)
-        × Puts (O.contents writer) (O.contents result.1) out × Lists input LIMIT result.0 out) }
+/// Lists a source onto a sink, with the program's limit.
+fn listed<R: Source, W: Sink>(alloc: Global, source: &mut R, sink: &mut W) -> Answer
+    ensures lists { IfSome (R.left source.old) (λ input. (out : List ℕ)
+        × Puts (W.put sink.old) (W.put sink.new) out × Lists input LIMIT result out) }
+    ensures most { LosesAtMost (R.left source.old) (R.left source.new) LIMIT }
+    ensures quiet { (result ≡ Answer.Device → ⊥)
+        → (R.failures source.new ≡ R.failures source.old) × (W.failures sink.new ≡ W.failures sink.old) }
+    ensures device { result ≡ Answer.Device
+        → Rose (R.failures source.old) (R.failures source.new) ⊎ Rose (W.failures sink.old) (W.failures sink.new) }
 {
-    let mut source = ReadSource::new(reader);
-    let mut sink = WriteSink::new(writer);
-    let answer = list_engine(alloc, &mut source, LIMIT, &mut sink);
-    (answer, sink.into_inner())
+    list_engine(alloc, source, LIMIT, sink)
 }
 
 fn list<R: Files + AllocGlobal, O: Write>(rt: &R, path: &str, out: &mut O) -> Answer {
@@ -120,7 +123,10 @@ fn list<R: Files + AllocGlobal, O: Write>(rt: &R, path: &str, out: &mut O) -> An
     let Ok(writer) = BufWriter::new(rt.alloc(), out) else {
         return Answer::Memory;
     };
-    let (answer, mut writer) = listed(rt.alloc(), reader, writer);
+    let mut source = ReadSource::new(reader);
+    let mut sink = WriteSink::new(writer);
+    let answer = listed(rt.alloc(), &mut source, &mut sink);
+    let mut writer = sink.into_inner();
     flushed(&mut writer, answer)
 }
 

@@ -2,7 +2,7 @@
 
 ghost use Rattle.std.specs.Prelude.{◌≡◌, ◌≤◌, ◌<◌, ℕ, List, [], length, Err, IfSome, IfOk, IfErr, OnOk};
 ghost use Rattle.ncc_schema.specs.Device.{LosesAtMost};
-ghost use Rattle.ncc_header.specs.Answers.{AnswersOf, CountsAs, IsLeft};
+ghost use Rattle.ncc_header.specs.Answers.{Begins, AnswersOf, CountsAs, IsLeft};
 ghost use Rattle.ncc_header.specs.Decoder.{Took, HasFailed, limit_of};
 ghost use Rattle.ncc_header.specs.FromSource.{HasFed, FailsFeeding, HasRead, IsOver};
 
@@ -66,8 +66,8 @@ fn read_wanted<R: Source>(
 }
 
 /// Reads the header at the front of a source, of at most `limit` bytes. Where there is one, exactly
-/// its bytes are read: a source is asked for no byte more than the next field lacks. Whatever the
-/// answer, no byte past the limit is read.
+/// its bytes are read: a source is asked for no byte more than the next field lacks. Of a source that
+/// tells its bytes no byte past the limit is read, whatever the answer.
 pub fn read_header<R: Source>(
     alloc: Global,
     source: &mut R,
@@ -75,6 +75,7 @@ pub fn read_header<R: Source>(
 ) -> Result<Header, HeaderError>
     ensures answers { IfSome (R.left source.old) (λ input. AnswersOf input limit result) }
     ensures exactly { IfSome (R.left source.old) (λ input. IfOk result (λ h. IsLeft (R.left source.new) input h)) }
+    ensures real { IfOk result (λ h. (bytes : List ℕ) × Begins bytes limit h) }
     ensures most { LosesAtMost (R.left source.old) (R.left source.new) limit }
     ensures few { IfSome (R.left source.old) (λ input. length input ≤ 8 → result ≡ Err HeaderError.Memory → ⊥) }
     ensures count { CountsAs (R.failures source.old) (R.failures source.new) result }

@@ -3,13 +3,14 @@ use Rattle.std.proofs.Common.{◌≡◌, ℕ, zero, suc, ◌+◌, ◌≤◌, Boo
 use Rattle.std.specs.List.{AllByRecursion-prop}
 use Rattle.std.proofs.Math.Logic.{∥∥₁_elim}
 use Rattle.std.proofs.Props.{props}
+use Rattle.ncc_values.specs.XType.{size_of}
 use Rattle.ncc_layout.specs.declared.extent.Extent.{Extent}
 use Rattle.ncc_layout.specs.declared.placed_var.PlacedVar.{PlacedVar}
 use Rattle.ncc_layout.specs.declared.placed_file.Placed.{Placed}
 use Rattle.ncc_layout.specs.Sizes.{up, room}
 use Rattle.ncc_layout.specs.Extents.{NumberedFrom, end, fixed_of, records_of}
 use Rattle.ncc_layout.specs.Rules.{ByKind, PastHeader, EndsBy, InWindow, BeforeRecords, LastWithin, Within, AllApart, Rules}
-use Rattle.ncc_layout.specs.Elements.{Element, Owns, AreLaid, AreSized, Own}
+use Rattle.ncc_layout.specs.Elements.{Element, Owns, IsShaped, HasShape, AreLaid, AreSized, Own}
 use Rattle.ncc_layout.specs.Placed.{header_length_of, file_length_of, record_size_of_file, records_of_file, vars_of, extents_of_file, KeepsRules}
 use Rattle.ncc_layout.proofs.Membership.{in_from_contains}
 use Rattle.ncc_layout.proofs.Own.{own, one_numbered}
@@ -40,6 +41,11 @@ numbered-prop n [] = hlevel props
 numbered-prop n (e ∷ es) =
     let rest : IsProp (NumberedFrom (suc n) es) = numbered-prop (suc n) es in
     hlevel (props, rest)
+
+shape-prop : (records size slab : ℕ) (b : Bool) (ls : List ℕ) → IsProp (IsShaped records size slab b ls)
+shape-prop records size slab true [] = hlevel props
+shape-prop records size slab true (n ∷ ls) = hlevel props
+shape-prop records size slab false ls = hlevel props
 
 module _ (p : Placed) where
   abbrev Laid : Type 0
@@ -98,4 +104,9 @@ module _ (p : Placed) where
   }
 
   pub keeps_rules : KeepsRules p
-  keeps_rules = record { rules = all_rules; sized = sizes_are }
+  keeps_rules = record {
+    shaped = ∥∥₁_elim p.laid (AllByRecursion-prop (HasShape p.records) (λ (x : PlacedVar). shape-prop p.records (size_of x.xtype) x.extent.slab x.extent.is_record x.shape) (vars_of p)) (λ laid. laid.shaped);
+    numbered = numbered;
+    rules = all_rules;
+    sized = sizes_are;
+  }

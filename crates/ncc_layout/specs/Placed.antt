@@ -1,5 +1,6 @@
 -- What a placed file holds.
 use Rattle.std.specs.Prelude.{◌≡◌, ℕ, ◌+◌, ◌<◌, List, map, length, get_or, Result, Ok, Err}
+use Rattle.std.specs.List.{AllByRecursion}
 use Rattle.ncc_schema.specs.declared.schema.Count.TheVariants.{Known}
 use Rattle.ncc_schema.specs.declared.schema.Schema.{Schema}
 use Rattle.ncc_schema.specs.declared.schema.VarPlace.{VarPlace}
@@ -12,8 +13,8 @@ use Rattle.ncc_layout.specs.declared.judging.Frame.{Frame}
 use Rattle.ncc_layout.specs.declared.placed_var.PlacedVar.{PlacedVar}
 use Rattle.ncc_layout.specs.declared.placed_file.Placed.{Placed}
 use Rattle.ncc_layout.specs.Sizes.{record_size_of}
-use Rattle.ncc_layout.specs.Extents.{record_count}
-use Rattle.ncc_layout.specs.Elements.{var_at, placed_vars, with_records, AreLaid, AreSized, LiesInFile}
+use Rattle.ncc_layout.specs.Extents.{NumberedFrom, record_count}
+use Rattle.ncc_layout.specs.Elements.{var_at, HasShape, placed_vars, with_records, AreLaid, AreSized, LiesInFile}
 use Rattle.ncc_layout.specs.Rules.{Rules, IsPlaced}
 use Rattle.ncc_layout.specs.Faults.{FirstFault}
 
@@ -41,8 +42,10 @@ extents_of_file p = map (λ x. x.extent) (vars_of p)
 abbrev pub IsInFile : Placed → (number place : ℕ) → Type 0
 IsInFile p n place = LiesInFile (header_length_of p) (file_length_of p) (var_at (vars_of p) n) place
 
--- all rules hold, and the sizes are those of its variables
+-- variables of such shapes, numbered in their order, keep all rules, and the sizes are theirs
 pub record KeepsRules (p : Placed) : Type 0 where
+  pub shaped : AllByRecursion (HasShape (records_of_file p)) (vars_of p)
+  pub numbered : NumberedFrom 0 (extents_of_file p)
   pub rules :
       Rules (header_length_of p) (file_length_of p) (record_size_of_file p) (records_of_file p) (extents_of_file p)
   pub sized : AreSized (record_size_of_file p) (vars_of p)

@@ -13,20 +13,20 @@ use Rattle.ncc_layout.specs.Sizes.{up, rounded, record_sum, record_size_of, room
 use Rattle.ncc_layout.specs.declared.extent.Extent.{Extent}
 use Rattle.ncc_layout.specs.Extents.{fixed_of, records_of}
 
--- ---- the word for a size
+-- ---- vsize
 
--- the greatest size that a word of four bytes tells, in CDF-1 and CDF-2 ("Note on vsize")
+-- the greatest size that four bytes tell, in CDF-1 and CDF-2 ("Note on vsize")
 abbrev pub most_vsize : ℕ
 most_vsize = 2 ^ 32 - 4
 
--- the word of four bytes for each size past that ("Note on vsize")
+-- the vsize of four bytes for each size past that ("Note on vsize")
 abbrev pub past_vsize : ℕ
 past_vsize = 2 ^ 32 - 1
 
 abbrev pub short_word : (rounded : ℕ) → ℕ
 short_word n = if ltb most_vsize n then past_vsize else n
 
--- the word for a variable of this rounded size
+-- the vsize of a variable of this rounded size
 abbrev pub vsize_word : Version → (rounded : ℕ) → ℕ
 vsize_word V1 n = short_word n
 vsize_word V2 n = short_word n
@@ -106,6 +106,6 @@ AreAligned es = AllByRecursion (λ e. e.begin % 4 ≡ 0) es
 
 -- ---- one record more
 
--- the number of records after these, where that isn't the mark of a file that is still written
+-- the number of records after these, where that isn't the streaming mark
 abbrev pub next_count : Version → ℕ → Option ℕ
 next_count v n = if ltb (n + 1) (streaming_mark v) then Some (n + 1) else None

@@ -1,6 +1,6 @@
 //! What the layout rules say of elements and of faults, whatever program judges them.
 
-ghost use Rattle.std.specs.Prelude.{◌≡◌, ℕ, ◌+◌, ◌%◌, ◌<◌, ◌↔◌, List, Contains, IsPermutation};
+ghost use Rattle.std.specs.Prelude.{◌≡◌, ℕ, ◌+◌, ◌<◌, ◌↔◌, List, Contains, IsPermutation};
 ghost use Rattle.std.specs.List.{AllByRecursion};
 ghost use Rattle.ncc_schema.specs.declared.schema.Count.TheVariants.{Known};
 ghost use Rattle.ncc_schema.specs.declared.schema.Schema.{Schema};
@@ -17,6 +17,8 @@ ghost use Rattle.ncc_layout.specs.Faults.{FirstShared, InOrder, FirstInside, Fir
 ghost use Rattle.ncc_layout.specs.Elements.{row_major, placed_vars, Inside, HasShape, LiesInSlab, Own};
 ghost use Rattle.ncc_layout.specs.Standard.{standard_places, file_length, FitsVersion, ArePacked, AreInTurn, AreAligned};
 ghost use Rattle.ncc_layout.specs.Placed.{header_length_of, file_length_of, record_size_of_file, vars_of, KeepsRules, Holds, HasRoom, HasOneMore, with_count};
+
+use ncc_schema::laws::header_is_aligned;
 
 /// Index lists inside a shape have different row-major numbers.
 pub fn indices_have_numbers_of_their_own()
@@ -92,10 +94,12 @@ pub fn standard_places_are_in_turn()
     ensures { (s : Schema) → AreInTurn (extents_of s (standard_places s)) }
 {}
 
-/// In a standard placement all variables begin at multiples of four, where the header ends at one.
+/// In a standard placement all variables begin at multiples of four.
 pub fn standard_places_are_aligned()
-    ensures { (s : Schema) → header_length s % 4 ≡ 0 → AreAligned (extents_of s (standard_places s)) }
-{}
+    ensures { (s : Schema) → AreAligned (extents_of s (standard_places s)) }
+{
+    header_is_aligned();
+}
 
 /// A placed file has room for one record more where a file of this length has it by its schema.
 pub fn room_for_one_more()

@@ -1,4 +1,4 @@
-//! The word for a variable's size.
+//! The vsize of a variable.
 
 ghost use Rattle.std.specs.Prelude.{◌≡◌};
 ghost use Rattle.ncc_layout.specs.Standard.{short_word, vsize_word};
@@ -22,7 +22,7 @@ fn short_word(rounded: u64) -> u64
     }
 }
 
-/// The word for a variable of this padded size.
+/// The vsize of a variable of this padded size.
 pub fn vsize_word(version: Version, rounded: u64) -> u64
     ensures { result ≡ vsize_word version rounded }
 {

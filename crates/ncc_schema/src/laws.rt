@@ -1,6 +1,6 @@
 //! Laws of the canonical spelling, each the contract of a function that does nothing.
 
-ghost use Rattle.std.specs.Prelude.{◌≡◌, ℕ, List, length, slice_get, Some};
+ghost use Rattle.std.specs.Prelude.{◌≡◌, ◌%◌, ℕ, List, length, slice_get, Some};
 ghost use Rattle.ncc_values.specs.Numbers.{big_endian};
 ghost use Rattle.ncc_values.specs.Version.{offset_width_of};
 ghost use Rattle.ncc_schema.specs.declared.schema.Schema.{Schema};
@@ -31,6 +31,11 @@ pub fn name_is_there()
 pub fn one_length()
     ensures { (s : Schema) (places : List Place) → length places ≡ length s.vars
         → length (canon s places) ≡ header_length s }
+{}
+
+/// A canonical header is a multiple of four bytes long.
+pub fn header_is_aligned()
+    ensures { (s : Schema) → header_length s % 4 ≡ 0 }
 {}
 
 /// Where the begin field of a variable is told to stand, its begin stands.

@@ -1,6 +1,6 @@
 -- A store that passes some calls to another, and then fails each.
-use Rattle.std.specs.Prelude.{◌≡◌, ℕ, ◌+◌, ◌-◌, ◌<◌, min, List, [], length, take, nat_le, if◌then◌else◌, Result, IsErr}
-use Rattle.ncc_values.specs.Failures.{last_count, Counts}
+use Rattle.std.specs.Prelude.{◌≡◌, ℕ, ◌-◌, ◌<◌, List, [], length, take, nat_le, if◌then◌else◌, Result, IsErr}
+use Rattle.ncc_values.specs.Failures.{joint_count, Counts}
 use Rattle.ncc_store.specs.declared.fuse.FuseStore.{FuseStore}
 
 abbrev pub fuse_inner : {S : Type 0} → FuseStore S → S
@@ -16,7 +16,7 @@ fuse_front f = f.front
 
 -- its own failures, and those of the store below
 abbrev pub fuse_failures : {S : Type 0} → (S → ℕ) → FuseStore S → ℕ
-fuse_failures failures f = min last_count (f.failures + failures f.inner)
+fuse_failures failures f = joint_count f.failures (failures f.inner)
 
 -- what a failed write of a piece does
 abbrev pub failed_front : (front : ℕ) → (piece : List ℕ) → List ℕ

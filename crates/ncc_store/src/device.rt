@@ -1,8 +1,9 @@
 //! What a store says of a call that failed, and how it counts it.
 
-ghost use Rattle.std.specs.Prelude.{◌≤◌};
+ghost use Rattle.std.specs.Prelude.{◌+◌, ◌≤◌};
 ghost use Rattle.ncc_values.specs.Failures.{last_count, Rose};
 
+use ncc_values::count_failure;
 use thiserror::Error;
 
 /// A call of a store that failed.
@@ -13,8 +14,9 @@ pub struct Device;
 /// Counts a failure.
 pub(crate) fn fail(failures: &mut u64) -> Device
     ensures rose { Rose failures.old failures.new }
+    ensures once { failures.new ≤ failures.old + 1 }
     ensures end { failures.new ≤ last_count }
 {
-    *failures = failures.saturating_add(1);
+    count_failure(failures);
     Device
 }

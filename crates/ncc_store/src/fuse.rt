@@ -81,7 +81,7 @@ impl<S: Store> FuseStore<S> {
 
 impl<S: Store> Store for FuseStore<S> {
     ghost use Rattle.ncc_store.specs.Fuse.{fuse_inner, fuse_left, fuse_front, fuse_failures, failed_front, Burns};
-    ghost use Rattle.ncc_store.specs.StoreLaws.{min_at_most};
+    ghost use Rattle.ncc_values.specs.FailureLaws.{joint_count_ends};
 
     ghost tells_bytes = { S.tells_bytes };
 
@@ -105,7 +105,7 @@ impl<S: Store> Store for FuseStore<S> {
 
     ghost only_now = { λ f. S.only_now (fuse_inner f) };
 
-    ghost at_most_last = { λ f. min_at_most last_count _ };
+    ghost at_most_last = { λ f. joint_count_ends _ _ };
 
     fn len(&mut self) -> Result<u64, Device>
         ensures told { IsTrue S.tells_bytes → IfOk result (λ n. n ≡ length (S.bytes (fuse_inner self.old))) }

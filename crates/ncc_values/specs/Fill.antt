@@ -1,4 +1,4 @@
--- Default fill values (NetCDF Classic Format Specification, "Note on fill values").
+-- Default fill values (NetCDF Classic Format Specification, "The Format in Detail", FILL_BYTE and its kin; "Note on fill values").
 use Rattle.std.specs.Prelude.{ℕ, List, [], ◌∷◌}
 use Rattle.ncc_values.specs.declared.xtype.XType.{XType}
 use Rattle.ncc_values.specs.declared.xtype.XType.TheVariants.{Byte, Char, Short, Int, Float, Double, UByte, UShort, UInt, Int64, UInt64}

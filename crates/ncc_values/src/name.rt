@@ -7,7 +7,7 @@ use std::alloc::{AllocError, Global};
 use unicode_normalization::is_nfc;
 
 /// Whether the bytes fit as a name: UTF-8 in the normal form NFC, of at least one character, the
-/// first a letter, a digit, an underscore or past ASCII, none a control or a slash, and the last no
+/// first a letter, a digit, an underscore or past ASCII, none an ASCII control or a slash, the last no
 /// space. On ASCII it allocates nothing.
 pub fn name_fits(alloc: Global, name: &[u8]) -> Result<bool, AllocError>
     ensures fits { IfOk result (λ fits. IsTrue fits ↔ FitsAsName name.now) }

@@ -3,6 +3,8 @@
 ghost use Rattle.std.specs.Prelude.{◌≡◌, ◌⊎◌, ℕ, List, IfSome};
 ghost use Rattle.ncc_schema.specs.Device.{LosesAtMost, Puts};
 ghost use Rattle.ncc_values.specs.Failures.{Rose};
+ghost use Rattle.ncc_schema.specs.declared.schema.Header.{Header as TheHeader};
+ghost use Rattle.ncc_header.specs.Answers.{Begins, IsLeft};
 ghost use Rattle.ncc_cli.specs.Texts.{list_text, fault_line};
 ghost use Rattle.ncc_cli.specs.Listing.{Lists, SendsAll, Blames, answer_of};
 
@@ -46,7 +48,8 @@ fn answered(sent: Result<(), Halt>, answer: Answer) -> Answer
 }
 
 /// Writes the lines of the header at the front of the source, of at most `limit` bytes, or the line
-/// of its fault. No byte past the limit is read.
+/// of its fault. Of a source that tells its bytes exactly the header is read where it passed, and no
+/// byte past the limit otherwise.
 pub fn list_engine<R: Source, W: Sink>(
     alloc: Global,
     source: &mut R,
@@ -55,6 +58,8 @@ pub fn list_engine<R: Source, W: Sink>(
 ) -> Answer
     ensures lists { IfSome (R.left source.old) (λ input. (out : List ℕ)
         × Puts (W.put sink.old) (W.put sink.new) out × Lists input limit result out) }
+    ensures exactly { result ≡ Answer.Passed → IfSome (R.left source.old) (λ input.
+        (h : TheHeader) × Begins input limit h × IsLeft (R.left source.new) input h) }
     ensures most { LosesAtMost (R.left source.old) (R.left source.new) limit }
     ensures quiet { (result ≡ Answer.Device → ⊥)
         → (R.failures source.new ≡ R.failures source.old) × (W.failures sink.new ≡ W.failures sink.old) }

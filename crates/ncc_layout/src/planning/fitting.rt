@@ -13,7 +13,7 @@ use crate::vsize::MOST_VSIZE;
 use ncc_schema::{Schema, VarPlace, is_record_var, limit_of_offsets};
 use ncc_values::Version;
 
-/// The greatest size that the word of a variable tells.
+/// The greatest size that a vsize tells.
 fn size_limit(version: Version) -> u64
     ensures { result ≡ size_limit version }
 {
