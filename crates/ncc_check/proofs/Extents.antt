@@ -4,10 +4,9 @@ use Rattle.std.specs.Prelude.{slice_get, Some, Contains}
 use Rattle.ncc_schema.specs.declared.schema.Dim.{Dim}
 use Rattle.ncc_schema.specs.declared.schema.Var.{Var}
 use Rattle.ncc_schema.specs.declared.schema.VarPlace.{VarPlace}
-use Rattle.ncc_schema.specs.Schema.{place_of, places_of}
+use Rattle.ncc_schema.specs.Schema.{place_of, places_of, is_record_var}
 use Rattle.ncc_layout.specs.declared.extent.Extent.{Extent}
 use Rattle.ncc_layout.specs.Extents.{extent_of, extents_from}
-use Rattle.ncc_layout.specs.Sizes.{is_record_var}
 use Rattle.ncc_check.specs.Noting.{begins_of}
 
 -- the extent of the variable of this number, counted from the first

@@ -12,7 +12,7 @@ use Rattle.ncc_schema.specs.declared.schema.Var.{Var}
 use Rattle.ncc_schema.specs.declared.schema.VarPlace.{VarPlace}
 use Rattle.ncc_schema.specs.Schema as spelled
 use Rattle.ncc_layout.specs.Placed.{begin_field}
-use Rattle.ncc_layout.specs.Sizes.{is_record_var, starts_with_record}
+use Rattle.ncc_schema.specs.Schema.{is_record_var, starts_with_record}
 use Rattle.ncc_layout.specs.Standard.{vsize_word}
 use Rattle.ncc_check.specs.declared.note.Note.{Note}
 use Rattle.ncc_check.specs.declared.note.NoteKind.{NoteKind}

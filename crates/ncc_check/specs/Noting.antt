@@ -14,8 +14,7 @@ use Rattle.ncc_schema.specs.declared.schema.Var.{Var}
 use Rattle.ncc_schema.specs.declared.schema.VarPlace.{VarPlace}
 use Rattle.ncc_schema.specs.Header.{canon_name, canon_dim, canon_attr}
 use Rattle.ncc_schema.specs.Names.{capped, attrs_in, canon_unplaced, gatts_at, head_size, list_size, vars_at}
-use Rattle.ncc_schema.specs.Schema.{count_limit, lengths}
-use Rattle.ncc_layout.specs.Sizes.{is_record_var}
+use Rattle.ncc_schema.specs.Schema.{count_limit, lengths, is_record_var}
 use Rattle.ncc_layout.specs.Standard.{vsize_word}
 use Rattle.ncc_check.specs.declared.note.Note.{Note}
 use Rattle.ncc_check.specs.declared.note.NoteKind.{NoteKind}

@@ -5,5 +5,3 @@
 mod header;
 #[cfg(test)]
 mod layout;
-#[cfg(test)]
-mod verdict;

@@ -1,4 +1,0 @@
-//! Whether a file passes, by its bytes.
-
-mod helpers;
-mod opened;
