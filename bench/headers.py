@@ -1,6 +1,6 @@
 #!/usr/bin/env python3
 """Writes files with large headers: `headers.py listed FOLDER` those of bench/list.sh, and `headers.py
-placed FOLDER` those of bench/place.sh."""
+checked FOLDER` those of bench/check.sh, each with its header less the last byte as NAME.cut."""
 
 import struct
 import sys
@@ -44,17 +44,17 @@ def header(attributes, variables):
 
 
 def scalars(count, attributes):
-    """A file of so many scalars of type byte, one behind the other."""
+    """The header of so many scalars of type byte, one behind the other, and their bytes."""
     length = len(header([], [variable(i, attributes, 0) for i in range(count)]))
     variables = [variable(i, attributes, length + 4 * i) for i in range(count)]
-    return header([], variables) + b"\0" * (4 * count)
+    return header([], variables), bytes(4 * count)
 
 
 def descending(count):
-    """A file of so many scalars of type byte, each one byte below the one before it."""
+    """The same, each one byte below the one before it."""
     length = len(header([], [variable(i, [], 0) for i in range(count)]))
     variables = [variable(i, [], length + count - 1 - i) for i in range(count)]
-    return header([], variables) + bytes(count)
+    return header([], variables), bytes(count)
 
 
 def listed_files():
@@ -63,20 +63,28 @@ def listed_files():
         "2000_variables_of_20_attributes": scalars(2000, twenty),
         "24000_variables": scalars(24000, []),
         "24000_variables_of_20_attributes": scalars(24000, twenty),
-        "one_attribute_of_60_MiB": header([attribute(b"text", b"a" * (60 << 20))], []),
+        "one_attribute_of_60_MiB": (header([attribute(b"text", b"a" * (60 << 20))], []), b""),
     }
 
 
-def placed_files():
-    """Files that ncdump doesn't take, since it wants the variables in order."""
-    return {f"{count}_variables_in_descending_order": descending(count) for count in (20000, 80000)}
+def checked_files():
+    """Also files that ncdump doesn't take, since it wants the variables in order."""
+    files = listed_files()
+    for count in (20000, 80000):
+        files[f"{count}_variables_in_descending_order"] = descending(count)
+    names = [attribute(b"attribute_%d" % i, b"") for i in range(100000)]
+    files["100000_attributes"] = (header(names, []), b"")
+    return files
 
 
 def main(which, folder):
-    files = {"listed": listed_files, "placed": placed_files}[which]()
-    for name, data in files.items():
+    files = {"listed": listed_files, "checked": checked_files}[which]()
+    for name, (head, data) in files.items():
         with open(f"{folder}/{name}.nc", "wb") as out:
-            out.write(data)
+            out.write(head + data)
+        if which == "checked":
+            with open(f"{folder}/{name}.cut", "wb") as out:
+                out.write(head[:-1])
 
 
 main(sys.argv[1], sys.argv[2])

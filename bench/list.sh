@@ -9,25 +9,7 @@ folder=$(mktemp -d)
 trap 'rm -rf "$folder"' EXIT
 python3 "$here/headers.py" listed "$folder"
 
-# The microseconds of one run.
-once() {
-    local begin end
-    begin=$(date +%s%N)
-    "$@" > /dev/null
-    end=$(date +%s%N)
-    echo $(((end - begin) / 1000))
-}
-
-# The lesser of two numbers, of which the first may be missing.
-lesser() {
-    if [ -z "$1" ] || [ "$2" -lt "$1" ]; then echo "$2"; else echo "$1"; fi
-}
-
-# The most memory of a run, in KiB.
-peak() {
-    /usr/bin/time -f %M -o "$folder/peak" "$@" > /dev/null
-    cat "$folder/peak"
-}
+. "$here/timing.sh"
 
 for file in "$folder"/*.nc; do
     listed=

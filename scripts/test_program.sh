@@ -55,11 +55,16 @@ cp "$top"/examples/*.nc .
 # ---- each example has the lines beside it; its status is 1 where that is a fault's line
 
 for file in *.nc; do
-  lines=$top/examples/${file%.nc}.expected
-  if grep -q '^fault ' "$lines"; then status=1; else status=0; fi
-  expect "list $file" "$status" "$(cat "$lines")" "" list "$file"
+  listed=$top/examples/${file%.nc}.listed
+  checked=$top/examples/${file%.nc}.checked
+  if grep -q '^fault ' "$listed"; then status=1; else status=0; fi
+  expect "list $file" "$status" "$(cat "$listed")" "" list "$file"
+  if grep -q '^fault ' "$checked"; then status=1; else status=0; fi
+  expect "check $file" "$status" "$(cat "$checked")" "" check "$file"
+  if grep -q '^note ' "$checked"; then status=1; fi
+  expect "check --strict $file" "$status" "$(cat "$checked")" "" check --strict "$file"
 done
-whole=$(wc -c < "$top/examples/ocean.expected")
+whole=$(wc -c < "$top/examples/ocean.listed")
 count "list writes its last newline" "$whole" "$("$ncc" list ocean.nc | wc -c | tr -d ' ')"
 
 # ---- statuses
@@ -68,13 +73,22 @@ expect "no such file" 3 "" "error device" list not_there.nc
 expect "a folder" 3 "" "error device" list .
 : > nothing.nc
 expect "an empty file" 1 "fault EndsEarly at 0" "" list nothing.nc
+expect "no such file to check" 3 "" "error device" check not_there.nc
+expect "a folder to check" 3 "" "error device" check .
+expect "an empty file to check" 1 "fault EndsEarly at 0" "" check nothing.nc
+expect "a header of the given limit" 0 "ok CDF-1 records 0 variables 0" "" check --max-header 32 empty.nc
+expect "a header past the given limit" 1 "fault HeaderTooLong at 28" "" check --max-header 31 empty.nc
 expect "version" 0 "ncc 0.1.0" "" --version
-expect_first "help" 0 "Lists the headers of netCDF classic files" "" --help
+expect_first "help" 0 "Checks and lists netCDF classic files" "" --help
 expect_first "help of list" 0 "Lists what the header of a file says" "" list --help
+expect_first "help of check" 0 "Says whether a file is sound, and what is unusual in it" "" check --help
 expect_first "help by a word" 0 "Lists what the header of a file says" "" help list
-expect_first "no word" 2 "" "Lists the headers of netCDF classic files"
+expect_first "no word" 2 "" "Checks and lists netCDF classic files"
 expect_first "no such command" 2 "" "error: unrecognized subcommand 'lst'" lst ocean.nc
 expect_first "no file" 2 "" "error: the following required arguments were not provided:" list
+expect_first "no file to check" 2 "" "error: the following required arguments were not provided:" check
+expect_first "a limit that is no number" 2 "" "error: invalid value 'x' for '--max-header <N>': invalid digit found in string" \
+  check --max-header x ocean.nc
 expect_first "two files" 2 "" "error: unexpected argument 'tiny.nc' found" list ocean.nc tiny.nc
 expect_first "no such option" 2 "" "error: unexpected argument '--all' found" list --all ocean.nc
 "$ncc" list --help > out
@@ -91,6 +105,8 @@ for file in ocean.nc bad_magic_1.nc; do
   count "list $file, full output" "3 error device" "$? $(cat err)"
   "$ncc" list "$file" >&- 2> err
   count "list $file, closed output" "3 error device" "$? $(cat err)"
+  "$ncc" check "$file" > /dev/full 2> err
+  count "check $file, full output" "3 error device" "$? $(cat err)"
 done
 "$ncc" list --help > /dev/full 2> err
 count "help, full output" "3 error device" "$? $(cat err)"
@@ -117,6 +133,10 @@ count "a header of 67,108,864 bytes" "0 67108864 $((67108864 - 48 + 57)) " \
   "$? $(wc -c < at_the_limit.nc | tr -d ' ') $(wc -c < out | tr -d ' ') $(cat err)"
 head_of $((67108864 - 44)) > past_the_limit.nc
 expect "a header of 67,108,868 bytes" 1 "fault HeaderTooLong at 67108864" "" list past_the_limit.nc
+expect "check of a header of 67,108,864 bytes" 0 "ok CDF-1 records 0 variables 0" "" check at_the_limit.nc
+expect "check of a header of 67,108,868 bytes" 1 "fault HeaderTooLong at 67108864" "" check past_the_limit.nc
+expect "check of it with a greater limit" 0 "ok CDF-1 records 0 variables 0" "" \
+  check --max-header 67108868 past_the_limit.nc
 
 echo "$passed passed, $failed failed"
 [ "$failed" = 0 ]

@@ -1,2 +1,3 @@
-pub mod SendingText
 pub mod Sent
+pub mod SentList
+pub mod SentVerdict

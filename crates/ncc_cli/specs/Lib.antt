@@ -1,4 +1,4 @@
-pub mod Words
-pub mod Texts
+pub mod Answers
 pub mod Listing
+pub mod Checking
 pub mod Status

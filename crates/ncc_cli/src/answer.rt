@@ -1,10 +1,9 @@
 //! What a command comes to.
 
 ghost use Rattle.std.specs.Prelude.{◌≡◌};
-ghost use Rattle.ncc_cli.specs.declared.answer.Halt.TheVariants.{Device, Memory};
+ghost use Rattle.ncc_cli.specs.Answers.{answer_of};
 
-use ncc_header::Failed;
-use std::alloc::{AllocError, AllocFailed};
+use ncc_lines::Halt;
 
 /// What a command came to, once its lines went out, or what kept them from it.
 #[derive(Clone, Copy, Debug, PartialEq, Eq)]
@@ -15,33 +14,13 @@ pub enum Answer {
     Memory,
 }
 
-/// What kept a text from going out.
-#[derive(Clone, Copy, Debug, PartialEq, Eq)]
-pub enum Halt {
-    Device,
-    Memory,
-}
-
-impl From<Failed> for Halt {
-    ghost from_gives = { λ _ e. e ≡ Device };
-
-    fn from(_e: Failed) -> Halt {
-        Halt::Device
-    }
-}
-
-impl From<AllocError> for Halt {
-    ghost from_gives = { λ _ e. e ≡ Memory };
-
-    fn from(_e: AllocError) -> Halt {
-        Halt::Memory
-    }
-}
-
-impl<T: Drop> From<AllocFailed<T>> for Halt {
-    ghost from_gives = { λ _ e. e ≡ Memory };
-
-    fn from(_e: AllocFailed<T>) -> Halt {
-        Halt::Memory
+/// This answer, where the text went out.
+pub fn answered(sent: Result<(), Halt>, answer: Answer) -> Answer
+    ensures { result ≡ answer_of sent answer }
+{
+    match sent {
+        Ok(()) => answer,
+        Err(Halt::Device) => Answer::Device,
+        Err(Halt::Memory) => Answer::Memory,
     }
 }

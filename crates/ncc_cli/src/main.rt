@@ -1,15 +1,14 @@
-//! `ncc`: lists netCDF classic files.
+//! `ncc`: checks and lists netCDF classic files.
 #![tactic(auto)]
 
 mod answer;
-mod escape;
-mod lines;
-mod list;
-mod page;
+mod checking;
+mod commands;
+mod finishing;
+mod listing;
 mod run;
 #[cfg(test)]
 mod tests;
-mod values;
 
 use answer::Answer;
 use std::io::ErrorKind;
@@ -25,9 +24,9 @@ fn main(rt: HostRuntime) -> ExitCode {
     let status = match command_line(&rt) {
         Ok(line) => run::run(&rt, &line, &mut rt.stdout(), &mut rt.stderr()),
         Err(error) if error.kind() == ErrorKind::OutOfMemory => {
-            run::finish(Answer::Memory, &mut rt.stderr())
+            finishing::finish(Answer::Memory, &mut rt.stderr())
         }
-        Err(_) => run::finish(Answer::Device, &mut rt.stderr()),
+        Err(_) => finishing::finish(Answer::Device, &mut rt.stderr()),
     };
     ExitCode::from(status)
 }

@@ -1,104 +1,23 @@
-//! The command line.
+//! Running a command.
 
-ghost use Rattle.std.specs.Prelude.{◌≡◌, ◌≢◌, ◌≤◌, ◌⊎◌, [], List, ℕ, IfSome};
-ghost use Rattle.std.specs.Io.Buffered.{writer_buffer};
-ghost use Rattle.clap.specs.Values.{kind_of};
+ghost use Rattle.std.specs.Prelude.{◌≡◌, ◌≤◌, ◌⊎◌, List, ℕ, IfSome};
 ghost use Rattle.ncc_values.specs.Failures.{Rose};
 ghost use Rattle.ncc_schema.specs.Device.{LosesAtMost, Puts};
 ghost use Rattle.ncc_cli.specs.Listing.{Lists};
-ghost use Rattle.ncc_cli.specs.Status.{status_of, Explains, Flushes};
 
 use crate::answer::Answer;
-use crate::list::listing::list_engine;
-use clap::error::ErrorKind;
-use clap::{Arg, ArgAction, Command, Error};
+use crate::checking::check_engine;
+use crate::commands::{LIMIT, command};
+use crate::finishing::{USAGE, explain, finish, flushed};
+use crate::listing::list_engine;
+use clap::ArgMatches;
 use ncc_header::{ReadSource, Sink, Source, WriteSink};
-use std::alloc::{AllocError, Global};
+use ncc_store::FileStore;
+use std::alloc::Global;
 use std::fs;
+use std::fs::File;
 use std::io::{BufReader, BufWriter, Write};
 use std::rt::Files;
-
-/// How long a header may be, in bytes.
-const LIMIT: u64 = 67_108_864;
-
-/// The program's statuses: it passed, the file was refused, the command line was wrong, or a device
-/// or memory failed.
-const PASSED: u8 = 0;
-
-const REFUSED: u8 = 1;
-
-const USAGE: u8 = 2;
-
-const FAILED: u8 = 3;
-
-/// What the help of `ncc` says of them.
-const STATUSES: &str = "Status:
-  0  it passed
-  1  the file was refused
-  2  the command line is wrong
-  3  a device or memory failed";
-
-/// What the help of `list` says of them, and of the limit.
-const LIST_STATUSES: &str =
-    "A header may have 67,108,864 bytes; a longer one is the fault HeaderTooLong.
-
-Status:
-  0  listed
-  1  the header has a fault, which is the only line
-  2  the command line is wrong
-  3  a device or memory failed";
-
-fn command<'a>(alloc: Global) -> Result<Command<'a>, AllocError> {
-    let file = Arg::new(alloc, "FILE")
-        .help("A netCDF classic file")
-        .required(true)
-        .action(ArgAction::Set);
-    let list = Command::new(alloc, "list")
-        .about("Lists what the header of a file says")
-        .after_help(LIST_STATUSES)
-        .arg(file)?;
-    Command::new(alloc, "ncc")
-        .bin_name("ncc")?
-        .version("0.1.0")
-        .about("Lists the headers of netCDF classic files")
-        .after_help(STATUSES)
-        .subcommand_required(true)
-        .arg_required_else_help(true)
-        .subcommand(list)
-}
-
-/// Says on `err` what kept the command from its end, as far as that can be written, and gives the
-/// status.
-pub fn finish<E: Write>(answer: Answer, err: &mut E) -> u8
-    ensures { result ≡ status_of answer }
-{
-    match answer {
-        Answer::Passed => PASSED,
-        Answer::Refused => REFUSED,
-        Answer::Device => {
-            let _ = err.write_all(b"error device\n");
-            FAILED
-        }
-        Answer::Memory => {
-            let _ = err.write_all(b"error memory\n");
-            FAILED
-        }
-    }
-}
-
-/// The answer, once what is left in a buffer went out.
-fn flushed<W: Write + Drop>(writer: &mut BufWriter<W>, answer: Answer) -> Answer
-    ensures answer { Flushes answer result }
-    ensures empty { result ≢ Answer.Device → result ≢ Answer.Memory → writer_buffer writer.new ≡ [] }
-{
-    if writer.flush().is_ok() {
-        return answer;
-    }
-    match answer {
-        Answer::Memory => Answer::Memory,
-        _ => Answer::Device,
-    }
-}
 
 /// Lists a source onto a sink, with the program's limit.
 fn listed<R: Source, W: Sink>(alloc: Global, source: &mut R, sink: &mut W) -> Answer
@@ -113,7 +32,8 @@ fn listed<R: Source, W: Sink>(alloc: Global, source: &mut R, sink: &mut W) -> An
     list_engine(alloc, source, LIMIT, sink)
 }
 
-fn list<R: Files + AllocGlobal, O: Write>(rt: &R, path: &str, out: &mut O) -> Answer {
+/// Lists the header of a file.
+fn list<R: Files<File = File> + AllocGlobal, O: Write>(rt: &R, path: &str, out: &mut O) -> Answer {
     let Ok(file) = fs::open(rt, path) else {
         return Answer::Device;
     };
@@ -130,38 +50,39 @@ fn list<R: Files + AllocGlobal, O: Write>(rt: &R, path: &str, out: &mut O) -> An
     flushed(&mut writer, answer)
 }
 
-/// Writes a text whole.
-fn shown<O: Write>(alloc: Global, text: &str, out: &mut O) -> Answer
-    ensures { result ≢ Answer.Refused }
-{
-    let Ok(mut writer) = BufWriter::new(alloc, out) else {
+/// Checks a file.
+fn check<R: Files<File = File> + AllocGlobal, O: Write>(
+    rt: &R,
+    path: &str,
+    limit: u64,
+    strict: bool,
+    out: &mut O,
+) -> Answer {
+    let Ok(mut store) = FileStore::open(rt, path, false) else {
+        return Answer::Device;
+    };
+    let Ok(writer) = BufWriter::new(rt.alloc(), out) else {
         return Answer::Memory;
     };
-    if writer.write_all(text.as_bytes()).is_err() {
-        return Answer::Device;
-    }
-    flushed(&mut writer, Answer::Passed)
+    let mut sink = WriteSink::new(writer);
+    let answer = check_engine(rt.alloc(), &mut store, limit, strict, &mut sink);
+    let mut writer = sink.into_inner();
+    flushed(&mut writer, answer)
 }
 
-/// Writes the parser's own text: help to `out`, and faults of the command line to `err`.
-fn explain<O: Write, E: Write>(alloc: Global, error: &Error, out: &mut O, err: &mut E) -> u8
-    ensures { Explains (kind_of error.now) result }
-{
-    if error.kind() == ErrorKind::OutOfMemory {
-        return finish(Answer::Memory, err);
-    }
-    let Ok(text) = format!(in alloc; "{error}") else {
-        return finish(Answer::Memory, err);
-    };
-    if error.use_stderr() {
-        let _ = err.write_all(text.as_bytes());
-        return USAGE;
-    }
-    finish(shown(alloc, &text, out), err)
+/// Checks the file that these words name, as they say.
+fn check_named<R: Files<File = File> + AllocGlobal, O: Write>(
+    rt: &R,
+    words: &ArgMatches,
+    out: &mut O,
+) -> Answer {
+    let path = words.get_str("FILE").unwrap_or("");
+    let limit = words.get_one("max-header").unwrap_or(LIMIT);
+    check(rt, path, limit, words.get_flag("strict"), out)
 }
 
 /// Runs the command that the command line names, and gives the program's status.
-pub fn run<R: Files + AllocGlobal, O: Write, E: Write>(
+pub fn run<R: Files<File = File> + AllocGlobal, O: Write, E: Write>(
     rt: &R,
     line: &[String],
     out: &mut O,
@@ -174,9 +95,9 @@ pub fn run<R: Files + AllocGlobal, O: Write, E: Write>(
     };
     match command.try_get_matches_from(line) {
         Ok(matches) => match matches.subcommand() {
-            Some(("list", matches)) => {
-                let answer = list(rt, matches.get_str("FILE").unwrap_or(""), out);
-                finish(answer, err)
+            Some(("check", words)) => finish(check_named(rt, words, out), err),
+            Some(("list", words)) => {
+                finish(list(rt, words.get_str("FILE").unwrap_or(""), out), err)
             }
             _ => USAGE,
         },

@@ -1,4 +1,4 @@
-//! Lines, faults, values, failing sources and sinks, and whole runs.
+//! Lines, faults, values, verdicts, failing sources, stores and sinks, and whole runs.
 
 mod failures;
 mod faults;
@@ -6,3 +6,4 @@ mod helpers;
 mod lists;
 mod runs;
 mod values;
+mod verdicts;

@@ -1,10 +1,12 @@
-//! Sources and sinks that fail.
+//! Sources, stores and sinks that fail.
 
-use super::helpers::ATTRIBUTES_TEXT;
+use super::helpers::{ATTRIBUTES_TEXT, EACH_NOTE, EACH_NOTE_TEXT};
 use crate::answer::Answer;
-use crate::list::listing::list_engine;
+use crate::checking::check_engine;
+use crate::listing::list_engine;
 use ncc_files::{ATTRIBUTES, LIMIT, bytes_of};
 use ncc_header::{ReadSource, WriteSink};
+use ncc_store::{FuseStore, MemStore};
 use std::io;
 use std::io::{Error, ErrorKind, Read, Write};
 use std::test::*;
@@ -86,6 +88,48 @@ fn failing_sinks(rt: HostRuntime) -> Result<(), Fail> {
             Answer::Device
         } else {
             Answer::Passed
+        };
+        assert!(rt; answer == wanted);
+        let (front, _rest) = text.split_at(left.min(text.len()));
+        assert!(rt; sink.into_inner().taken.as_slice() == front);
+    }
+    Ok(())
+}
+
+/// The store fails at its first or second call, of the two that a check makes here: no line goes out.
+#[test]
+fn failing_stores(rt: HostRuntime) -> Result<(), Fail> {
+    let alloc = rt.alloc();
+    for calls in 0..4 {
+        let bytes = bytes_of(alloc, &EACH_NOTE)?;
+        let mut store = FuseStore::new(MemStore::new(bytes), calls);
+        let mut sink = WriteSink::new(Vec::new(alloc));
+        let answer = check_engine(alloc, &mut store, LIMIT, false, &mut sink);
+        let (wanted, text) = if calls < 2 {
+            (Answer::Device, "")
+        } else {
+            (Answer::Passed, EACH_NOTE_TEXT)
+        };
+        assert!(rt; answer == wanted);
+        assert!(rt; sink.into_inner().as_slice() == text.as_bytes());
+    }
+    Ok(())
+}
+
+/// The sink fails in mid-stream: what it took is a front of the verdict.
+#[test]
+fn failing_sinks_of_verdicts(rt: HostRuntime) -> Result<(), Fail> {
+    let alloc = rt.alloc();
+    let text = EACH_NOTE_TEXT.as_bytes();
+    for left in 0..=text.len() {
+        let mut store = MemStore::new(bytes_of(alloc, &EACH_NOTE)?);
+        let taken = Vec::new(alloc);
+        let mut sink = WriteSink::new(FailingWriter { taken, left });
+        let answer = check_engine(alloc, &mut store, LIMIT, true, &mut sink);
+        let wanted = if left < text.len() {
+            Answer::Device
+        } else {
+            Answer::Refused
         };
         assert!(rt; answer == wanted);
         let (front, _rest) = text.split_at(left.min(text.len()));

@@ -1,9 +1,12 @@
-//! What `list` says of a file.
+//! What `list` and `check` say of a file.
 
 use crate::answer::Answer;
-use crate::list::listing::list_engine;
+use crate::checking::check_engine;
+use crate::listing::list_engine;
 use ncc_files::LIMIT;
 use ncc_header::{ReadSource, WriteSink};
+use ncc_store::MemStore;
+use std::alloc::AllocError;
 use std::process::Abort;
 
 /// What `list` says of it.
@@ -16,6 +19,25 @@ attribute 0 u int 2 -1 7
 attribute 0 e char 0
 variable 1 v byte fixed begin 192 dims 1 
 attribute 1 c char 3 a\\x5c\\x20
+";
+
+/// A header with a note of each kind: its number of records, the padding of x, the other x, the empty list of
+/// attributes, the name `/`, and of its two variables the vsize, the begin, and the order of the begins.
+pub const EACH_NOTE: [u32; 31] = [
+    0x43444601, 0x80000000, 0x0a, 2, 1, 0x78000001, 3, 1, 0x78000000, 4, 0x0c, 0, 0x0b, 2, 1,
+    0x2f000000, 0, 0, 0, 1, 5, 121, 1, 0x62000000, 0, 0, 0, 1, 4, 120, 0,
+];
+
+/// What `check` says of it.
+pub const EACH_NOTE_TEXT: &str = "ok CDF-1 records 2147483648 variables 2
+note LargeCount at 4
+note HeaderPadding at 21
+note DuplicateName at 28
+note TaggedEmpty at 40
+note NameRule at 56
+note VsizeField at 80
+note UnalignedBegin at 84
+note Order at 116
 ";
 
 /// `list` of this input, with headers of at most `limit` bytes, has this answer and text.
@@ -41,4 +63,27 @@ pub fn expect_list<R: Abort + AllocGlobal>(rt: &R, input: &[u8], text: &str) {
 /// The input is refused, by this line.
 pub fn expect_fault<R: Abort + AllocGlobal>(rt: &R, input: &[u8], line: &str) {
     expect_within(rt, input, LIMIT, Answer::Refused, line);
+}
+
+/// `check` of these bytes has this answer and text, by whether notes are faults.
+pub fn expect_verdict<R: Abort + AllocGlobal>(
+    rt: &R,
+    bytes: &[u8],
+    strict: bool,
+    answer: Answer,
+    text: &str,
+) -> Result<(), AllocError> {
+    let alloc = rt.alloc();
+    let mut store = MemStore::new(bytes.to_vec(alloc)?);
+    let mut sink = WriteSink::new(Vec::new(alloc));
+    assert!(rt; check_engine(alloc, &mut store, LIMIT, strict, &mut sink) == answer);
+    let written = sink.into_inner();
+    assert!(rt; written.as_slice() == text.as_bytes());
+    assert!(rt; store.into_bytes().as_slice() == bytes);
+    Ok(())
+}
+
+/// The first so many bytes, or all of them.
+pub fn front(bytes: &[u8], size: usize) -> &[u8] {
+    bytes.split_at(size.min(bytes.len())).0
 }

@@ -1,8 +1,10 @@
 //! The program's statuses, and what it writes.
 
+use super::helpers::front;
 use crate::run::run;
-use ncc_files::{EMPTY, TITLED, bytes_of, with_byte};
+use ncc_files::{EMPTY, FIXED, TITLED, bytes_of, with_byte};
 use std::alloc::{AllocError, Global};
+use std::fs::File;
 use std::io::{Error, ErrorKind, Write};
 use std::process::Abort;
 use std::rt::Files;
@@ -26,7 +28,7 @@ fn line_of(alloc: Global, line: &str) -> Result<Vec<String>, AllocError> {
 }
 
 /// Runs the program on this command line.
-fn outcome<R: Files + AllocGlobal>(rt: &R, line: &str) -> Result<Written, AllocError> {
+fn outcome<R: Files<File = File> + AllocGlobal>(rt: &R, line: &str) -> Result<Written, AllocError> {
     let alloc = rt.alloc();
     let mut out = Vec::new(alloc);
     let mut err = Vec::new(alloc);
@@ -35,7 +37,7 @@ fn outcome<R: Files + AllocGlobal>(rt: &R, line: &str) -> Result<Written, AllocE
 }
 
 /// A run on this command line has this status and writes these texts.
-fn expect_run<R: Abort + Files + AllocGlobal>(
+fn expect_run<R: Abort + Files<File = File> + AllocGlobal>(
     rt: &R,
     line: &str,
     status: u8,
@@ -49,16 +51,17 @@ fn expect_run<R: Abort + Files + AllocGlobal>(
     Ok(())
 }
 
-/// `list` of a file of these bytes does so.
-fn expect_file<R: Abort + Files + AllocGlobal>(
+/// A command on a file of these bytes does so.
+fn expect_file<R: Abort + Files<File = File> + AllocGlobal>(
     rt: &R,
+    command: &str,
     name: &str,
     bytes: &[u8],
     status: u8,
     out: &str,
 ) -> Result<(), Fail> {
     fs::write(rt, name, bytes)?;
-    let line = format!(in rt.alloc(); "ncc list {name}")?;
+    let line = format!(in rt.alloc(); "ncc {command} {name}")?;
     expect_run(rt, &line, status, out, "")?;
     fs::remove_file(rt, name)?;
     Ok(())
@@ -68,8 +71,15 @@ fn expect_file<R: Abort + Files + AllocGlobal>(
 fn statuses(rt: HostRuntime) -> Result<(), Fail> {
     let titled = bytes_of(rt.alloc(), &TITLED)?;
     let text = "format CDF-1\nrecords 0\nattribute global title char 5 hello\n";
-    expect_file(&rt, "ncc_test_one.nc", &titled, 0, text)?;
-    expect_file(&rt, "ncc_test_two.nc", b"CDF", 1, "fault EndsEarly at 3\n")?;
+    expect_file(&rt, "list", "ncc_test_one.nc", &titled, 0, text)?;
+    expect_file(
+        &rt,
+        "list",
+        "ncc_test_two.nc",
+        b"CDF",
+        1,
+        "fault EndsEarly at 3\n",
+    )?;
     expect_run(
         &rt,
         "ncc list ncc_test_not_there.nc",
@@ -78,6 +88,44 @@ fn statuses(rt: HostRuntime) -> Result<(), Fail> {
         "error device\n",
     )?;
     expect_run(&rt, "ncc --version", 0, "ncc 0.1.0\n", "")?;
+    Ok(())
+}
+
+#[test]
+fn statuses_of_verdicts(rt: HostRuntime) -> Result<(), Fail> {
+    let alloc = rt.alloc();
+    let name = "ncc_test_verdict.nc";
+    let ok = "ok CDF-1 records 0 variables 1\n";
+    let fixed = bytes_of(alloc, &FIXED)?;
+    expect_file(&rt, "check", name, &fixed, 0, ok)?;
+    expect_file(&rt, "check --strict", name, &fixed, 0, ok)?;
+    let noted = with_byte(alloc, &FIXED, 75, 0)?;
+    let lines = "ok CDF-1 records 0 variables 1\nnote VsizeField at 72\n";
+    expect_file(&rt, "check", name, &noted, 0, lines)?;
+    expect_file(&rt, "check --strict", name, &noted, 1, lines)?;
+    let cut = "fault Truncated at 76\n";
+    expect_file(&rt, "check", name, front(&fixed, 85), 1, cut)?;
+    expect_run(
+        &rt,
+        "ncc check ncc_test_not_there.nc",
+        3,
+        "",
+        "error device\n",
+    )?;
+    Ok(())
+}
+
+#[test]
+fn limits_that_are_given(rt: HostRuntime) -> Result<(), Fail> {
+    let name = "ncc_test_limit.nc";
+    let empty = bytes_of(rt.alloc(), &EMPTY)?;
+    let ok = "ok CDF-1 records 0 variables 0\n";
+    let long = "fault HeaderTooLong at 28\n";
+    expect_file(&rt, "check --max-header 32", name, &empty, 0, ok)?;
+    expect_file(&rt, "check --max-header 31", name, &empty, 1, long)?;
+    expect_file(&rt, "check --max-header=31 --strict", name, &empty, 1, long)?;
+    let most = "check --max-header 18446744073709551615";
+    expect_file(&rt, most, name, &empty, 0, ok)?;
     Ok(())
 }
 
@@ -97,7 +145,19 @@ fn faults_of_the_command_line(rt: HostRuntime) -> Result<(), Fail> {
             "ncc list --all one.nc",
             "error: unexpected argument '--all' found\n",
         ),
-        ("ncc", "Lists the headers of netCDF classic files\n"),
+        (
+            "ncc check --max-header 18446744073709551616 one.nc",
+            "error: invalid value '18446744073709551616' for '--max-header <N>'",
+        ),
+        (
+            "ncc check --max-header -1 one.nc",
+            "error: unexpected argument '-1' found\n",
+        ),
+        (
+            "ncc check --strict --strict one.nc",
+            "error: the argument '--strict' cannot be used multiple times\n",
+        ),
+        ("ncc", "Checks and lists netCDF classic files\n"),
     ];
     for (line, first) in texts {
         let found = outcome(&rt, line)?;
@@ -132,10 +192,32 @@ Status:
   3  a device or memory failed
 ";
     expect_run(&rt, "ncc list --help", 0, list, "")?;
+    let check = "Says whether a file is sound, and what is unusual in it
+
+Usage: ncc check [OPTIONS] <FILE>
+
+Arguments:
+  <FILE>  A netCDF classic file
+
+Options:
+      --strict          Refuses a file that has a note
+      --max-header <N>  How many bytes a header may have
+  -h, --help            Print help
+
+A header may have 67,108,864 bytes, or as many as --max-header says; a longer one is the
+fault HeaderTooLong.
+
+Status:
+  0  it passed
+  1  it has a fault, which is the only line, or with --strict a note
+  2  the command line is wrong
+  3  a device or memory failed
+";
+    expect_run(&rt, "ncc check --help", 0, check, "")?;
     let found = outcome(&rt, "ncc --help")?;
     assert_eq!(rt; found.status, 0);
     assert!(rt; found.err.is_empty());
-    let first = b"Lists the headers of netCDF classic files\n\nUsage: ncc <COMMAND>\n";
+    let first = b"Checks and lists netCDF classic files\n\nUsage: ncc <COMMAND>\n";
     assert!(rt; found.out.as_slice().starts_with(first));
     let last = b"  2  the command line is wrong\n  3  a device or memory failed\n";
     assert!(rt; found.out.as_slice().ends_with(last));
@@ -160,6 +242,7 @@ fn limit_of_a_header(rt: HostRuntime) -> Result<(), Fail> {
     let below = bytes_of(rt.alloc(), &words)?;
     expect_file(
         &rt,
+        "list",
         "ncc_test_below.nc",
         &below,
         1,
@@ -169,6 +252,7 @@ fn limit_of_a_header(rt: HostRuntime) -> Result<(), Fail> {
     let above = bytes_of(rt.alloc(), &words)?;
     expect_file(
         &rt,
+        "list",
         "ncc_test_above.nc",
         &above,
         1,
@@ -197,7 +281,10 @@ impl Write for Stuck {
 }
 
 /// Where the output takes nothing, or is not flushed, each command ends with `error device`.
-fn expect_stuck<R: Abort + Files + AllocGlobal>(rt: &R, line: &str) -> Result<(), AllocError> {
+fn expect_stuck<R: Abort + Files<File = File> + AllocGlobal>(
+    rt: &R,
+    line: &str,
+) -> Result<(), AllocError> {
     for takes in [false, true] {
         let mut err = Vec::new(rt.alloc());
         let words = line_of(rt.alloc(), line)?;
@@ -211,11 +298,12 @@ fn expect_stuck<R: Abort + Files + AllocGlobal>(rt: &R, line: &str) -> Result<()
 #[test]
 fn outputs_that_take_nothing(rt: HostRuntime) -> Result<(), Fail> {
     let name = "ncc_test_stuck.nc";
-    let line = "ncc list ncc_test_stuck.nc";
     fs::write(&rt, name, bytes_of(rt.alloc(), &TITLED)?)?;
-    expect_stuck(&rt, line)?;
+    expect_stuck(&rt, "ncc list ncc_test_stuck.nc")?;
+    expect_stuck(&rt, "ncc check ncc_test_stuck.nc")?;
     fs::write(&rt, name, with_byte(rt.alloc(), &EMPTY, 3, 4)?)?;
-    expect_stuck(&rt, line)?;
+    expect_stuck(&rt, "ncc list ncc_test_stuck.nc")?;
+    expect_stuck(&rt, "ncc check ncc_test_stuck.nc")?;
     fs::remove_file(&rt, name)?;
     expect_stuck(&rt, "ncc --help")?;
     expect_stuck(&rt, "ncc --version")?;

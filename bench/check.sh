@@ -1,0 +1,33 @@
+#!/usr/bin/env bash
+# Times `ncc check` on large headers and on a file of 512 MiB, with its peak memory. Beside it stands the time
+# of reading alone, which is that of the header less its last byte, and `ncvalidator` where that is installed
+# (pnetcdf-bin). The program is the first word, or the ncc of the path: one that scripts/install.sh built. The
+# aim is that a check takes at most 1.5 of reading alone.
+set -euo pipefail
+ncc=${1:-ncc}
+here=$(cd "$(dirname "$0")" && pwd)
+folder=$(mktemp -d)
+trap 'rm -rf "$folder"' EXIT
+python3 "$here/headers.py" checked "$folder"
+. "$here/timing.sh"
+
+# A file of one variable of 512 MiB, of which no byte is written.
+large=$folder/one_variable_of_512_MiB
+printf 'CDF\1\0\0\0\0\0\0\0\x0a\0\0\0\1\0\0\0\1x\0\0\0\x20\0\0\0\0\0\0\0\0\0\0\0' > "$large.nc"
+printf '\0\0\0\x0b\0\0\0\1\0\0\0\1v\0\0\0\0\0\0\1\0\0\0\0\0\0\0\0\0\0\0\0' >> "$large.nc"
+printf '\0\0\0\1\x20\0\0\0\0\0\0\x50' >> "$large.nc"
+head -c 79 "$large.nc" > "$large.cut"
+truncate -s $((80 + 512 * 1024 * 1024)) "$large.nc"
+
+for file in "$folder"/*.nc; do
+    checked=$(least "$ncc" check "$file")
+    read=$(least "$ncc" check "${file%.nc}.cut")
+    ratio=$(awk "BEGIN { printf \"%.2f\", $checked / $read }")
+    line="$(basename "$file" .nc), header of $(($(stat -c %s "${file%.nc}.cut") + 1)) bytes: ncc check"
+    line+=" $((checked / 1000)) ms, $(peak "$ncc" check "$file") KiB; reading alone $((read / 1000)) ms, ratio $ratio"
+    if command -v ncvalidator > /dev/null; then
+        other=$(least ncvalidator -q "$file")
+        line+="; ncvalidator $((other / 1000)) ms, $(peak ncvalidator -q "$file") KiB"
+    fi
+    echo "$line"
+done

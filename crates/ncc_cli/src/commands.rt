@@ -1,0 +1,81 @@
+//! The command line: its words, and what help says of them.
+
+use clap::{Arg, ArgAction, Command, value_parser};
+use std::alloc::{AllocError, Global};
+
+/// How long a header may be, in bytes, where the command line doesn't say.
+pub const LIMIT: u64 = 67_108_864;
+
+/// What the help of `ncc` says of its statuses.
+const STATUSES: &str = "Status:
+  0  it passed
+  1  the file was refused
+  2  the command line is wrong
+  3  a device or memory failed";
+
+/// What the help of `list` says of them, and of the limit.
+const LIST_STATUSES: &str =
+    "A header may have 67,108,864 bytes; a longer one is the fault HeaderTooLong.
+
+Status:
+  0  listed
+  1  the header has a fault, which is the only line
+  2  the command line is wrong
+  3  a device or memory failed";
+
+/// What the help of `check` says of them, and of the limit.
+const CHECK_STATUSES: &str =
+    "A header may have 67,108,864 bytes, or as many as --max-header says; a longer one is the
+fault HeaderTooLong.
+
+Status:
+  0  it passed
+  1  it has a fault, which is the only line, or with --strict a note
+  2  the command line is wrong
+  3  a device or memory failed";
+
+fn file_argument<'a>(alloc: Global) -> Arg<'a> {
+    Arg::new(alloc, "FILE")
+        .help("A netCDF classic file")
+        .required(true)
+        .action(ArgAction::Set)
+}
+
+fn list_command<'a>(alloc: Global) -> Result<Command<'a>, AllocError> {
+    Command::new(alloc, "list")
+        .about("Lists what the header of a file says")
+        .after_help(LIST_STATUSES)
+        .arg(file_argument(alloc))
+}
+
+fn check_command<'a>(alloc: Global) -> Result<Command<'a>, AllocError> {
+    let strict = Arg::new(alloc, "strict")
+        .long("strict")
+        .help("Refuses a file that has a note")
+        .action(ArgAction::SetTrue);
+    let limit = Arg::new(alloc, "max-header")
+        .long("max-header")
+        .value_name("N")
+        .help("How many bytes a header may have")
+        .value_parser(value_parser!(u64))
+        .action(ArgAction::Set);
+    Command::new(alloc, "check")
+        .about("Says whether a file is sound, and what is unusual in it")
+        .after_help(CHECK_STATUSES)
+        .arg(strict)?
+        .arg(limit)?
+        .arg(file_argument(alloc))
+}
+
+/// The command line of `ncc`.
+pub fn command<'a>(alloc: Global) -> Result<Command<'a>, AllocError> {
+    Command::new(alloc, "ncc")
+        .bin_name("ncc")?
+        .version("0.1.0")
+        .about("Checks and lists netCDF classic files")
+        .after_help(STATUSES)
+        .subcommand_required(true)
+        .arg_required_else_help(true)
+        .subcommand(check_command(alloc)?)?
+        .subcommand(list_command(alloc)?)
+}

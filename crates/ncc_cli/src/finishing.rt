@@ -1,0 +1,85 @@
+//! What a run leaves: its status, and what is still to be written.
+
+ghost use Rattle.std.specs.Prelude.{◌≡◌, ◌≢◌, []};
+ghost use Rattle.std.specs.Io.Buffered.{writer_buffer};
+ghost use Rattle.clap.specs.Values.{kind_of};
+ghost use Rattle.ncc_cli.specs.Status.{status_of, Explains, Flushes};
+
+use crate::answer::Answer;
+use clap::Error;
+use clap::error::ErrorKind;
+use std::alloc::Global;
+use std::io::{BufWriter, Write};
+
+/// The program's statuses: it passed, the file was refused, the command line was wrong, or a device
+/// or memory failed.
+const PASSED: u8 = 0;
+
+const REFUSED: u8 = 1;
+
+pub const USAGE: u8 = 2;
+
+const FAILED: u8 = 3;
+
+/// Says on `err` what kept the command from its end, as far as that can be written, and gives the
+/// status.
+pub fn finish<E: Write>(answer: Answer, err: &mut E) -> u8
+    ensures { result ≡ status_of answer }
+{
+    match answer {
+        Answer::Passed => PASSED,
+        Answer::Refused => REFUSED,
+        Answer::Device => {
+            let _ = err.write_all(b"error device\n");
+            FAILED
+        }
+        Answer::Memory => {
+            let _ = err.write_all(b"error memory\n");
+            FAILED
+        }
+    }
+}
+
+/// The answer, once what is left in a buffer went out.
+pub fn flushed<W: Write + Drop>(writer: &mut BufWriter<W>, answer: Answer) -> Answer
+    ensures answer { Flushes answer result }
+    ensures empty { result ≢ Answer.Device → result ≢ Answer.Memory → writer_buffer writer.new ≡ [] }
+{
+    if writer.flush().is_ok() {
+        return answer;
+    }
+    match answer {
+        Answer::Memory => Answer::Memory,
+        _ => Answer::Device,
+    }
+}
+
+/// Writes a text whole.
+fn shown<O: Write>(alloc: Global, text: &str, out: &mut O) -> Answer
+    ensures { result ≢ Answer.Refused }
+{
+    let Ok(mut writer) = BufWriter::new(alloc, out) else {
+        return Answer::Memory;
+    };
+    if writer.write_all(text.as_bytes()).is_err() {
+        return Answer::Device;
+    }
+    flushed(&mut writer, Answer::Passed)
+}
+
+/// Writes the parser's own text: help to `out`, and faults of the command line to `err`.
+pub fn explain<O: Write, E: Write>(alloc: Global, error: &Error, out: &mut O, err: &mut E) -> u8
+    ensures { Explains (kind_of error.now) result }
+{
+    if error.kind() == ErrorKind::OutOfMemory {
+        return finish(Answer::Memory, err);
+    }
+    let Ok(text) = format!(in alloc; "{error}") else {
+        return finish(Answer::Memory, err);
+    };
+    if error.use_stderr() {
+        let _ = err.write_all(text.as_bytes());
+        return USAGE;
+    }
+    finish(shown(alloc, &text, out), err)
+}

@@ -1,4 +1,0 @@
-//! `list`: what the header alone says.
-
-pub mod listing;
-pub mod sections;

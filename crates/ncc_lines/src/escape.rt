@@ -1,0 +1,87 @@
+//! Bytes as they are printed.
+
+ghost use Rattle.std.specs.Prelude.{◌≡◌, ◌++◌, ◌<◌, ◌≤◌, length, take, IfOk, OnOk};
+ghost use Rattle.std.specs.List.{flat_map};
+ghost use Rattle.ncc_lines.specs.Words.{hex_digit, byte_digits, is_plain, escaped, name_text};
+
+use std::alloc::AllocError;
+
+/// A hexadecimal digit, in lower case.
+fn digit(n: u8) -> u8
+    requires { n < 16 }
+    ensures { result ≡ hex_digit n }
+{
+    if n < 10 { b'0' + n } else { b'a' - 10 + n }
+}
+
+/// Adds the two digits of a byte.
+fn push_digits(out: &mut Vec<u8>, b: u8) -> Result<(), AllocError>
+    ensures { OnOk result (out.new.items ≡ out.old.items ++ byte_digits b) }
+{
+    out.extend_from_slice(&[digit(b / 16), digit(b % 16)])?;
+    Ok(())
+}
+
+/// Adds the digits of all bytes.
+pub fn push_bits(out: &mut Vec<u8>, bytes: &[u8]) -> Result<(), AllocError>
+    ensures { OnOk result (out.new.items ≡ out.old.items ++ flat_map byte_digits bytes.now) }
+{
+    for b in bytes {
+        push_digits(out, *b)?;
+    }
+    Ok(())
+}
+
+/// Whether a byte prints as it is.
+fn prints_plain(b: u8) -> bool
+    ensures { result ≡ is_plain b }
+{
+    32 < b && b < 127 && b != b'\\'
+}
+
+/// How many bytes at the front print as they are.
+fn plain_count(bytes: &[u8]) -> usize
+    ensures within { result ≤ length bytes.now }
+    ensures plain { name_text (take result bytes.now) ≡ take result bytes.now }
+{
+    for (i, b) in bytes.iter().enumerate() {
+        if !prints_plain(*b) {
+            return i;
+        }
+    }
+    bytes.len()
+}
+
+/// Adds a byte of a name, as it is printed.
+pub fn push_escaped(out: &mut Vec<u8>, b: u8) -> Result<(), AllocError>
+    ensures { OnOk result (out.new.items ≡ out.old.items ++ escaped b) }
+{
+    if prints_plain(b) {
+        out.push(b)?;
+        return Ok(());
+    }
+    out.extend_from_slice(b"\\x")?;
+    push_digits(out, b)
+}
+
+/// Adds the front of a name whose bytes print as they are, at once, and gives the rest.
+fn push_plain<'a>(out: &mut Vec<u8>, name: &'a [u8]) -> Result<&'a [u8], AllocError>
+    ensures rest { IfOk result (λ rest. out.new.items ++ name_text rest.now ≡ out.old.items ++ name_text name.now) }
+    ensures shorter { IfOk result (λ rest. length rest.now ≤ length name.now) }
+{
+    let (plain, rest) = name.split_at(plain_count(name));
+    out.extend_from_slice(plain)?;
+    Ok(rest)
+}
+
+/// Adds a name.
+pub fn push_name(out: &mut Vec<u8>, name: &[u8]) -> Result<(), AllocError>
+    ensures { OnOk result (out.new.items ≡ out.old.items ++ name_text name.now) }
+{
+    let mut rest = push_plain(out, name)?;
+    while let Some((first, after)) = rest.split_first() {
+        push_escaped(out, *first)?;
+        rest = push_plain(out, after)?;
+    }
+    Ok(())
+}

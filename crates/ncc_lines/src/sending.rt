@@ -1,0 +1,56 @@
+//! Sending the lines of a command whole.
+
+ghost use Rattle.ncc_lines.specs.Texts.{list_text, fault_line};
+ghost use Rattle.ncc_lines.specs.Verdicts.{report_text, file_fault_line};
+ghost use Rattle.ncc_lines.specs.Sends.{SendsAll, Blames};
+
+use crate::halt::Halt;
+use crate::page::send_page;
+use crate::sections::send_list;
+use crate::texts::push_fault;
+use crate::verdict::{push_file_fault, send_verdict};
+use ncc_check::{FileFault, Report};
+use ncc_header::{Fault, Header, Sink, write_all};
+use std::alloc::Global;
+
+/// Sends all lines of a header, by one page that is used again. After an `Err` a front of them is sent.
+pub fn send_header<W: Sink>(alloc: Global, header: &Header, sink: &mut W) -> Result<(), Halt>
+    ensures sent { SendsAll (W.put sink.old) (W.put sink.new) (list_text header.now) result }
+    ensures count { Blames (W.failures sink.old) (W.failures sink.new) result }
+{
+    let mut page = Vec::new(alloc);
+    send_list(header, &mut page, sink)?;
+    send_page(&mut page, sink)
+}
+
+/// Sends the line of a header's fault. After an `Err` a front of it is sent.
+pub fn send_fault<W: Sink>(alloc: Global, fault: Fault, sink: &mut W) -> Result<(), Halt>
+    ensures sent { SendsAll (W.put sink.old) (W.put sink.new) (fault_line fault) result }
+    ensures count { Blames (W.failures sink.old) (W.failures sink.new) result }
+{
+    let mut line = Vec::new(alloc);
+    push_fault(&mut line, fault)?;
+    write_all(sink, &line)?;
+    Ok(())
+}
+
+/// Sends all lines about a file that passes. After an `Err` a front of them is sent.
+pub fn send_report<W: Sink>(alloc: Global, report: &Report, sink: &mut W) -> Result<(), Halt>
+    ensures sent { SendsAll (W.put sink.old) (W.put sink.new) (report_text report.now) result }
+    ensures count { Blames (W.failures sink.old) (W.failures sink.new) result }
+{
+    let mut page = Vec::new(alloc);
+    send_verdict(report, &mut page, sink)?;
+    send_page(&mut page, sink)
+}
+
+/// Sends the line of a file's fault. After an `Err` a front of it is sent.
+pub fn send_file_fault<W: Sink>(alloc: Global, fault: FileFault, sink: &mut W) -> Result<(), Halt>
+    ensures sent { SendsAll (W.put sink.old) (W.put sink.new) (file_fault_line fault) result }
+    ensures count { Blames (W.failures sink.old) (W.failures sink.new) result }
+{
+    let mut line = Vec::new(alloc);
+    push_file_fault(&mut line, fault)?;
+    write_all(sink, &line)?;
+    Ok(())
+}

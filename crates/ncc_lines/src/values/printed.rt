@@ -1,0 +1,181 @@
+//! Values as they are printed.
+
+ghost use Rattle.std.specs.Prelude.{◌≡◌, ◌≤◌, ◌++◌, length, map, codes, OnOk};
+ghost use Rattle.std.specs.List.{flat_map};
+ghost use Rattle.ncc_lines.specs.Words.{bits_word};
+
+use crate::escape::{push_bits, push_escaped, push_name};
+use itoa::{Buffer, Integer};
+use ncc_values::{Char, F32Bits, F64Bits};
+use std::alloc::AllocError;
+
+/// How many values are printed at once: a number has at most 21 bytes, a character at most 4.
+pub const PIECE: usize = 128;
+
+/// A value of an attribute.
+pub trait Printed: Copy {
+    ghost use Rattle.std.specs.Prelude.{ℕ, List};
+
+    /// What it adds to a line: a number begins with a space.
+    ghost text: { Self → List ℕ };
+
+    /// Adds its text.
+    fn print(self, out: &mut Vec<u8>) -> Result<(), AllocError>
+        ensures { OnOk result (out.new.items ≡ out.old.items ++ text self) };
+
+    /// Adds the texts of a few values, one after the other.
+    fn print_all(values: &[Self], out: &mut Vec<u8>) -> Result<(), AllocError>
+        requires { length values.now ≤ PIECE }
+        ensures { OnOk result (out.new.items ≡ out.old.items ++ flat_map text values.now) }
+    {
+        for value in values {
+            value.print(out)?;
+        }
+        Ok(())
+    }
+}
+
+/// The bytes of characters.
+fn copy_chars(chars: &[Char], bytes: &mut [u8])
+    requires { length chars.now ≡ length bytes.old }
+    ensures { bytes.new ≡ map (λ c. c.0) chars.now }
+{
+    for (i, c) in chars.iter().enumerate() {
+        bytes[i] = c.0;
+    }
+}
+
+/// Adds an integer behind a space.
+fn push_integer<I: Integer>(out: &mut Vec<u8>, n: I) -> Result<(), AllocError>
+    ensures { OnOk result (out.new.items ≡ out.old.items ++ (codes " " ++ I.text n)) }
+{
+    let mut buffer = Buffer::new();
+    out.extend_from_slice(b" ")?;
+    out.extend_from_slice(buffer.format(n).as_bytes())?;
+    Ok(())
+}
+
+/// Adds the bits of a float behind a space.
+fn push_float(out: &mut Vec<u8>, bytes: &[u8]) -> Result<(), AllocError>
+    ensures { OnOk result (out.new.items ≡ out.old.items ++ bits_word bytes.now) }
+{
+    out.extend_from_slice(b" 0x")?;
+    push_bits(out, bytes)
+}
+
+impl Printed for Char {
+    ghost use Rattle.ncc_lines.specs.Words.{char_text};
+
+    ghost text = { char_text };
+
+    fn print(self, out: &mut Vec<u8>) -> Result<(), AllocError> {
+        push_escaped(out, self.0)
+    }
+
+    fn print_all(values: &[Char], out: &mut Vec<u8>) -> Result<(), AllocError> {
+        let mut room = [0; PIECE];
+        let bytes = &mut room[..values.len()];
+        copy_chars(values, bytes);
+        push_name(out, bytes)
+    }
+}
+
+impl Printed for F32Bits {
+    ghost use Rattle.ncc_lines.specs.Words.{float_word};
+
+    ghost text = { float_word };
+
+    fn print(self, out: &mut Vec<u8>) -> Result<(), AllocError> {
+        push_float(out, &self.0.to_be_bytes())
+    }
+}
+
+impl Printed for F64Bits {
+    ghost use Rattle.ncc_lines.specs.Words.{double_word};
+
+    ghost text = { double_word };
+
+    fn print(self, out: &mut Vec<u8>) -> Result<(), AllocError> {
+        push_float(out, &self.0.to_be_bytes())
+    }
+}
+
+impl Printed for i8 {
+    ghost use Rattle.ncc_lines.specs.Words.{signed_word};
+
+    ghost text = { signed_word };
+
+    fn print(self, out: &mut Vec<u8>) -> Result<(), AllocError> {
+        push_integer(out, self)
+    }
+}
+
+impl Printed for i16 {
+    ghost use Rattle.ncc_lines.specs.Words.{signed_word};
+
+    ghost text = { signed_word };
+
+    fn print(self, out: &mut Vec<u8>) -> Result<(), AllocError> {
+        push_integer(out, self)
+    }
+}
+
+impl Printed for i32 {
+    ghost use Rattle.ncc_lines.specs.Words.{signed_word};
+
+    ghost text = { signed_word };
+
+    fn print(self, out: &mut Vec<u8>) -> Result<(), AllocError> {
+        push_integer(out, self)
+    }
+}
+
+impl Printed for i64 {
+    ghost use Rattle.ncc_lines.specs.Words.{signed_word};
+
+    ghost text = { signed_word };
+
+    fn print(self, out: &mut Vec<u8>) -> Result<(), AllocError> {
+        push_integer(out, self)
+    }
+}
+
+impl Printed for u8 {
+    ghost use Rattle.ncc_lines.specs.Words.{unsigned_word};
+
+    ghost text = { unsigned_word };
+
+    fn print(self, out: &mut Vec<u8>) -> Result<(), AllocError> {
+        push_integer(out, self)
+    }
+}
+
+impl Printed for u16 {
+    ghost use Rattle.ncc_lines.specs.Words.{unsigned_word};
+
+    ghost text = { unsigned_word };
+
+    fn print(self, out: &mut Vec<u8>) -> Result<(), AllocError> {
+        push_integer(out, self)
+    }
+}
+
+impl Printed for u32 {
+    ghost use Rattle.ncc_lines.specs.Words.{unsigned_word};
+
+    ghost text = { unsigned_word };
+
+    fn print(self, out: &mut Vec<u8>) -> Result<(), AllocError> {
+        push_integer(out, self)
+    }
+}
+
+impl Printed for u64 {
+    ghost use Rattle.ncc_lines.specs.Words.{unsigned_word};
+
+    ghost text = { unsigned_word };
+
+    fn print(self, out: &mut Vec<u8>) -> Result<(), AllocError> {
+        push_integer(out, self)
+    }
+}
