@@ -1,5 +1,5 @@
 -- What a decoder has taken of a store.
-use Rattle.std.specs.Prelude.{◌≡◌, ◌⊎◌, ℕ, ◌+◌, ◌/◌, ◌≤◌, min, Bool, List, [], ◌++◌, length, take, drop, IsTrue, Result, Ok, Err}
+use Rattle.std.specs.Prelude.{◌≡◌, ◌⊎◌, ℕ, ◌+◌, ◌/◌, ◌≤◌, min, Bool, List, [], ◌++◌, length, IsTrue, Result, Ok, Err}
 use Rattle.ncc_schema.specs.declared.schema.Header.{Header}
 use Rattle.ncc_header.specs.declared.decoder.Decoder.{Decoder}
 use Rattle.ncc_header.specs.declared.standing.Fed.{Fed}

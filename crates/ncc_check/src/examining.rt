@@ -31,7 +31,8 @@ pub fn examine<S: Store>(alloc: Global, store: &mut S, limit: u64) -> Result<Fou
     ensures unmoved { Unmoved S.bytes S.images S.moment S.images_since store.old store.new }
     ensures kept { KeepsImages (S.images store.old) (S.images store.new) }
     ensures count { CountsAs (S.failures store.old) (S.failures store.new) result }
-    ensures calls { IsTrue S.tells_bytes → S.calls store.new ≤ S.calls store.old + calls_for (length (S.bytes store.old)) limit }
+    ensures calls { IsTrue S.tells_bytes
+        → S.calls store.new ≤ S.calls store.old + calls_for (length (S.bytes store.old)) limit }
 {
     store_laws::unmoved_calls_join::<S>();
     let file_length = store.len()?;

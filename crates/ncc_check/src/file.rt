@@ -62,7 +62,8 @@ impl<S: Store> NcFile<S> {
     /// Fills `out` with the bytes of the file from `place` on. It allocates nothing.
     pub fn fetch(&mut self, place: u64, out: &mut [u8]) -> Result<(), Device>
         requires { place + length out.old ≤ file_length_of (placed_of self.old) }
-        ensures told { IsTrue S.tells_bytes → OnOk result (out.new ≡ take (length out.old) (drop place (S.bytes (store_of self.old)))) }
+        ensures told { IsTrue S.tells_bytes
+            → OnOk result (out.new ≡ take (length out.old) (drop place (S.bytes (store_of self.old)))) }
         ensures schema { schema_of self.new ≡ schema_of self.old }
         ensures placed { placed_of self.new ≡ placed_of self.old }
         ensures reopen { must_reopen self.new ≡ must_reopen self.old }

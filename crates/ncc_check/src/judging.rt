@@ -3,7 +3,7 @@
 ghost use Rattle.std.specs.Prelude.{◌≡◌, ◌<◌, length};
 ghost use Rattle.ncc_schema.specs.Schema.{places_of, Legal};
 ghost use Rattle.ncc_layout.specs.Sizes.{AreSizes};
-ghost use Rattle.ncc_layout.specs.Placed.{begin_field};
+ghost use Rattle.ncc_layout.specs.Placed.{fault_at};
 ghost use Rattle.ncc_check.specs.declared.fault.FileFault.TheVariants.{Layout};
 ghost use Rattle.ncc_check.specs.declared.fault.Refusal.TheVariants.{Fault};
 ghost use Rattle.ncc_layout.specs.declared.fault.LayoutFaultKind.TheVariants.{TooLarge};
@@ -11,20 +11,16 @@ ghost use Rattle.ncc_check.specs.Judging.{SizesOf, LaysOut};
 
 use crate::fault::{FileFault, Refusal};
 use ncc_header::Header;
-use ncc_layout::{
-    LayoutFault, LayoutFaultKind, PlaceError, Placed, SizeError, Sizes, placed, sizes,
-};
+use ncc_layout::{LayoutFaultKind, PlaceError, Placed, SizeError, Sizes, fault_at, placed, sizes};
 use std::alloc::Global;
 
 /// The variable of this number is too large.
 fn too_large(header: &Header, number: usize) -> Refusal
     requires { number < length header.now.places }
-    ensures { result ≡ Fault (Layout (record { kind = TooLarge; offset = begin_field header.now.places number })) }
+    ensures { result ≡ Fault (Layout (fault_at header.now.places TooLarge number)) }
 {
-    Refusal::Fault(FileFault::Layout(LayoutFault {
-        kind: LayoutFaultKind::TooLarge,
-        offset: header.places.as_slice()[number].begin_at,
-    }))
+    let fault = fault_at(header.places.as_slice(), LayoutFaultKind::TooLarge, number);
+    Refusal::Fault(FileFault::Layout(fault))
 }
 
 /// The sizes of a header's variables.

@@ -24,13 +24,6 @@ use ncc_layout::Sizes;
 use ncc_schema::laws::name_is_there;
 use std::alloc::{AllocError, Global};
 
-/// The length of a header: a number of 64 bits, so that the offset of no name is cut.
-fn length_of(header: &Header) -> u64
-    ensures { result ≡ header.now.length }
-{
-    header.length
-}
-
 /// Exactly the notes that are due of a header with variables of these sizes, by offset, then in the
 /// order of the kinds.
 pub(crate) fn notes_of(
@@ -42,7 +35,8 @@ pub(crate) fn notes_of(
     requires sizes { AreSizes header.now.schema sizes.now }
     ensures { IfOk result (λ notes. AreNotes header.now notes.items) }
 {
-    let _ = length_of(header);
+    // A number of 64 bits, so that the offset of no name is cut.
+    let _length = header.length;
     length_is_canonical();
     name_is_there();
     let mut notes = Vec::new(alloc);

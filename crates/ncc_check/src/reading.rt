@@ -24,8 +24,10 @@ fn feed_piece<S: Store>(
     requires there { IsTrue S.tells_bytes → at + length room.old ≤ length (S.bytes store.old) }
     requires took { (taken : List ℕ) × Took decoder.old taken }
     ensures ok { IfOk result (λ fed. FedPiece decoder.old decoder.new room.new fed) }
-    ensures told { IsTrue S.tells_bytes → OnOk result (room.new ≡ take (length room.old) (drop at (S.bytes store.old))) }
-    ensures err { IfErr result (FailsPiece S.tells_bytes (take (length room.old) (drop at (S.bytes store.old))) decoder.old) }
+    ensures told { IsTrue S.tells_bytes
+        → OnOk result (room.new ≡ take (length room.old) (drop at (S.bytes store.old))) }
+    ensures err { IfErr result
+        (FailsPiece S.tells_bytes (take (length room.old) (drop at (S.bytes store.old))) decoder.old) }
     ensures unmoved { Unmoved S.bytes S.images S.moment S.images_since store.old store.new }
     ensures kept { KeepsImages (S.images store.old) (S.images store.new) }
     ensures count { CountsAs (S.failures store.old) (S.failures store.new) result }
@@ -43,9 +45,11 @@ fn feed_front<S: Store>(store: &mut S, decoder: &mut Decoder, end: u64) -> Resul
     requires there { IsTrue S.tells_bytes → end ≤ length (S.bytes store.old) }
     requires took { Took decoder.old [] }
     requires covers { IsTrue S.tells_bytes → (limit_of decoder.old ≤ end) ⊎ (end ≡ length (S.bytes store.old)) }
-    ensures ok { OnOk result ((taken : List ℕ) × Took decoder.new taken × (IsTrue S.tells_bytes → HasEnough (S.bytes store.old) (limit_of decoder.old) taken)) }
+    ensures ok { OnOk result ((taken : List ℕ) × Took decoder.new taken
+        × (IsTrue S.tells_bytes → HasEnough (S.bytes store.old) (limit_of decoder.old) taken)) }
     ensures limit { OnOk result (limit_of decoder.new ≡ limit_of decoder.old) }
-    ensures err { IfErr result (λ e. IsTrue S.tells_bytes → ReadsHeader (S.bytes store.old) (limit_of decoder.old) (Err e)) }
+    ensures err { IfErr result (λ e. IsTrue S.tells_bytes
+        → ReadsHeader (S.bytes store.old) (limit_of decoder.old) (Err e)) }
     ensures unmoved { Unmoved S.bytes S.images S.moment S.images_since store.old store.new }
     ensures kept { KeepsImages (S.images store.old) (S.images store.new) }
     ensures count { CountsAs (S.failures store.old) (S.failures store.new) result }

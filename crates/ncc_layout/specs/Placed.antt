@@ -6,6 +6,7 @@ use Rattle.ncc_schema.specs.declared.schema.Schema.{Schema}
 use Rattle.ncc_schema.specs.declared.schema.VarPlace.{VarPlace}
 use Rattle.ncc_schema.specs.Schema.{Place, places_of}
 use Rattle.ncc_layout.specs.declared.extent.Extent.{Extent}
+use Rattle.ncc_layout.specs.declared.fault.LayoutFault.{LayoutFault}
 use Rattle.ncc_layout.specs.declared.fault.LayoutFaultKind.{LayoutFaultKind}
 use Rattle.ncc_layout.specs.declared.fault.PlaceError.{PlaceError}
 use Rattle.ncc_layout.specs.declared.fault.PlaceError.TheVariants.{Fault, Memory}
@@ -60,8 +61,9 @@ HasRoom p file = Rules (header_length_of p) file (record_size_of_file p) (record
 abbrev pub begin_field : List VarPlace → (number : ℕ) → ℕ
 begin_field places n = get_or (map (λ p. p.begin_at) places) n 0
 
-abbrev pub fault_at : List VarPlace → LayoutFaultKind → (number : ℕ) → PlaceError
-fault_at places kind n = Fault (record { kind = kind; offset = begin_field places n })
+-- the fault of a variable
+abbrev pub fault_at : List VarPlace → LayoutFaultKind → (number : ℕ) → LayoutFault
+fault_at places kind n = record { kind = kind; offset = begin_field places n }
 
 -- the placed file of this schema, at these places, with a header and a file of these lengths
 pub record Holds (s : Schema) (places : List Place) (header length : ℕ) (p : Placed) : Type 0 where

@@ -25,7 +25,7 @@ pub use extent::Extent;
 pub use fault::{LayoutFault, LayoutFaultKind, PlaceError, SizeError};
 pub use placed_file::Placed;
 pub use placed_var::PlacedVar;
-pub use placing::placed;
+pub use placing::{fault_at, placed};
 pub use plan_fault::PlanFault;
 pub use planning::standard;
 pub use records::next_count;

@@ -82,14 +82,14 @@ fn vars_of(
 }
 
 /// The fault of a variable, at its begin field.
-fn fault_at(places: &[VarPlace], kind: LayoutFaultKind, variable: usize) -> PlaceError
+pub fn fault_at(places: &[VarPlace], kind: LayoutFaultKind, variable: usize) -> LayoutFault
     requires { variable < length places.now }
     ensures { result ≡ fault_at places.now kind variable }
 {
-    PlaceError::Fault(LayoutFault {
+    LayoutFault {
         kind,
         offset: places[variable].begin_at,
-    })
+    }
 }
 
 /// The numbers by which the extents are judged.
@@ -145,7 +145,11 @@ pub fn placed(
     let extents = extents_of(alloc, header, sizes)?;
     let frame = frame_of(header, sizes, &extents, file_length);
     match first_fault(alloc, &extents, frame)? {
-        Some((kind, variable)) => Err(fault_at(header.places.as_slice(), kind, variable)),
+        Some((kind, variable)) => Err(PlaceError::Fault(fault_at(
+            header.places.as_slice(),
+            kind,
+            variable,
+        ))),
         None => Ok(lay(alloc, &header.schema, &extents, frame)?),
     }
 }

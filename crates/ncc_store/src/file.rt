@@ -75,6 +75,7 @@ impl<F: SystemFile> Store for FileStore<F> {
         ensures told { IfSome (F.bytes (file_of self.old)) (λ b. IfOk result (λ n. n ≡ length b)) }
         ensures same { F.bytes (file_of self.new) ≡ F.bytes (file_of self.old) }
         ensures writes { file_writes self.new ≡ file_writes self.old }
+        ensures once { OnOk result (F.failed (file_of self.new) ≡ F.failed (file_of self.old)) }
         ensures count { Counts (file_failures self.old) (file_failures self.new) result }
     {
         match self.file.size() {
@@ -88,6 +89,7 @@ impl<F: SystemFile> Store for FileStore<F> {
             (λ b. OnOk result (out.new ≡ take (length out.old) (drop place b))) }
         ensures same { F.bytes (file_of self.new) ≡ F.bytes (file_of self.old) }
         ensures writes { file_writes self.new ≡ file_writes self.old }
+        ensures once { OnOk result (F.failed (file_of self.new) ≡ F.failed (file_of self.old)) }
         ensures count { Counts (file_failures self.old) (file_failures self.new) result }
     {
         match self.file.fill(place, out) {
@@ -102,6 +104,7 @@ impl<F: SystemFile> Store for FileStore<F> {
         ensures untouched { file_writes self.old ≡ false → file_of self.new ≡ file_of self.old }
         ensures bytes { PutsWhole (F.bytes (file_of self.old)) (F.bytes (file_of self.new)) place piece.now result }
         ensures writes { file_writes self.new ≡ file_writes self.old }
+        ensures once { OnOk result (F.failed (file_of self.new) ≡ F.failed (file_of self.old)) }
         ensures count { Counts (file_failures self.old) (file_failures self.new) result }
     {
         if !self.writes {
@@ -117,6 +120,7 @@ impl<F: SystemFile> Store for FileStore<F> {
         ensures durable { OnOk result (F.settled (file_of self.new)) }
         ensures same { F.bytes (file_of self.new) ≡ F.bytes (file_of self.old) }
         ensures writes { file_writes self.new ≡ file_writes self.old }
+        ensures once { OnOk result (F.failed (file_of self.new) ≡ F.failed (file_of self.old)) }
         ensures count { Counts (file_failures self.old) (file_failures self.new) result }
     {
         match self.file.settle() {

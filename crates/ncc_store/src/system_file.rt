@@ -16,22 +16,29 @@ pub trait SystemFile {
     /// Nothing is pending.
     ghost settled: { Self → Type 0 };
 
+    /// The calls that failed, where it tells them. A call that succeeds adds none.
+    ghost failed: { Self → ℕ };
+
     /// The number of bytes.
     fn size(&mut self) -> Result<u64, Device>
+        ensures once { OnOk result (failed self.new ≡ failed self.old) }
         ensures told { IfSome (bytes self.old) (λ b. IfOk result (λ n. n ≡ length b)) }
         ensures same { bytes self.new ≡ bytes self.old };
 
     /// Fills `out` with the bytes from `place` on.
     fn fill(&mut self, place: u64, out: &mut [u8]) -> Result<(), Device>
+        ensures once { OnOk result (failed self.new ≡ failed self.old) }
         ensures told { IfSome (bytes self.old) (λ b. OnOk result (out.new ≡ take (length out.old) (drop place b))) }
         ensures same { bytes self.new ≡ bytes self.old };
 
     /// Writes a front of the piece, at least one byte where there is one, and answers how many.
     fn write_some(&mut self, place: u64, piece: &[u8]) -> Result<usize, Device>
-        ensures { PutsSome (bytes self.old) (bytes self.new) place piece.now result };
+        ensures puts { PutsSome (bytes self.old) (bytes self.new) place piece.now result }
+        ensures once { OnOk result (failed self.new ≡ failed self.old) };
 
     /// Leaves nothing pending.
     fn settle(&mut self) -> Result<(), Device>
+        ensures once { OnOk result (failed self.new ≡ failed self.old) }
         ensures settled { OnOk result (settled self.new) }
         ensures same { bytes self.new ≡ bytes self.old };
 }
@@ -43,7 +50,8 @@ pub(crate) fn write_whole<F: SystemFile>(
     piece: &[u8],
 ) -> Result<(), Device>
     requires { place + length piece.now < 2 ^ 63 }
-    ensures { PutsWhole (F.bytes file.old) (F.bytes file.new) place piece.now result }
+    ensures puts { PutsWhole (F.bytes file.old) (F.bytes file.new) place piece.now result }
+    ensures once { OnOk result (F.failed file.new ≡ F.failed file.old) }
 {
     let mut at = place;
     let mut rest = piece;
@@ -60,6 +68,8 @@ impl SystemFile for File {
     ghost bytes = { λ f. None };
 
     ghost settled = { λ f. Unit {0} };
+
+    ghost failed = { λ f. 0 };
 
     fn size(&mut self) -> Result<u64, Device> {
         match self.metadata() {

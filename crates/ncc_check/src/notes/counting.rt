@@ -68,7 +68,9 @@ pub fn note_lengths(
     notes: &mut Vec<Note>,
 ) -> Result<(), AllocError>
     requires { length named.now ≡ length dims.now }
-    ensures { OnOk result (Adds (Below (LargeLength version dims.now (names_in named.now) (offsets_in named.now)) (length dims.now)) notes.old.items notes.new.items) }
+    ensures { OnOk result (Adds
+        (Below (LargeLength version dims.now (names_in named.now) (offsets_in named.now)) (length dims.now))
+        notes.old.items notes.new.items) }
 {
     let limit = limit_of_counts(version);
     for i in 0..dims.len() {

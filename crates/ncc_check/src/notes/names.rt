@@ -15,7 +15,8 @@ const SHORT: usize = 32;
 
 /// Notes the names that break the rule of names.
 fn note_bad(alloc: Global, named: &[Named<'_>], notes: &mut Vec<Note>) -> Result<(), AllocError>
-    ensures { OnOk result (Adds (Below (BadName (names_in named.now) (offsets_in named.now)) (length named.now)) notes.old.items notes.new.items) }
+    ensures { OnOk result (Adds (Below (BadName (names_in named.now) (offsets_in named.now)) (length named.now))
+        notes.old.items notes.new.items) }
 {
     for x in named {
         let fits = name_fits(alloc, x.name)?;
@@ -39,7 +40,8 @@ fn is_among(named: &[Named<'_>], number: usize, name: &[u8]) -> bool
 
 /// Notes the names that an earlier one has, pair by pair.
 fn note_repeats_by_pairs(named: &[Named<'_>], notes: &mut Vec<Note>) -> Result<(), AllocError>
-    ensures { OnOk result (Adds (Below (Repeated (names_in named.now) (offsets_in named.now)) (length named.now)) notes.old.items notes.new.items) }
+    ensures { OnOk result (Adds (Below (Repeated (names_in named.now) (offsets_in named.now)) (length named.now))
+        notes.old.items notes.new.items) }
 {
     for i in 0..named.len() {
         let repeated = is_among(named, i, named[i].name);
@@ -54,7 +56,8 @@ fn note_repeats_by_table(
     named: &[Named<'_>],
     notes: &mut Vec<Note>,
 ) -> Result<(), AllocError>
-    ensures { OnOk result (Adds (Below (Repeated (names_in named.now) (offsets_in named.now)) (length named.now)) notes.old.items notes.new.items) }
+    ensures { OnOk result (Adds (Below (Repeated (names_in named.now) (offsets_in named.now)) (length named.now))
+        notes.old.items notes.new.items) }
 {
     let mut seen: IndexSet<&[u8]> = IndexSet::new(alloc);
     for i in 0..named.len() {
@@ -66,7 +69,8 @@ fn note_repeats_by_table(
 
 /// Notes the names that an earlier one has: those of a short list pair by pair, which is faster there.
 fn note_repeats(alloc: Global, named: &[Named<'_>], notes: &mut Vec<Note>) -> Result<(), AllocError>
-    ensures { OnOk result (Adds (Below (Repeated (names_in named.now) (offsets_in named.now)) (length named.now)) notes.old.items notes.new.items) }
+    ensures { OnOk result (Adds (Below (Repeated (names_in named.now) (offsets_in named.now)) (length named.now))
+        notes.old.items notes.new.items) }
 {
     if named.len() <= SHORT {
         return note_repeats_by_pairs(named, notes);
@@ -80,7 +84,8 @@ pub fn note_names(
     named: &[Named<'_>],
     notes: &mut Vec<Note>,
 ) -> Result<(), AllocError>
-    ensures { OnOk result (Adds (NameNotes (names_in named.now) (offsets_in named.now)) notes.old.items notes.new.items) }
+    ensures { OnOk result (Adds (NameNotes (names_in named.now) (offsets_in named.now))
+        notes.old.items notes.new.items) }
 {
     note_bad(alloc, named, notes)?;
     note_repeats(alloc, named, notes)?;

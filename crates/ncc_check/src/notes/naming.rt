@@ -77,7 +77,8 @@ fn note_attrs_of_vars(
     notes: &mut Vec<Note>,
 ) -> Result<(), AllocError>
     requires { length named.now ≡ length vars.now }
-    ensures { OnOk result (Adds (Below (AttrNotesAt version vars.now (offsets_in named.now)) (length vars.now)) notes.old.items notes.new.items) }
+    ensures { OnOk result (Adds (Below (AttrNotesAt version vars.now (offsets_in named.now)) (length vars.now))
+        notes.old.items notes.new.items) }
 {
     for i in 0..vars.len() {
         note_var_attrs(alloc, version, &vars[i], named[i].at, notes)?;
@@ -87,7 +88,10 @@ fn note_attrs_of_vars(
 
 /// The notes on the names of variables and of their attributes.
 pub fn note_vars(alloc: Global, schema: &Schema, notes: &mut Vec<Note>) -> Result<(), AllocError>
-    ensures { OnOk result (Adds (λ n. VarNotes schema.now n ⊎ Below (AttrNotesAt schema.now.version schema.now.vars (var_offsets schema.now)) (length schema.now.vars) n) notes.old.items notes.new.items) }
+    ensures { OnOk result (Adds
+        (λ n. VarNotes schema.now n
+        ⊎ Below (AttrNotesAt schema.now.version schema.now.vars (var_offsets schema.now)) (length schema.now.vars) n)
+        notes.old.items notes.new.items) }
 {
     let vars = schema.vars.as_slice();
     let named = named_vars(alloc, schema.version, vars, vars_start(schema))?;

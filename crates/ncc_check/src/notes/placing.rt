@@ -71,7 +71,11 @@ fn note_place(
 pub fn note_places(header: &Header, sizes: &Sizes, notes: &mut Vec<Note>) -> Result<(), AllocError>
     requires number { length header.now.places ≡ length header.now.schema.vars }
     requires sizes { length sizes.now.rounded ≡ length header.now.schema.vars }
-    ensures { OnOk result (Adds (Below (PlaceNotesAt header.now.schema.version (kinds_of header.now.schema) sizes.now.rounded header.now.places) (length header.now.places)) notes.old.items notes.new.items) }
+    ensures { OnOk result (Adds
+        (Below
+        (PlaceNotesAt header.now.schema.version (kinds_of header.now.schema) sizes.now.rounded header.now.places)
+        (length header.now.places))
+        notes.old.items notes.new.items) }
 {
     let dims = header.schema.dims.as_slice();
     let vars = header.schema.vars.as_slice();

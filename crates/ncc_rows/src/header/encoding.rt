@@ -1,7 +1,7 @@
 //! Canonical headers, in words of four bytes.
 
 use super::helpers::written;
-use ncc_files::bytes_of;
+use ncc_files::{FIXED, bytes_of};
 use ncc_schema::{
     Attr, Count, Dim, Failed, FuseSink, FuseSource, ReadSource, Schema, Sink, Source, Var,
     VarPlace, WriteSink, encode, legal,
@@ -9,11 +9,6 @@ use ncc_schema::{
 use ncc_values::{Seq, Values, Version, XType};
 use std::alloc::{AllocError, Global};
 use std::test::*;
-
-/// The variable short v(x), with x of length 3.
-const FIXED_SHORT: [u32; 20] = [
-    0x43444601, 0, 0x0a, 1, 1, 0x78000000, 3, 0, 0, 0x0b, 1, 1, 0x76000000, 1, 0, 0, 0, 3, 8, 0x50,
-];
 
 /// The global attribute title, of the chars hello, in CDF-5, while the file is still written.
 const TITLE: [u32; 18] = [
@@ -36,6 +31,7 @@ fn empty(alloc: Global, version: Version, count: Count) -> Schema {
     }
 }
 
+/// The variable short v(x), with x of length 3.
 fn fixed_short(alloc: Global) -> Result<Schema, AllocError> {
     let mut dims = Vec::new(alloc);
     dims.push(Dim {
@@ -81,7 +77,8 @@ fn canonical_headers(rt: HostRuntime) -> Result<(), Fail> {
         begin_at: 0,
     };
     let short = fixed_short(alloc)?;
-    assert!(rt; written(alloc, &short, &[place]) == Some(bytes_of(alloc, &FIXED_SHORT)?));
+    // The header of that file without its values.
+    assert!(rt; written(alloc, &short, &[place]) == Some(bytes_of(alloc, &FIXED[..20])?));
     assert!(rt; written(alloc, &short, &[]).is_none());
     assert!(rt;
         written(

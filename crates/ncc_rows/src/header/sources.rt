@@ -11,20 +11,28 @@ use std::io::{Error, ErrorKind, Read, Write};
 use std::process::Abort;
 use std::test::*;
 
-/// Fails at its first call, and would pass each later one.
+/// Has this answer for its first call, and would pass a byte at each later one.
 #[derive(Drop)]
 struct FailsOnce {
-    failed: bool,
+    first: Option<io::Result<usize>>,
 }
 
 impl FailsOnce {
     fn passes(&mut self) -> io::Result<usize> {
-        if self.failed {
-            return Ok(1);
-        }
-        self.failed = true;
-        Err(Error::from(ErrorKind::Other))
+        self.first.take().unwrap_or(Ok(1))
     }
+}
+
+/// Answers its first call with an error.
+fn errs_once() -> FailsOnce {
+    FailsOnce {
+        first: Some(Err(Error::from(ErrorKind::Other))),
+    }
+}
+
+/// Takes nothing at its first call.
+fn takes_nothing_once() -> FailsOnce {
+    FailsOnce { first: Some(Ok(0)) }
 }
 
 impl Read for FailsOnce {
@@ -43,16 +51,18 @@ impl Write for FailsOnce {
     }
 }
 
-/// An error is answered at once, and not tried again.
+/// An error is answered at once and not tried again, and so is a write that takes nothing.
 #[test]
 fn errors_are_answered(rt: HostRuntime) {
-    let mut source = ReadSource::new(FailsOnce { failed: false });
+    let mut source = ReadSource::new(errs_once());
     let mut room = [0; 4];
     assert!(rt; source.read(&mut room) == Err(Failed));
     assert!(rt; source.read(&mut room) == Ok(1));
-    let mut sink = WriteSink::new(FailsOnce { failed: false });
-    assert!(rt; sink.write(b"ab") == Err(Failed));
-    assert!(rt; sink.write(b"ab") == Ok(1));
+    for writer in [errs_once(), takes_nothing_once()] {
+        let mut sink = WriteSink::new(writer);
+        assert!(rt; sink.write(b"ab") == Err(Failed));
+        assert!(rt; sink.write(b"ab") == Ok(1));
+    }
 }
 
 /// The length of the header from a source that passes so many calls of at most `most` bytes.

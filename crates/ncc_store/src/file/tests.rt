@@ -85,6 +85,8 @@ impl SystemFile for ShortFile {
 
     ghost settled = { λ f. f.pending ≡ false };
 
+    ghost failed = { λ f. 0 };
+
     fn size(&mut self) -> Result<u64, Device> {
         Ok(self.bytes.len() as u64)
     }
@@ -164,4 +166,78 @@ fn short_writes_go_on(rt: HostRuntime) -> Result<(), Fail> {
         assert_eq!(rt; store.file.bytes.as_slice(), front);
     }
     Ok(())
+}
+
+/// Fails at its first call, and would pass each later one.
+#[derive(Drop)]
+struct FailsOnce {
+    failed: bool,
+}
+
+impl FailsOnce {
+    fn passes(&mut self) -> Result<(), Device> {
+        if self.failed {
+            return Ok(());
+        }
+        self.failed = true;
+        Err(Device)
+    }
+}
+
+impl SystemFile for FailsOnce {
+    ghost use Rattle.std.specs.Prelude.{None};
+
+    ghost bytes = { λ f. None };
+
+    ghost settled = { λ f. Unit {0} };
+
+    ghost failed = { λ f. 0 };
+
+    fn size(&mut self) -> Result<u64, Device> {
+        self.passes()?;
+        Ok(3)
+    }
+
+    fn fill(&mut self, _place: u64, _out: &mut [u8]) -> Result<(), Device> {
+        self.passes()
+    }
+
+    fn write_some(&mut self, _place: u64, piece: &[u8]) -> Result<usize, Device> {
+        self.passes()?;
+        Ok(piece.len())
+    }
+
+    fn settle(&mut self) -> Result<(), Device> {
+        self.passes()
+    }
+}
+
+fn fails_once() -> FileStore<FailsOnce> {
+    FileStore {
+        file: FailsOnce { failed: false },
+        writes: true,
+        failures: 0,
+    }
+}
+
+// A call that failed isn't tried again.
+#[test]
+fn errors_are_answered(rt: HostRuntime) {
+    let mut out = [0; 2];
+    let mut store = fails_once();
+    assert_eq!(rt; store.len(), Err(Device));
+    assert_eq!(rt; store.len(), Ok(3));
+    assert_eq!(rt; store.failures, 1);
+    let mut store = fails_once();
+    assert_eq!(rt; store.read_at(0, &mut out), Err(Device));
+    assert_eq!(rt; store.read_at(0, &mut out), Ok(()));
+    assert_eq!(rt; store.failures, 1);
+    let mut store = fails_once();
+    assert_eq!(rt; store.write_at(0, &[1]), Err(Device));
+    assert_eq!(rt; store.write_at(0, &[1]), Ok(()));
+    assert_eq!(rt; store.failures, 1);
+    let mut store = fails_once();
+    assert_eq!(rt; store.sync(), Err(Device));
+    assert_eq!(rt; store.sync(), Ok(()));
+    assert_eq!(rt; store.failures, 1);
 }

@@ -1,9 +1,7 @@
-use Rattle.std.proofs.Common.{◌≡◌, ℕ, ◌+◌, List, ◌++◌, length, take, drop, sym, ap, ap₂, subst, ◌∙◌, inl, inr, arith}
-use Rattle.std.specs.Prelude.{IsTrue, Err, IfErr}
+use Rattle.std.proofs.Common.{◌≡◌, ℕ, ◌++◌, length, take, ap, ◌∙◌, arith}
 use Rattle.std.proofs.lemmas.List.{length-take}
 use Rattle.std.proofs.lemmas.Result.{err_from_is_err_and}
 use Rattle.ncc_header.specs.Decoder.{limit_of}
-use Rattle.ncc_check.specs.FromStore.{ReadsHeader}
 use Rattle.ncc_check.proofs.FromStore.{reads_to_end, one_more_read, still_whole, same_piece, more_taken, took_all, took_some, whole_enough, all_enough, refused_piece}
 use Rattle.ncc_check.proofs.reading.feed_front.Goals as goal
 

@@ -1,5 +1,4 @@
-use Rattle.std.proofs.Common.{ℕ, List, Result, Ok, Err, subst, ◌∙◌}
-use Rattle.ncc_schema.specs.declared.schema.Header.{Header}
+use Rattle.std.proofs.Common.{ℕ, Ok, Err, subst, ◌∙◌}
 use Rattle.ncc_header.specs.Answers.{Answers}
 use Rattle.ncc_check.specs.FromStore.{HasEnough}
 use Rattle.ncc_check.proofs.FromStore.{final_header, final_refusal}

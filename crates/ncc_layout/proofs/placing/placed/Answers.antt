@@ -5,7 +5,8 @@ use Rattle.std.proofs.lemmas.List.{length-map}
 use Rattle.ncc_schema.specs.declared.schema.VarPlace.{VarPlace}
 use Rattle.ncc_schema.specs.Schema.{place_of, places_of}
 use Rattle.ncc_layout.specs.declared.extent.Extent.{Extent}
-use Rattle.ncc_layout.specs.declared.fault.PlaceError.{PlaceError}
+use Rattle.ncc_layout.specs.declared.fault.LayoutFault.{LayoutFault}
+use Rattle.ncc_layout.specs.declared.fault.PlaceError.TheVariants.{Fault}
 use Rattle.ncc_layout.specs.Bounds.{HasBytes, AreNumbered}
 use Rattle.ncc_layout.specs.Extents.{extents_of}
 use Rattle.ncc_layout.specs.Elements.{placed_on, AreLaid, AreSized}
@@ -39,7 +40,7 @@ returns-in-Some c =
     let there = fault_there header.schema (places_of header.places) header.length c.args.file_length c.deref-2.result.now c.frame_of-frame.result c.frame_of-frame.ensures is
     c.requires.legal.number c.in_ok-kind.field-0 c.in-Some.kind c.in-Some.variable c.in_ok-kind.ensures c.in-Some.is in
     let same = c.fault_at.ensures ∙ ap (λ (l : List VarPlace). fault_at l c.in-Some.kind c.in-Some.variable) c.as_slice.ensures in
-    subst (λ (e : PlaceError). PlacedAs header.schema header.places header.length c.args.file_length (Err e)) (sym same)
+    subst (λ (f : LayoutFault). PlacedAs header.schema header.places header.length c.args.file_length (Err (Fault f))) (sym same)
     (c.in-Some.variable, found, omega (arith, there, length-map header.places place_of), refl)
 
 pub lay-requires : goal.lay-requires

@@ -8,5 +8,5 @@ loop-rest-preserved g c =
     let rest = c.loop-rest.rest.now in
     let n = c.in_ok-n.n in
     let parts : rest ≡ take n rest ++ c.split_at.result.1.now = sym (take-append-drop n rest) ∙ ap (λ z. take n rest ++ z) (sym c.split_at.ensures.back) in
-    let next : c.loop-rest.at + n ≡ c.loop-rest.at + length (take n rest) = omega (arith, length-take-le n rest c.in_ok-n.ensures.0) in
-    written_more _ _ _ _ _ _ _ rest (take n rest) _ c.loop-rest.invariant parts next c.in_ok-n.ensures.2
+    let next : c.loop-rest.at + n ≡ c.loop-rest.at + length (take n rest) = omega (arith, length-take-le n rest c.in_ok-n.ensures.puts.0) in
+    (written_more _ _ _ _ _ _ _ rest (take n rest) _ c.loop-rest.invariant.0 parts next c.in_ok-n.ensures.puts.2, c.in_ok-n.ensures.once ∙ c.loop-rest.invariant.1)
