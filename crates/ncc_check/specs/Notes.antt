@@ -1,4 +1,4 @@
--- What a header has that no writer of this library writes, each with the offset of the field that shows it.
+-- What is unusual in a header, each with the offset of the field that shows it.
 use Rattle.std.specs.Prelude.{◌≡◌, ◌≢◌, ℕ, ◌+◌, ◌-◌, ◌%◌, ◌<◌, ◌≤◌, ◌⊎◌, List, [], ◌∷◌, length, map, get_or, Contains}
 use Rattle.std.specs.List.{AllByRecursion}
 use Rattle.ncc_values.specs.Name.{FitsAsName}

@@ -1,10 +1,11 @@
 //! The verdict on a file.
 
-ghost use Rattle.std.specs.Prelude.{◌+◌, ◌≤◌, length, IsTrue, OnOk};
+ghost use Rattle.std.specs.Prelude.{ℕ, IfOk, ◌+◌, ◌≤◌, max, length, IsTrue, OnOk};
 ghost use Rattle.ncc_store.specs.Store.{Unmoved, KeepsImages};
 ghost use Rattle.ncc_check.specs.Passes.{HasOwnElements};
-ghost use Rattle.ncc_check.specs.Checks.{Checks, CountsAs};
-ghost use Rattle.ncc_check.specs.FromStore.{calls_for};
+ghost use Rattle.ncc_check.specs.Checks.{Checks, CountsAs, Reports};
+ghost use Rattle.ncc_check.specs.FromStore.{calls_for, IsBegun};
+ghost use Rattle.ncc_schema.specs.declared.schema.Header.{Header as TheHeader};
 
 use crate::examining::examine;
 use crate::fault::Refusal;
@@ -21,11 +22,13 @@ use std::alloc::Global;
 pub fn check<S: Store>(alloc: Global, store: &mut S, limit: u64) -> Result<Report, Refusal>
     ensures answers { IsTrue S.tells_bytes → Checks (S.bytes store.old) limit result }
     ensures own { IsTrue S.tells_bytes → OnOk result (HasOwnElements (S.bytes store.old) limit) }
+    ensures some { IfOk result (λ r. (h : TheHeader) × (file : ℕ) × IsBegun h × Reports h file r) }
     ensures unmoved { Unmoved S.bytes S.images S.moment S.images_since store.old store.new }
     ensures kept { KeepsImages (S.images store.old) (S.images store.new) }
     ensures count { CountsAs (S.failures store.old) (S.failures store.new) result }
     ensures calls { IsTrue S.tells_bytes
         → S.calls store.new ≤ S.calls store.old + calls_for (length (S.bytes store.old)) limit }
+    ensures reach { S.reach store.new ≤ max (S.reach store.old) limit }
 {
     passing_elements_are_apart();
     let found = examine(alloc, store, limit)?;

@@ -1,8 +1,10 @@
 //! Whether a file passes, and what it holds.
 
-ghost use Rattle.std.specs.Prelude.{◌≡◌, ◌+◌, ◌≤◌, length, IsTrue, IfOk, IfErr};
+ghost use Rattle.std.specs.Prelude.{◌≡◌, ◌+◌, ◌≤◌, max, length, IsTrue, IfOk, IfErr};
 ghost use Rattle.ncc_store.specs.Store.{Unmoved, KeepsImages};
 ghost use Rattle.ncc_layout.specs.Sizes.{AreSizes};
+ghost use Rattle.ncc_layout.specs.Placed.{Holds, file_length_of};
+ghost use Rattle.ncc_schema.specs.Schema.{places_of};
 ghost use Rattle.ncc_check.specs.Checks.{CountsAs, Refuses, Finds};
 ghost use Rattle.ncc_check.specs.FromStore.{calls_for, IsBegun};
 
@@ -26,6 +28,8 @@ pub struct Found {
 pub fn examine<S: Store>(alloc: Global, store: &mut S, limit: u64) -> Result<Found, Refusal>
     ensures finds { IsTrue S.tells_bytes → IfOk result (λ x. Finds (S.bytes store.old) limit x.header x.placed) }
     ensures refuses { IsTrue S.tells_bytes → IfErr result (Refuses (S.bytes store.old) limit) }
+    ensures laid { IfOk result (λ x. Holds x.header.schema (places_of x.header.places) x.header.length
+        (file_length_of x.placed) x.placed) }
     ensures begun { IfOk result (λ x. IsBegun x.header) }
     ensures sizes { IfOk result (λ x. AreSizes x.header.schema x.sizes) }
     ensures unmoved { Unmoved S.bytes S.images S.moment S.images_since store.old store.new }
@@ -33,6 +37,7 @@ pub fn examine<S: Store>(alloc: Global, store: &mut S, limit: u64) -> Result<Fou
     ensures count { CountsAs (S.failures store.old) (S.failures store.new) result }
     ensures calls { IsTrue S.tells_bytes
         → S.calls store.new ≤ S.calls store.old + calls_for (length (S.bytes store.old)) limit }
+    ensures reach { S.reach store.new ≤ max (S.reach store.old) limit }
 {
     store_laws::unmoved_calls_join::<S>();
     let file_length = store.len()?;

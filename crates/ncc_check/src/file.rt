@@ -1,9 +1,10 @@
 //! An open file.
 
-ghost use Rattle.std.specs.Prelude.{◌≡◌, ◌≤◌, ◌+◌, false, length, take, drop, IsTrue, OnOk};
+ghost use Rattle.std.specs.Prelude.{◌≡◌, ◌≤◌, ◌+◌, max, false, length, take, drop, IsTrue, OnOk};
 ghost use Rattle.ncc_values.specs.Failures.{Counts};
 ghost use Rattle.ncc_store.specs.Store.{Unmoved, KeepsImages};
 ghost use Rattle.ncc_layout.specs.Placed.{records_of_file, file_length_of};
+ghost use Rattle.ncc_check.specs.Checks.{StandsIn};
 
 use ncc_header::Schema;
 use ncc_layout::Placed;
@@ -16,6 +17,8 @@ pub struct NcFile<S: Store> {
     schema: Schema,
     placed: Placed,
     must_reopen: bool,
+    // A header that the bytes begin with, where they are told, has this schema, and its variables are at these places.
+    ghost stands: { ∥ StandsIn S.tells_bytes (S.bytes store) schema placed ∥₁ },
     ghost long: { IsTrue S.tells_bytes → file_length_of placed ≤ length (S.bytes store) },
 }
 
@@ -24,7 +27,8 @@ impl<S: Store> NcFile<S> {
 
     /// A file that passed.
     pub(crate) fn new(store: S, schema: Schema, placed: Placed) -> NcFile<S>
-        requires { IsTrue S.tells_bytes → file_length_of placed ≤ length (S.bytes store) }
+        requires stands { StandsIn S.tells_bytes (S.bytes store) schema placed }
+        requires long { IsTrue S.tells_bytes → file_length_of placed ≤ length (S.bytes store) }
         ensures store { store_of result ≡ store }
         ensures schema { schema_of result ≡ schema }
         ensures placed { placed_of result ≡ placed }
@@ -70,6 +74,8 @@ impl<S: Store> NcFile<S> {
         ensures unmoved { Unmoved S.bytes S.images S.moment S.images_since (store_of self.old) (store_of self.new) }
         ensures kept { KeepsImages (S.images (store_of self.old)) (S.images (store_of self.new)) }
         ensures count { Counts (S.failures (store_of self.old)) (S.failures (store_of self.new)) result }
+        ensures calls { S.calls (store_of self.new) ≤ S.calls (store_of self.old) + 1 }
+        ensures reach { S.reach (store_of self.new) ≤ max (S.reach (store_of self.old)) (place + length out.old) }
     {
         self.store.read_at(place, out)
     }

@@ -1,9 +1,9 @@
 //! Opening a file that passes.
 
-ghost use Rattle.std.specs.Prelude.{◌≡◌, ◌+◌, ◌≤◌, false, length, IsTrue, IfOk, IfErr, OnOk, MatchResult};
+ghost use Rattle.std.specs.Prelude.{◌≡◌, ◌+◌, ◌≤◌, max, false, length, IsTrue, IfOk, IfErr, OnOk, MatchResult};
 ghost use Rattle.ncc_store.specs.Store.{Unmoved, KeepsImages};
 ghost use Rattle.ncc_check.specs.Passes.{HasOwnElements};
-ghost use Rattle.ncc_check.specs.Checks.{Refuses, RefusalCounts, Opens};
+ghost use Rattle.ncc_check.specs.Checks.{Refuses, RefusalCounts, Opens, StandsIn};
 ghost use Rattle.ncc_check.specs.FromStore.{calls_for};
 ghost use Rattle.ncc_check.specs.Files.{store_of, schema_of, placed_of, must_reopen};
 
@@ -21,6 +21,7 @@ pub fn open<S: Store>(alloc: Global, store: S, limit: u64) -> Result<NcFile<S>, 
     ensures passes { IsTrue S.tells_bytes → IfOk result (λ f. Opens (S.bytes store) limit (schema_of f) (placed_of f)) }
     ensures own { IsTrue S.tells_bytes → OnOk result (HasOwnElements (S.bytes store) limit) }
     ensures refused { IsTrue S.tells_bytes → IfErr result (λ e. Refuses (S.bytes store) limit e.1) }
+    ensures stands { IfOk result (λ f. StandsIn S.tells_bytes (S.bytes (store_of f)) (schema_of f) (placed_of f)) }
     ensures fresh { IfOk result (λ f. must_reopen f ≡ false) }
     ensures unmoved { MatchResult result
         (λ f. Unmoved S.bytes S.images S.moment S.images_since store (store_of f))
@@ -34,6 +35,9 @@ pub fn open<S: Store>(alloc: Global, store: S, limit: u64) -> Result<NcFile<S>, 
     ensures calls { IsTrue S.tells_bytes → MatchResult result
         (λ f. S.calls (store_of f) ≤ S.calls store + calls_for (length (S.bytes store)) limit)
         (λ e. S.calls e.0 ≤ S.calls store + calls_for (length (S.bytes store)) limit) }
+    ensures reach { MatchResult result
+        (λ f. S.reach (store_of f) ≤ max (S.reach store) limit)
+        (λ e. S.reach e.0 ≤ max (S.reach store) limit) }
 {
     passing_elements_are_apart();
     let mut store = store;

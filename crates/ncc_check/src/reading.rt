@@ -1,6 +1,6 @@
 //! Reading the header of a file from a store.
 
-ghost use Rattle.std.specs.Prelude.{◌≡◌, ◌⊎◌, ◌+◌, ◌≤◌, ℕ, List, [], length, take, drop, min, Err, IsTrue, IfOk, IfErr, OnOk};
+ghost use Rattle.std.specs.Prelude.{◌≡◌, ◌⊎◌, ◌+◌, ◌≤◌, ℕ, List, [], length, take, drop, min, max, Err, IsTrue, IfOk, IfErr, OnOk};
 ghost use Rattle.ncc_store.specs.Store.{Unmoved, KeepsImages};
 ghost use Rattle.ncc_header.specs.Decoder.{Took, limit_of};
 ghost use Rattle.ncc_check.specs.Checks.{CountsAs};
@@ -32,6 +32,7 @@ fn feed_piece<S: Store>(
     ensures kept { KeepsImages (S.images store.old) (S.images store.new) }
     ensures count { CountsAs (S.failures store.old) (S.failures store.new) result }
     ensures calls { S.calls store.new ≤ S.calls store.old + 1 }
+    ensures reach { S.reach store.new ≤ max (S.reach store.old) (at + length room.old) }
 {
     store.read_at(at, room)?;
     match decoder.feed(room) {
@@ -54,6 +55,7 @@ fn feed_front<S: Store>(store: &mut S, decoder: &mut Decoder, end: u64) -> Resul
     ensures kept { KeepsImages (S.images store.old) (S.images store.new) }
     ensures count { CountsAs (S.failures store.old) (S.failures store.new) result }
     ensures calls { S.calls store.new ≤ S.calls store.old + reads_for end }
+    ensures reach { S.reach store.new ≤ max (S.reach store.old) end }
 {
     laws::stop_stays();
     store_laws::unmoved_calls_join::<S>();
@@ -85,6 +87,7 @@ pub fn header_of<S: Store>(
     ensures kept { KeepsImages (S.images store.old) (S.images store.new) }
     ensures count { CountsAs (S.failures store.old) (S.failures store.new) result }
     ensures calls { S.calls store.new ≤ S.calls store.old + reads_for (min file_length limit) }
+    ensures reach { S.reach store.new ≤ max (S.reach store.old) limit }
 {
     laws::header_or_stop();
     laws::header_is_begun();

@@ -1,6 +1,6 @@
 //! `check`: whether a file passes.
 
-ghost use Rattle.std.specs.Prelude.{◌≡◌, ◌⊎◌, ◌+◌, ◌≤◌, ℕ, List, length, IsTrue};
+ghost use Rattle.std.specs.Prelude.{◌≡◌, ◌⊎◌, ◌+◌, ◌≤◌, max, ℕ, List, length, IsTrue};
 ghost use Rattle.ncc_schema.specs.Device.{Puts};
 ghost use Rattle.ncc_store.specs.Store.{Unmoved, KeepsImages};
 ghost use Rattle.ncc_values.specs.Failures.{Rose};
@@ -45,8 +45,9 @@ pub fn check_engine<S: Store, W: Sink>(
         → Rose (S.failures store.old) (S.failures store.new) ⊎ Rose (W.failures sink.old) (W.failures sink.new) }
     ensures calls { IsTrue S.tells_bytes
         → S.calls store.new ≤ S.calls store.old + calls_for (length (S.bytes store.old)) limit }
+    ensures reach { S.reach store.new ≤ max (S.reach store.old) limit }
 {
-    laws::passes_or_fault();
+    laws::passing_has_no_fault();
     laws::one_report();
     match check(alloc, store, limit) {
         Ok(report) => answered(send_report(alloc, &report, sink), judged(strict, &report)),

@@ -63,6 +63,8 @@ impl<F: SystemFile> Store for FileStore<F> {
 
     ghost calls = { λ f. 0 };
 
+    ghost reach = { λ f. 0 };
+
     ghost stands = { λ f told. untold told };
 
     ghost counts_now = { λ f t c le now. now };

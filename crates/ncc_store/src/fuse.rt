@@ -1,6 +1,6 @@
 //! A store that fails from some call on.
 
-ghost use Rattle.std.specs.Prelude.{◌≡◌, ◌+◌, ◌-◌, ◌<◌, ◌≤◌, ◌^◌, ◌⊎◌, [], length, take, drop, IsTrue, IfOk, OnOk, OnErr};
+ghost use Rattle.std.specs.Prelude.{◌≡◌, ◌+◌, ◌-◌, ◌<◌, ◌≤◌, ◌^◌, ◌⊎◌, [], max, length, take, drop, IsTrue, IfOk, OnOk, OnErr};
 ghost use Rattle.ncc_values.specs.Failures.{last_count, Rose};
 ghost use Rattle.ncc_store.specs.Store.{written, FrontWritten, AfterWrite, Only, KeepsImages, Elapses, Unmoved};
 
@@ -99,6 +99,8 @@ impl<S: Store> Store for FuseStore<S> {
 
     ghost calls = { λ f. last_count - fuse_left f };
 
+    ghost reach = { λ f. S.reach (fuse_inner f) };
+
     ghost stands = { λ f. S.stands (fuse_inner f) };
 
     ghost counts_now = { λ f. S.counts_now (fuse_inner f) };
@@ -113,6 +115,7 @@ impl<S: Store> Store for FuseStore<S> {
         ensures kept { KeepsImages (S.images (fuse_inner self.old)) (S.images (fuse_inner self.new)) }
         ensures burns { Burns S.failures self.old self.new result }
         ensures below { S.calls (fuse_inner self.new) ≤ S.calls (fuse_inner self.old) + 1 }
+        ensures reach { S.reach (fuse_inner self.new) ≤ S.reach (fuse_inner self.old) }
         ensures nothing { fuse_left self.old ≡ 0 → fuse_inner self.new ≡ fuse_inner self.old }
     {
         if self.left == 0 {
@@ -130,6 +133,7 @@ impl<S: Store> Store for FuseStore<S> {
         ensures kept { KeepsImages (S.images (fuse_inner self.old)) (S.images (fuse_inner self.new)) }
         ensures burns { Burns S.failures self.old self.new result }
         ensures below { S.calls (fuse_inner self.new) ≤ S.calls (fuse_inner self.old) + 1 }
+        ensures reach { S.reach (fuse_inner self.new) ≤ max (S.reach (fuse_inner self.old)) (place + length out.old) }
         ensures nothing { fuse_left self.old ≡ 0 → fuse_inner self.new ≡ fuse_inner self.old }
     {
         if self.left == 0 {
@@ -150,6 +154,7 @@ impl<S: Store> Store for FuseStore<S> {
             (AfterWrite place piece.now (S.images (fuse_inner self.old))) }
         ensures burns { Burns S.failures self.old self.new result }
         ensures below { S.calls (fuse_inner self.new) ≤ S.calls (fuse_inner self.old) + 1 }
+        ensures reach { S.reach (fuse_inner self.new) ≤ S.reach (fuse_inner self.old) }
         ensures nothing { fuse_left self.old ≡ 0 → failed_front (fuse_front self.old) piece.now ≡ []
             → fuse_inner self.new ≡ fuse_inner self.old }
 
@@ -178,6 +183,7 @@ impl<S: Store> Store for FuseStore<S> {
         ensures kept { OnErr result (KeepsImages (S.images (fuse_inner self.old)) (S.images (fuse_inner self.new))) }
         ensures burns { Burns S.failures self.old self.new result }
         ensures below { S.calls (fuse_inner self.new) ≤ S.calls (fuse_inner self.old) + 1 }
+        ensures reach { S.reach (fuse_inner self.new) ≤ S.reach (fuse_inner self.old) }
         ensures nothing { fuse_left self.old ≡ 0 → fuse_inner self.new ≡ fuse_inner self.old }
     {
         if self.left == 0 {

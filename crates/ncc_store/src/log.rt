@@ -91,6 +91,8 @@ impl Store for LogStore {
 
     ghost calls = { λ s. 0 };
 
+    ghost reach = { λ s. 0 };
+
     ghost stands = { λ s told. images_stand (reverse (log_calls s)) (reverse (log_replaced s)) (log_bytes s) };
 
     ghost counts_now = { λ s t c le now. back_now (log_moment s - t) (reverse (log_calls s))

@@ -76,6 +76,8 @@ impl Store for LongStore {
 
     ghost calls = { λ s. 0 };
 
+    ghost reach = { λ s. 0 };
+
     ghost stands = { λ s told. untold told };
 
     ghost counts_now = { λ s t c le now. now };

@@ -57,6 +57,8 @@ impl Store for MemStore {
 
     ghost calls = { λ m. 0 };
 
+    ghost reach = { λ m. 0 };
+
     ghost stands = { λ m told. untold told };
 
     ghost counts_now = { λ m t c le now. now };

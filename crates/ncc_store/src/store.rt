@@ -1,6 +1,6 @@
 //! Stores of bytes.
 
-ghost use Rattle.std.specs.Prelude.{◌≡◌, ◌+◌, ◌<◌, ◌≤◌, ◌^◌, Bool, List, ℕ, length, take, drop, IsTrue, IfOk, OnOk, OnErr};
+ghost use Rattle.std.specs.Prelude.{◌≡◌, ◌+◌, ◌<◌, ◌≤◌, ◌^◌, Bool, List, ℕ, max, length, take, drop, IsTrue, IfOk, OnOk, OnErr};
 ghost use Rattle.ncc_values.specs.Failures.{last_count, Counts};
 ghost use Rattle.ncc_store.specs.Store.{written, FrontWritten, AfterWrite, Only, KeepsImages, Elapses, Unmoved};
 
@@ -40,13 +40,17 @@ pub trait Store {
     /// A number that grows by at most one at each call, so that a caller can bound its calls.
     ghost calls: { Self → ℕ };
 
+    /// A number that a read raises at most to where it ends, so that a caller can bound where it reads.
+    ghost reach: { Self → ℕ };
+
     /// The number of bytes.
     fn len(&mut self) -> Result<u64, Device>
         ensures told { IsTrue tells_bytes → IfOk result (λ n. n ≡ length (bytes self.old)) }
         ensures unmoved { Unmoved bytes images moment images_since self.old self.new }
         ensures kept { KeepsImages (images self.old) (images self.new) }
         ensures count { Counts (failures self.old) (failures self.new) result }
-        ensures calls { calls self.new ≤ calls self.old + 1 };
+        ensures calls { calls self.new ≤ calls self.old + 1 }
+        ensures reach { reach self.new ≤ reach self.old };
 
     /// Fills `out` with the bytes from `place` on. Where the store doesn't tell its bytes, a read past
     /// their end fails. After an `Err` `out` may hold anything.
@@ -57,7 +61,8 @@ pub trait Store {
         ensures unmoved { Unmoved bytes images moment images_since self.old self.new }
         ensures kept { KeepsImages (images self.old) (images self.new) }
         ensures count { Counts (failures self.old) (failures self.new) result }
-        ensures calls { calls self.new ≤ calls self.old + 1 };
+        ensures calls { calls self.new ≤ calls self.old + 1 }
+        ensures reach { reach self.new ≤ max (reach self.old) (place + length out.old) };
 
     /// Writes the piece over what is there, and past the end. After an `Err` a front of it is written,
     /// and of a piece of at most 8 bytes all or nothing.
@@ -70,7 +75,8 @@ pub trait Store {
         ensures images { Elapses images moment images_since self.old self.new
             (AfterWrite place piece.now (images self.old)) }
         ensures count { Counts (failures self.old) (failures self.new) result }
-        ensures calls { calls self.new ≤ calls self.old + 1 };
+        ensures calls { calls self.new ≤ calls self.old + 1 }
+        ensures reach { reach self.new ≤ reach self.old };
 
     /// After it succeeded nothing is pending: a stop leaves the bytes and nothing else.
     fn sync(&mut self) -> Result<(), Device>
@@ -78,7 +84,8 @@ pub trait Store {
         ensures unmoved { Unmoved bytes images moment images_since self.old self.new }
         ensures kept { OnErr result (KeepsImages (images self.old) (images self.new)) }
         ensures count { Counts (failures self.old) (failures self.new) result }
-        ensures calls { calls self.new ≤ calls self.old + 1 };
+        ensures calls { calls self.new ≤ calls self.old + 1 }
+        ensures reach { reach self.new ≤ reach self.old };
 
     /// The bytes are one of the images.
     ghost stands: { (store : Self) → IsTrue tells_images → images store (bytes store) };

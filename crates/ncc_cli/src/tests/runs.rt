@@ -1,6 +1,8 @@
 //! The program's statuses, and what it writes.
 
 use super::helpers::front;
+use crate::answer::Answer;
+use crate::finishing::finish;
 use crate::run::run;
 use ncc_files::{EMPTY, FIXED, TITLED, bytes_of, with_byte};
 use std::alloc::{AllocError, Global};
@@ -307,6 +309,23 @@ fn outputs_that_take_nothing(rt: HostRuntime) -> Result<(), Fail> {
     fs::remove_file(&rt, name)?;
     expect_stuck(&rt, "ncc --help")?;
     expect_stuck(&rt, "ncc --version")?;
+    Ok(())
+}
+
+/// What kept a run from its end is told on the error output.
+#[test]
+fn errors_are_told(rt: HostRuntime) -> Result<(), Fail> {
+    let told = [
+        (Answer::Passed, 0, ""),
+        (Answer::Refused, 1, ""),
+        (Answer::Device, 3, "error device\n"),
+        (Answer::Memory, 3, "error memory\n"),
+    ];
+    for (answer, status, text) in told {
+        let mut err = Vec::new(rt.alloc());
+        assert_eq!(rt; finish(answer, &mut err), status);
+        assert!(rt; err.as_slice() == text.as_bytes());
+    }
     Ok(())
 }
 

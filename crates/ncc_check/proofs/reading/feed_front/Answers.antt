@@ -24,6 +24,7 @@ loop-at-preserved g c =
       within = omega (arith, c.min-size.ensures, c.loop-at-test.true);
       unmoved = c.unmoved_calls_join.ensures c.args.store.now c.loop-at.store c.feed_piece.new.store so_far.unmoved c.in_ok-feed_piece.ensures.unmoved;
       kept = λ image was. c.in_ok-feed_piece.ensures.kept image (so_far.kept image was);
+      reach = omega (arith, so_far.reach, c.in_ok-feed_piece.ensures.reach, room, c.loop-at-test.true, c.min-size.ensures);
       calls = omega (arith, so_far.calls, c.in_ok-feed_piece.ensures.calls, one_more_read c.loop-at.at size c.args.end so_far.whole c.loop-at-test.true c.min-size.ensures);
       whole = still_whole c.loop-at.at size c.args.end so_far.whole c.loop-at-test.true c.min-size.ensures;
       count = c.in_ok-feed_piece.ensures.count ∙ so_far.count;

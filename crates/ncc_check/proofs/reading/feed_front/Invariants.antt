@@ -1,5 +1,5 @@
 use Rattle.std.proofs.Common.{◌≡◌, ◌⊎◌, ◌+◌, ◌%◌, ◌-◌, ◌≤◌, List, ℕ, take}
-use Rattle.std.specs.Prelude.{IsTrue}
+use Rattle.std.specs.Prelude.{IsTrue, max}
 use Rattle.ncc_store.specs.Store.{Unmoved, KeepsImages}
 use Rattle.ncc_header.specs.Decoder.{Took, limit_of}
 use Rattle.ncc_check.specs.FromStore.{reads_for}
@@ -12,6 +12,7 @@ invariant-loop-at g l = record {
   within : l.at ≤ l.end;
   unmoved : Unmoved g.S.Store.bytes g.S.Store.images g.S.Store.moment g.S.Store.images_since l.fn.store l.store;
   kept : KeepsImages (g.S.Store.images l.fn.store) (g.S.Store.images l.store);
+  reach : g.S.Store.reach l.store ≤ max (g.S.Store.reach l.fn.store) l.end;
   calls : g.S.Store.calls l.store ≤ g.S.Store.calls l.fn.store + reads_for l.at;
   whole : (l.at % 65536 ≡ 0) ⊎ (l.at ≡ l.end);
   count : g.S.Store.failures l.store ≡ g.S.Store.failures l.fn.store;
