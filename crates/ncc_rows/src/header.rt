@@ -2,11 +2,11 @@
 //! or changed, and what is written.
 
 mod answers;
-mod cuts;
+pub mod cuts;
 mod encoding;
 mod feeding;
-mod helpers;
+pub mod helpers;
 mod names;
 mod pieces;
-mod plain;
+pub mod plain;
 mod sources;
