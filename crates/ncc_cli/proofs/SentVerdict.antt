@@ -1,5 +1,5 @@
 -- What `check` sent is the text of its bytes, or a front of it.
-use Rattle.std.proofs.Common.{◌≡◌, ℕ, Bool, true, false, List, [], ◌∷◌, Option, Result, Ok, Err, refl, sym, ap, subst, ◌∙◌, ◌⊎◌, inl, inr}
+use Rattle.std.proofs.Common.{◌≡◌, ℕ, Bool, true, false, List, [], ◌∷◌, Option, Result, Ok, refl, sym, ap, subst, ◌∙◌, ◌⊎◌, inl, inr}
 use Rattle.ncc_check.specs.declared.fault.FileFault.{FileFault}
 use Rattle.ncc_check.specs.declared.note.Note.{Note}
 use Rattle.ncc_check.specs.declared.report.Report.{Report}
@@ -12,7 +12,7 @@ use Rattle.ncc_lines.specs.Sends.{SendsAll}
 use Rattle.ncc_cli.specs.declared.answer.Answer.{Answer}
 use Rattle.ncc_cli.specs.declared.answer.Answer.TheVariants.{Passed, Refused, Device, Memory}
 use Rattle.ncc_cli.specs.Answers.{Writes, answer_of}
-use Rattle.ncc_cli.specs.Checking.{verdict_on, verdict, IsReportOf, IsFaultOf, IsCheckText}
+use Rattle.ncc_cli.specs.Checking.{verdict_on, verdict, IsFaultOf, IsCheckText}
 use Rattle.ncc_cli.proofs.Sent.{Gone, OneText, sent}
 
 -- the laws of bytes that pass that make their text one

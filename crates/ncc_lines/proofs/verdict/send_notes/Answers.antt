@@ -1,4 +1,4 @@
-use Rattle.std.proofs.Common.{ℕ, List, ◌+◌, drop, ◌∙◌, get_or, refl}
+use Rattle.std.proofs.Common.{◌+◌, drop, ◌∙◌, get_or, refl}
 use Rattle.std.specs.List.{flat_map}
 use Rattle.ncc_check.specs.declared.note.Note.{Note}
 use Rattle.ncc_check.specs.declared.note.NoteKind.TheVariants.{VsizeField}
