@@ -18,7 +18,8 @@ use std::alloc::Global;
 /// Opens a file that passes: its store, with all that its header says and with its variables at their
 /// places. It passes exactly as `check` does; where it doesn't, the store comes back as it was.
 pub fn open<S: Store>(alloc: Global, store: S, limit: u64) -> Result<NcFile<S>, (S, Refusal)>
-    ensures passes { IsTrue S.tells_bytes → IfOk result (λ f. Opens (S.bytes store) limit (schema_of f) (placed_of f)) }
+    ensures passes { IsTrue S.tells_bytes
+        → IfOk result (λ f. Opens (S.bytes store) limit (schema_of f) (placed_of f)) }
     ensures own { IsTrue S.tells_bytes → OnOk result (HasOwnElements (S.bytes store) limit) }
     ensures refused { IsTrue S.tells_bytes → IfErr result (λ e. Refuses (S.bytes store) limit e.1) }
     ensures stands { IfOk result (λ f. StandsIn S.tells_bytes (S.bytes (store_of f)) (schema_of f) (placed_of f)) }

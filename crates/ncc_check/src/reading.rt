@@ -22,6 +22,7 @@ fn feed_piece<S: Store>(
     room: &mut [u8],
 ) -> Result<Fed, Refusal>
     requires there { IsTrue S.tells_bytes → at + length room.old ≤ length (S.bytes store.old) }
+    requires size { length room.old ≤ 65536 }
     requires took { (taken : List ℕ) × Took decoder.old taken }
     ensures ok { IfOk result (λ fed. FedPiece decoder.old decoder.new room.new fed) }
     ensures told { IsTrue S.tells_bytes

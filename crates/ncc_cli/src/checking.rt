@@ -41,6 +41,7 @@ pub fn check_engine<S: Store, W: Sink>(
     ensures kept { KeepsImages (S.images store.old) (S.images store.new) }
     ensures quiet { (result ≡ Answer.Device → ⊥)
         → (S.failures store.new ≡ S.failures store.old) × (W.failures sink.new ≡ W.failures sink.old) }
+    ensures still { (S.failures store.new ≡ S.failures store.old → ⊥) → W.calls sink.new ≡ W.calls sink.old }
     ensures device { result ≡ Answer.Device
         → Rose (S.failures store.old) (S.failures store.new) ⊎ Rose (W.failures sink.old) (W.failures sink.new) }
     ensures calls { IsTrue S.tells_bytes

@@ -1,6 +1,6 @@
 //! The page on which text gathers before it is sent.
 
-ghost use Rattle.std.specs.Prelude.{◌≡◌, ◌++◌, [], OnOk};
+ghost use Rattle.std.specs.Prelude.{◌≡◌, ◌++◌, ◌<◌, [], length, OnOk};
 ghost use Rattle.ncc_lines.specs.Words.{name_text};
 ghost use Rattle.ncc_lines.specs.Sends.{Sends, Blames};
 
@@ -26,8 +26,9 @@ pub fn send_page<W: Sink>(page: &mut Vec<u8>, sink: &mut W) -> Result<(), Halt>
     Ok(())
 }
 
-/// Sends what the page holds if it is full.
+/// Sends what the page holds if it is full; then it isn't.
 pub fn turn_page<W: Sink>(page: &mut Vec<u8>, sink: &mut W) -> Result<(), Halt>
+    ensures short { OnOk result (length page.new.items < 60000) }
     ensures sent { Sends (W.put sink.old) (W.put sink.new) page.old.items page.new.items result }
     ensures count { Blames (W.failures sink.old) (W.failures sink.new) result }
 {

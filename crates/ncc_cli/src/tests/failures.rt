@@ -4,7 +4,7 @@ use super::helpers::{ATTRIBUTES_TEXT, EACH_NOTE, EACH_NOTE_TEXT};
 use crate::answer::Answer;
 use crate::checking::check_engine;
 use crate::listing::list_engine;
-use ncc_files::{ATTRIBUTES, LIMIT, bytes_of};
+use ncc_files::{ATTRIBUTES, FIXED, LIMIT, bytes_of};
 use ncc_header::{ReadSource, WriteSink};
 use ncc_store::{FuseStore, MemStore};
 use std::io;
@@ -113,6 +113,60 @@ fn failing_stores(rt: HostRuntime) -> Result<(), Fail> {
         assert!(rt; answer == wanted);
         assert!(rt; sink.into_inner().as_slice() == text.as_bytes());
     }
+    Ok(())
+}
+
+/// However long the file is, its header alone is read: one call for the length, and one for the first piece.
+#[test]
+fn no_call_past_the_header(rt: HostRuntime) -> Result<(), Fail> {
+    let alloc = rt.alloc();
+    let mut bytes = bytes_of(alloc, &FIXED)?;
+    bytes.resize(300_000, 0)?;
+    let mut store = FuseStore::new(MemStore::new(bytes), 2);
+    let mut sink = WriteSink::new(Vec::new(alloc));
+    assert!(rt; check_engine(alloc, &mut store, LIMIT, true, &mut sink) == Answer::Passed);
+    assert!(rt; sink.into_inner().as_slice() == b"ok CDF-1 records 0 variables 1\n".as_slice());
+    Ok(())
+}
+
+/// A writer that fails at its first call alone.
+#[derive(Drop)]
+struct FailsOnce {
+    failed: bool,
+    taken: Vec<u8>,
+}
+
+impl Write for FailsOnce {
+    fn write(&mut self, bytes: &[u8]) -> io::Result<usize> {
+        if !self.failed {
+            self.failed = true;
+            return Err(Error::from(ErrorKind::Other));
+        }
+        self.taken.extend_from_slice(bytes)?;
+        Ok(bytes.len())
+    }
+
+    fn flush(&mut self) -> io::Result<()> {
+        Ok(())
+    }
+}
+
+/// An error of the sink is answered at once: nothing is sent again.
+#[test]
+fn sinks_that_fail_once(rt: HostRuntime) -> Result<(), Fail> {
+    let alloc = rt.alloc();
+    let input = bytes_of(alloc, &ATTRIBUTES)?;
+    let mut source = ReadSource::new(input.as_slice());
+    let taken = Vec::new(alloc);
+    let failed = false;
+    let mut sink = WriteSink::new(FailsOnce { failed, taken });
+    assert!(rt; list_engine(alloc, &mut source, LIMIT, &mut sink) == Answer::Device);
+    assert!(rt; sink.into_inner().taken.is_empty());
+    let mut store = MemStore::new(bytes_of(alloc, &EACH_NOTE)?);
+    let taken = Vec::new(alloc);
+    let mut sink = WriteSink::new(FailsOnce { failed, taken });
+    assert!(rt; check_engine(alloc, &mut store, LIMIT, true, &mut sink) == Answer::Device);
+    assert!(rt; sink.into_inner().taken.is_empty());
     Ok(())
 }
 

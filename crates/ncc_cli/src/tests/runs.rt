@@ -131,6 +131,24 @@ fn limits_that_are_given(rt: HostRuntime) -> Result<(), Fail> {
     Ok(())
 }
 
+/// The limit doesn't change what a note comes to.
+#[test]
+fn strict_with_a_limit(rt: HostRuntime) -> Result<(), Fail> {
+    let noted = with_byte(rt.alloc(), &FIXED, 75, 0)?;
+    let lines = "ok CDF-1 records 0 variables 1\nnote VsizeField at 72\n";
+    let command = "check --strict --max-header 100";
+    expect_file(&rt, command, "ncc_test_strict.nc", &noted, 1, lines)?;
+    Ok(())
+}
+
+/// A file that may not be written is checked. The system lets nobody write this one, not even root.
+#[test]
+fn file_that_is_only_read(rt: HostRuntime) -> Result<(), Fail> {
+    let line = "ncc check /proc/sys/kernel/osrelease";
+    expect_run(&rt, line, 1, "fault EndsEarly at 0\n", "")?;
+    Ok(())
+}
+
 #[test]
 fn faults_of_the_command_line(rt: HostRuntime) -> Result<(), Fail> {
     let texts = [
@@ -241,25 +259,17 @@ fn limit_of_a_header(rt: HostRuntime) -> Result<(), Fail> {
         2,
         67_108_864 - 40,
     ];
+    let early = "fault EndsEarly at 40\n";
+    let long = "fault HeaderTooLong at 40\n";
+    let name = "ncc_test_limits.nc";
     let below = bytes_of(rt.alloc(), &words)?;
-    expect_file(
-        &rt,
-        "list",
-        "ncc_test_below.nc",
-        &below,
-        1,
-        "fault EndsEarly at 40\n",
-    )?;
+    expect_file(&rt, "list", name, &below, 1, early)?;
+    expect_file(&rt, "check", name, &below, 1, early)?;
     words[9] += 1;
     let above = bytes_of(rt.alloc(), &words)?;
-    expect_file(
-        &rt,
-        "list",
-        "ncc_test_above.nc",
-        &above,
-        1,
-        "fault HeaderTooLong at 40\n",
-    )?;
+    expect_file(&rt, "list", name, &above, 1, long)?;
+    expect_file(&rt, "check", name, &above, 1, long)?;
+    expect_file(&rt, "check --max-header 67108868", name, &above, 1, early)?;
     Ok(())
 }
 

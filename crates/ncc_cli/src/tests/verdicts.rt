@@ -4,7 +4,7 @@ use super::helpers::{EACH_NOTE, EACH_NOTE_TEXT, expect_verdict, front};
 use crate::answer::Answer;
 use ncc_files::{
     EMPTY, FIXED, FIXED_IN_CDF_2, FIXED_IN_CDF_5, RECORD_AND_SCALAR, RECORDS, RECORDS_DATA,
-    TOO_LARGE_IN_CDF_5, TWO_RECORD_VARIABLES, bytes_of, with_byte,
+    TOO_LARGE, TOO_LARGE_IN_CDF_5, TWO_RECORD_VARIABLES, bytes_of, with_byte,
 };
 use std::alloc::AllocError;
 use std::process::Abort;
@@ -84,6 +84,36 @@ fn notes(rt: HostRuntime) -> Result<(), Fail> {
     let text = "ok CDF-1 records 0 variables 1\nnote VsizeField at 72\n";
     expect_noted(&rt, &vsize, text)?;
     expect_noted(&rt, &bytes_of(alloc, &EACH_NOTE)?, EACH_NOTE_TEXT)?;
+    Ok(())
+}
+
+/// Two notes at one offset come in the order of their kinds.
+#[test]
+fn notes_at_one_offset(rt: HostRuntime) -> Result<(), Fail> {
+    let words = [
+        0x43444601, 0, 0, 0, 0, 0, 0x0b, 2, 1, 0x61000000, 0, 0, 0, 1, 4, 100, 1, 0x62000000, 0, 0,
+        0, 1, 4, 97, 0, 0,
+    ];
+    let text = "ok CDF-1 records 0 variables 2\nnote UnalignedBegin at 92\nnote Order at 92\n";
+    expect_noted(&rt, &bytes_of(rt.alloc(), &words)?, text)?;
+    Ok(())
+}
+
+/// The same faults of the layout in each version: a variable that is too large, and a file that is cut.
+#[test]
+fn faults_of_layouts_by_version(rt: HostRuntime) -> Result<(), Fail> {
+    let alloc = rt.alloc();
+    let words = [
+        0x43444601, 0, 0x0a, 1, 1, 0x78000000, 0x7fffffff, 0, 0, 0x0b, 1, 1, 0x76000000, 3, 0, 0,
+        0, 0, 0, 1, 0, 88,
+    ];
+    expect_fault(&rt, &bytes_of(alloc, &words)?, "fault TooLarge at 84\n")?;
+    let large = bytes_of(alloc, &TOO_LARGE)?;
+    expect_fault(&rt, &large, "fault TooLarge at 92\n")?;
+    let fixed = bytes_of(alloc, &FIXED_IN_CDF_2)?;
+    expect_fault(&rt, front(&fixed, 89), "fault Truncated at 76\n")?;
+    let fixed = bytes_of(alloc, &FIXED_IN_CDF_5)?;
+    expect_fault(&rt, front(&fixed, 133), "fault Truncated at 120\n")?;
     Ok(())
 }
 
