@@ -28,7 +28,8 @@ pub fn list_engine<R: Source, W: Sink>(
     ensures most { LosesAtMost (R.left source.old) (R.left source.new) limit }
     ensures quiet { (result ≡ Answer.Device → ⊥)
         → (R.failures source.new ≡ R.failures source.old) × (W.failures sink.new ≡ W.failures sink.old) }
-    ensures still { (R.failures source.new ≡ R.failures source.old → ⊥) → W.calls sink.new ≡ W.calls sink.old }
+    ensures still { (R.failures source.new ≡ R.failures source.old → ⊥)
+        → W.calls sink.new ≡ W.calls sink.old }
     ensures device { result ≡ Answer.Device
         → Rose (R.failures source.old) (R.failures source.new) ⊎ Rose (W.failures sink.old) (W.failures sink.new) }
 {
