@@ -87,4 +87,5 @@ def main(which, folder):
                 out.write(head[:-1])
 
 
-main(sys.argv[1], sys.argv[2])
+if __name__ == "__main__":
+    main(sys.argv[1], sys.argv[2])

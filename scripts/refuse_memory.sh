@@ -8,12 +8,12 @@ cd "$(dirname "$0")/../crates/ncc_cli" || exit 1
 errors=$(mktemp)
 trap 'rm -f "$errors"' EXIT
 
-# The runs that are to write this text, of the words that follow.
+# The runs that are to write this text, of the words that follow: files to be copied, `--`, and the command line.
 refuse() {
   local text=$1 refused=0 n out status
   shift
   for n in $(seq "$count"); do
-    out=$(rt try --fail-alloc "$n" -- "$@" 2> "$errors")
+    out=$(rt try --fail-alloc "$n" "$@" 2> "$errors")
     status=$?
     if [ "$status" = 0 ] && [ "$out" = "$text" ]; then
       continue
@@ -28,5 +28,5 @@ refuse() {
   echo "$*: $count runs, $refused answered error memory, the others were whole"
 }
 
-refuse "$(cat stdout)" list data/empty.nc
-refuse "$(cat ../../examples/noted.checked)" check ../../examples/noted.nc
+refuse "$(cat stdout)" -- list data/empty.nc
+refuse "$(cat ../../examples/noted.checked)" --data noted.nc=../../examples/noted.nc -- check noted.nc

@@ -1,6 +1,6 @@
 #!/usr/bin/env bash
 # All tests: the gate `rt ci` (every proof from nothing, the must-fail edits, the unit tests, the program's own
-# run), and then the built program (scripts/test_program.sh). The last line is `N passed, M failed` of both.
+# run), and then the program that it built (scripts/test_program.sh). The last line is `N passed, M failed` of both.
 set -uo pipefail
 top=$(cd "$(dirname "$0")/.." && pwd)
 log=$(mktemp)
@@ -29,6 +29,6 @@ part() {
 
 cd "$top" || exit 1
 part rt ci
-part scripts/test_program.sh
+part scripts/test_program.sh crates/ncc_cli/out/ncc_cli
 echo "$passed passed, $failed failed"
 [ "$status" = 0 ] && [ "$failed" = 0 ]

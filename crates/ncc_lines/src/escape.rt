@@ -7,7 +7,7 @@ ghost use Rattle.ncc_lines.specs.Words.{hex_digit, byte_digits, is_plain, escape
 use std::alloc::AllocError;
 
 /// A hexadecimal digit, in lower case.
-fn digit(n: u8) -> u8
+pub fn digit(n: u8) -> u8
     requires { n < 16 }
     ensures { result ≡ hex_digit n }
 {

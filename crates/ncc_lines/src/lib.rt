@@ -11,5 +11,9 @@ mod texts;
 mod values;
 mod verdict;
 
+pub use escape::{digit, push_name};
 pub use halt::Halt;
+pub use heads::dim_name;
+pub use page::send_page;
 pub use sending::{send_fault, send_file_fault, send_header, send_report};
+pub use texts::push_decimal;

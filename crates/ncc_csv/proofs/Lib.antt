@@ -1,0 +1,9 @@
+pub mod Adding
+pub mod Runs
+pub mod Order
+pub mod Selecting
+pub mod PartTexts
+pub mod Picking
+pub mod ListNumbers
+pub mod Fitting
+pub mod Joining

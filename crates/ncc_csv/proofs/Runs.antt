@@ -1,0 +1,34 @@
+-- Rows one after the other, by their number.
+use Rattle.std.proofs.Common.{◌≡◌, ℕ, zero, suc, ◌+◌, ◌<◌, List, [], ◌++◌, map, drop, get_or, refl, sym, ap, ◌∙◌, arith, append_assoc}
+use Rattle.std.proofs.lemmas.List.{append-nil, get_or-drop, drop-map}
+use Rattle.ncc_slab.specs.Selection.{indices_of}
+use Rattle.ncc_slab.specs.declared.slab.Slab.{Slab}
+use Rattle.ncc_csv.specs.Rows.{row_line, element_row}
+use Rattle.ncc_csv.specs.Runs.{slab_row, first_rows}
+
+-- the first rows, and behind them others
+pub first_rows-add : (row : ℕ → List (List ℕ)) (a b : ℕ) → first_rows row (a + b) ≡ first_rows row a ++ first_rows (λ k. row (a + k)) b
+first_rows-add row a zero =
+    let e : a + zero ≡ a = omega arith in
+    ap (λ (n : ℕ). first_rows row n) e ∙ sym (append-nil (first_rows row a))
+first_rows-add row a (suc b) =
+    let e : a + suc b ≡ suc (a + b) = omega arith in
+    ap (λ (n : ℕ). first_rows row n) e ∙ ap (λ (t : List ℕ). t ++ row_line (row (a + b))) (first_rows-add row a b) ∙ append_assoc (first_rows row a) (first_rows (λ k. row (a + k)) b) (row_line (row (a + b)))
+
+-- equal rows
+pub first_rows_same : (f g : ℕ → List (List ℕ)) (n : ℕ) → ((k : ℕ) → k < n → f k ≡ g k) → first_rows f n ≡ first_rows g n
+first_rows_same f g zero same = refl
+first_rows_same f g (suc n) same =
+    ap (λ (t : List ℕ). t ++ row_line (f n)) (first_rows_same f g n (λ k lt. same k (omega (arith, lt)))) ∙ ap (λ (r : List (List ℕ)). first_rows g n ++ row_line r) (same n (omega arith))
+
+-- the first rows of the values from one of them on are rows of all values
+pub rows_from : {A : Type 0} (text : A → List ℕ) (values : List A) (s : Slab) (first done n : ℕ)
+    → first_rows (slab_row s first (map text values)) (done + n) ≡ first_rows (slab_row s first (map text values)) done ++ first_rows (slab_row s (first + done) (map text (drop done values))) n
+rows_from text values s first done n =
+    first_rows-add (slab_row s first (map text values)) done n
+    ∙ ap (λ (t : List ℕ). first_rows (slab_row s first (map text values)) done ++ t)
+    (first_rows_same (λ k. slab_row s first (map text values) (done + k)) (slab_row s (first + done) (map text (drop done values))) n
+    (λ k lt.
+    let e : first + (done + k) ≡ first + done + k = omega arith in
+    ap (λ (i : ℕ). element_row (get_or (indices_of s) i []) (get_or (map text values) (done + k) [])) e
+    ∙ ap (λ (t : List ℕ). element_row (get_or (indices_of s) (first + done + k) []) t) (sym (get_or-drop done (map text values) k []) ∙ ap (λ (l : List (List ℕ)). get_or l k []) (drop-map text done values))))

@@ -1,0 +1,10 @@
+pub mod Word
+pub mod Values
+pub mod Rows
+pub mod Runs
+pub mod Names
+pub mod Numbers
+pub mod Picks
+pub mod Refusals
+pub mod Csv
+pub mod Laws

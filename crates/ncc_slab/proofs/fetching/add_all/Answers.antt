@@ -1,0 +1,58 @@
+use Rattle.std.proofs.Common.{◌≡◌, ◌-◌, ℕ, length, min, take, refl, ap, sym, subst, ◌∙◌, arith}
+use Rattle.ncc_values.specs.XType.{size_of}
+use Rattle.ncc_values.specs.Values.{type_of}
+use Rattle.ncc_check.specs.Files.{store_of}
+use Rattle.ncc_slab.specs.Axes.{place_at}
+use Rattle.ncc_slab.specs.Grids.{grid_rest}
+use Rattle.ncc_slab.specs.Selected.{AddsPlaces}
+use Rattle.ncc_slab.proofs.Joined.{next_part, all_taken, part_bounds}
+use Rattle.ncc_slab.proofs.fetching.add_all.Goals as goal
+
+pub overflow_add-taken : goal.overflow_add-taken
+overflow_add-taken g c =
+    let grid = c.args.grid.now in
+    let n = c.in_ok-taken.field-0 in
+    let bounds = part_bounds (place_at grid.base grid.axes.items) c.loop-taken.taken (grid.count - c.loop-taken.taken) n (type_of c.loop-taken.values) c.in_ok-taken.ensures.took in
+    omega (arith, bounds.0, c.loop-taken.invariant.within, c.count.ensures)
+
+pub loop-taken-smaller : goal.loop-taken-smaller
+loop-taken-smaller g c =
+    let grid = c.args.grid.now in
+    let n = c.in_ok-taken.field-0 in
+    let bounds = part_bounds (place_at grid.base grid.axes.items) c.loop-taken.taken (grid.count - c.loop-taken.taken) n (type_of c.loop-taken.values) c.in_ok-taken.ensures.took in
+    let some = bounds.1 (omega (arith, c.loop-taken-test.true, c.count.ensures)) in
+    omega (arith, bounds.0, some, c.loop-taken-test.true, c.count.ensures)
+
+pub loop-taken-preserved : goal.loop-taken-preserved
+loop-taken-preserved g c =
+    let at = c.loop-taken.invariant in
+    let part = c.in_ok-taken.ensures in
+    let grid = c.args.grid.now in
+    let n = c.in_ok-taken.field-0 in
+    let size = size_of (type_of c.args.values.now) in
+    let bytes = g.S.Store.bytes (store_of c.args.file.now) in
+    let rest = take n (grid_rest grid c.loop-taken.taken) in
+    let bounds = part_bounds (place_at grid.base grid.axes.items) c.loop-taken.taken (grid.count - c.loop-taken.taken) n (type_of c.loop-taken.values) part.took in
+    record {
+      within = omega (arith, bounds.0, c.loop-taken-test.true, c.count.ensures);
+      typed = part.typed ∙ at.typed;
+      told = λ told.
+          let same : size_of (type_of c.loop-taken.values) ≡ size = ap size_of at.typed in
+          let added : AddsPlaces bytes (size_of (type_of c.loop-taken.values)) rest c.loop-taken.values c.add_part.new.values =
+          subst (λ (b : _). AddsPlaces b (size_of (type_of c.loop-taken.values)) rest c.loop-taken.values c.add_part.new.values) at.unmoved.same (part.told told) in
+          next_part bytes size (place_at grid.base grid.axes.items) grid.count c.loop-taken.taken n c.args.values.now c.loop-taken.values c.add_part.new.values refl
+          (at.told told) (subst (λ (k : ℕ). AddsPlaces bytes k rest c.loop-taken.values c.add_part.new.values) same added);
+      counted = omega (arith, part.counted, at.counted);
+      schema = part.schema ∙ at.schema;
+      placed = part.placed ∙ at.placed;
+      reopen = part.reopen ∙ at.reopen;
+      unmoved = c.unmoved_calls_join.ensures (store_of c.args.file.now) (store_of c.loop-taken.file) (store_of c.add_part.new.file) at.unmoved part.unmoved;
+      kept = λ image was. part.kept image (at.kept image was);
+      count = part.count ∙ at.count;
+    }
+
+pub returns-clause-told : goal.returns-clause-told
+returns-clause-told g c = λ told.
+    let grid = c.args.grid.now in
+    all_taken (g.S.Store.bytes (store_of c.args.file.now)) (size_of (type_of c.args.values.now)) (place_at grid.base grid.axes.items) grid.count c.loop-taken.taken c.args.values.now c.loop-taken.values
+    (omega (arith, c.loop-taken.invariant.within, c.loop-taken-test.false, c.count.ensures)) (c.loop-taken.invariant.told told)

@@ -1,0 +1,67 @@
+-- What holds of selections.
+use Rattle.std.specs.Prelude.{◌≡◌, ℕ, ◌+◌, ◌<◌, ◌≤◌, ◌↔◌, None, List, [], map, length, get_or}
+use Rattle.std.specs.List.{AllByRecursion}
+use Rattle.ncc_values.specs.Values.{type_of, no_values}
+use Rattle.ncc_values.specs.declared.values.Values.{Values}
+use Rattle.ncc_values.specs.XType.{size_of}
+use Rattle.ncc_layout.specs.declared.placed_var.PlacedVar.{PlacedVar}
+use Rattle.ncc_layout.specs.Sizes.{product}
+use Rattle.ncc_layout.specs.Elements.{Inside, row_major, var_at, Own}
+use Rattle.ncc_slab.specs.declared.slab.Slab.{Slab}
+use Rattle.ncc_slab.specs.Selection.{index_lists, indices_of, selected_count, fitting_count}
+use Rattle.ncc_slab.specs.Selected.{element_bytes, values_at, Selected, AddsPart, places_of, number_at, numbers_of}
+use Rattle.ncc_slab.specs.Refusals.{shape_fault, slab_fault, EndsBy, FitsIn}
+
+-- as many elements are selected as the product of the counts
+abbrev pub CountIsProduct : Type 0
+CountIsProduct = (s : Slab) → selected_count s ≡ product s.count
+
+-- a selection has no more elements than the variable
+abbrev pub SelectsAtMostAll : Type 0
+SelectsAtMostAll = (lengths : List ℕ) (s : Slab) → shape_fault lengths s ≡ None → selected_count s ≤ product lengths
+
+-- where no count is given all indices from start on that fit are taken: the last is below the length, and one more isn't
+abbrev pub CountFits : Type 0
+CountFits = (room start stride : ℕ) → start ≤ room → 0 < stride
+    → EndsBy room start (fitting_count room start stride) stride × (EndsBy room start (fitting_count room start stride + 1) stride → ⊥)
+
+-- the n-th of the lists below these counts has the row-major number n
+abbrev pub OrderIsRowMajor : Type 0
+OrderIsRowMajor = (count : List ℕ) (n : ℕ) → n < product count → row_major count (get_or (index_lists count) n []) ≡ n
+
+-- a selection isn't refused exactly where it fits in the shape
+abbrev pub RefusedUnlessItFits : Type 0
+RefusedUnlessItFits = (lengths : List ℕ) (s : Slab) → (shape_fault lengths s ≡ None) ↔ FitsIn lengths s
+
+-- what is selected is there
+abbrev pub SelectedIsInside : Type 0
+SelectedIsInside = (lengths : List ℕ) (s : Slab) → shape_fault lengths s ≡ None → AllByRecursion (Inside lengths) (indices_of s)
+
+-- the file has all bytes of these elements
+abbrev pub AreWhole : (file : List ℕ) → (record_size : ℕ) → PlacedVar → (indices : List (List ℕ)) → Type 0
+AreWhole file record_size x indices = AllByRecursion (λ i. length (element_bytes file record_size x i) ≡ size_of x.xtype) indices
+
+-- the number of each value is that of its element
+abbrev pub NumbersAreThere : Type 0
+NumbersAreThere = (file : List ℕ) (record_size : ℕ) (x : PlacedVar) (indices : List (List ℕ)) → AreWhole file record_size x indices
+    → numbers_of (values_at file record_size x indices) ≡ map (number_at file record_size x) indices
+
+-- a part, and behind it the next one, are one part
+abbrev pub PartsJoin : Type 0
+PartsJoin = (file : List ℕ) (record_size : ℕ) (x : PlacedVar) (s : Slab) (first m n : ℕ) (old mid new : Values) → AreWhole file record_size x (indices_of s) → type_of old ≡ x.xtype
+    → AddsPart file record_size x s first m old mid → AddsPart file record_size x s (first + m) n mid new → AddsPart file record_size x s first (m + n) old new
+
+-- the part that is the whole selection, behind no values, is what is selected
+abbrev pub WholePartIsSelected : Type 0
+WholePartIsSelected = (file : List ℕ) (record_size : ℕ) (x : PlacedVar) (s : Slab) (values : Values)
+    → AddsPart file record_size x s 0 (selected_count s) (no_values x.xtype) values → Selected file record_size x s values
+
+-- where every element has its bytes in the file, a selection that isn't refused has them
+abbrev pub SelectedIsWhole : Type 0
+SelectedIsWhole = (file : List ℕ) (header record_size : ℕ) (vars : List PlacedVar) (n : ℕ) (s : Slab) → Own header (length file) record_size vars
+    → slab_fault vars n s ≡ None → AreWhole file record_size (var_at vars n) (indices_of s)
+
+-- and they lie inside it
+abbrev pub SelectedIsInFile : Type 0
+SelectedIsInFile = (header file record_size : ℕ) (vars : List PlacedVar) (n : ℕ) (s : Slab) → Own header file record_size vars → slab_fault vars n s ≡ None
+    → AllByRecursion (λ place. place + size_of (var_at vars n).xtype ≤ file) (places_of record_size (var_at vars n) s)

@@ -1,0 +1,9 @@
+pub mod Selection
+pub mod Selected
+pub mod Refusals
+pub mod Axes
+pub mod Grids
+pub mod Places
+pub mod Readers
+pub mod Answers
+pub mod Laws

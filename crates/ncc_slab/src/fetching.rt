@@ -1,0 +1,132 @@
+//! Fetching the elements of a selection, a stretch of adjoining ones by one call.
+
+ghost use Rattle.std.specs.Prelude.{◌≡◌, ◌≢◌, ◌⊎◌, ◌+◌, ◌-◌, ◌*◌, ◌<◌, ◌≤◌, ◌^◌, ℕ, length, take, min, IsTrue, IfOk, OnOk, OnErr};
+ghost use Rattle.ncc_values.specs.Failures.{Counts};
+ghost use Rattle.ncc_values.specs.Values.{type_of, count_of};
+ghost use Rattle.ncc_values.specs.XType.{size_of};
+ghost use Rattle.ncc_store.specs.Store.{Unmoved, KeepsImages};
+ghost use Rattle.ncc_layout.specs.Placed.{file_length_of};
+ghost use Rattle.ncc_check.specs.Files.{store_of, schema_of, placed_of, must_reopen};
+ghost use Rattle.ncc_slab.specs.Answers.{buffer_length, part_count, PartCounts};
+ghost use Rattle.ncc_slab.specs.Grids.{grid_place, grid_count, grid_places, grid_rest, EndBy};
+ghost use Rattle.ncc_slab.specs.Selected.{bytes_at_places, AddsPlaces};
+
+use crate::fault::SlabFault;
+use crate::grid::Grid;
+use ncc_check::NcFile;
+use ncc_store::{Device, Store, laws as store_laws};
+use ncc_values::Values;
+
+/// How many elements from the n-th on, at most so many, lie one behind the other.
+fn stretch(grid: &Grid, size: u64, n: u64, most: u64) -> u64
+    requires ends { (length : ℕ) × (length < 2 ^ 64) × EndBy length size grid.now }
+    requires there { n + most ≤ grid_count grid.now }
+    requires some { 0 < most }
+    ensures some { 0 < result }
+    ensures most { result ≤ most }
+    ensures adjoin { (i : ℕ) → i < result → grid_place grid.now (n + i) ≡ grid_place grid.now n + i * size }
+    ensures longest { (result ≡ most) ⊎ (grid_place grid.now (n + result) ≢ grid_place grid.now n + result * size) }
+{
+    let place = grid.place(n);
+    let mut count = 1;
+    while count < most && grid.place(n + count) == place + count * size {
+        count += 1;
+    }
+    count
+}
+
+/// Fills `out` with elements from the n-th on.
+fn fetch_elements<S: Store>(
+    file: &mut NcFile<S>,
+    grid: &Grid,
+    size: usize,
+    first: u64,
+    count: u64,
+    out: &mut [u8],
+) -> Result<(), Device>
+    requires ends { EndBy (file_length_of (placed_of file.old)) size grid.now }
+    requires there { first + count ≤ grid_count grid.now }
+    requires room { length out.old ≡ count * size }
+    ensures told { IsTrue S.tells_bytes → OnOk result (out.new
+        ≡ bytes_at_places (S.bytes (store_of file.old)) size (take count (grid_rest grid.now first))) }
+    ensures schema { schema_of file.new ≡ schema_of file.old }
+    ensures placed { placed_of file.new ≡ placed_of file.old }
+    ensures reopen { must_reopen file.new ≡ must_reopen file.old }
+    ensures unmoved { Unmoved S.bytes S.images S.moment S.images_since (store_of file.old) (store_of file.new) }
+    ensures kept { KeepsImages (S.images (store_of file.old)) (S.images (store_of file.new)) }
+    ensures count { Counts (S.failures (store_of file.old)) (S.failures (store_of file.new)) result }
+{
+    store_laws::unmoved_calls_join::<S>();
+    let mut done = 0;
+    while done < count {
+        let next = first + done;
+        let more = stretch(grid, size as u64, next, count - done);
+        let begin = done as usize * size;
+        let end = (done + more) as usize * size;
+        file.fetch(grid.place(next), &mut out[begin..end])?;
+        done += more;
+    }
+    Ok(())
+}
+
+/// Adds the next part of the values, as many as the buffer has room for, and tells how many. After an
+/// `Err` the values are as they were.
+pub fn add_part<S: Store>(
+    file: &mut NcFile<S>,
+    grid: &Grid,
+    first: u64,
+    buffer: &mut [u8],
+    values: &mut Values,
+) -> Result<u64, SlabFault>
+    requires ends { EndBy (file_length_of (placed_of file.old)) (size_of (type_of values.old)) grid.now }
+    requires there { first ≤ grid_count grid.now }
+    requires room { length buffer.old ≡ buffer_length }
+    ensures took { IfOk result (λ n. n ≡ part_count (size_of (type_of values.old)) (grid_rest grid.now first)) }
+    ensures told { IsTrue S.tells_bytes → IfOk result (λ n. AddsPlaces (S.bytes (store_of file.old))
+        (size_of (type_of values.old)) (take n (grid_rest grid.now first)) values.old values.new) }
+    ensures typed { type_of values.new ≡ type_of values.old }
+    ensures counted { IfOk result (λ n. count_of values.new ≡ count_of values.old + n) }
+    ensures err { OnErr result (values.new ≡ values.old) }
+    ensures schema { schema_of file.new ≡ schema_of file.old }
+    ensures placed { placed_of file.new ≡ placed_of file.old }
+    ensures reopen { must_reopen file.new ≡ must_reopen file.old }
+    ensures unmoved { Unmoved S.bytes S.images S.moment S.images_since (store_of file.old) (store_of file.new) }
+    ensures kept { KeepsImages (S.images (store_of file.old)) (S.images (store_of file.new)) }
+    ensures count { PartCounts (S.failures (store_of file.old)) (S.failures (store_of file.new)) result }
+{
+    let size = values.xtype().size();
+    let room = (buffer.len() / size) as u64;
+    let count = (grid.count() - first).min(room);
+    let part = &mut buffer[..count as usize * size];
+    fetch_elements(file, grid, size, first, count, part)?;
+    values.push_from(part)?;
+    Ok(count)
+}
+
+/// Adds all values of a selection, part by part.
+pub fn add_all<S: Store>(
+    file: &mut NcFile<S>,
+    grid: &Grid,
+    buffer: &mut [u8],
+    values: &mut Values,
+) -> Result<(), SlabFault>
+    requires ends { EndBy (file_length_of (placed_of file.old)) (size_of (type_of values.old)) grid.now }
+    requires room { length buffer.old ≡ buffer_length }
+    ensures told { IsTrue S.tells_bytes → OnOk result (AddsPlaces (S.bytes (store_of file.old))
+        (size_of (type_of values.old)) (grid_places grid.now) values.old values.new) }
+    ensures typed { type_of values.new ≡ type_of values.old }
+    ensures counted { OnOk result (count_of values.new ≡ count_of values.old + grid_count grid.now) }
+    ensures schema { schema_of file.new ≡ schema_of file.old }
+    ensures placed { placed_of file.new ≡ placed_of file.old }
+    ensures reopen { must_reopen file.new ≡ must_reopen file.old }
+    ensures unmoved { Unmoved S.bytes S.images S.moment S.images_since (store_of file.old) (store_of file.new) }
+    ensures kept { KeepsImages (S.images (store_of file.old)) (S.images (store_of file.new)) }
+    ensures count { PartCounts (S.failures (store_of file.old)) (S.failures (store_of file.new)) result }
+{
+    store_laws::unmoved_calls_join::<S>();
+    let mut taken = 0;
+    while taken < grid.count() {
+        taken += add_part(file, grid, taken, buffer, values)?;
+    }
+    Ok(())
+}

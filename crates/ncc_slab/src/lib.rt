@@ -1,0 +1,20 @@
+//! Selections of a variable's elements: which elements they are, where they lie, and their values.
+#![tactic(auto)]
+
+mod axis;
+mod fault;
+mod fetching;
+mod grid;
+mod gridding;
+pub mod laws;
+mod places;
+mod reader;
+mod reading;
+mod refusing;
+mod slab;
+
+pub use fault::SlabFault;
+pub use places::Places;
+pub use reader::SlabReader;
+pub use reading::read_slab;
+pub use slab::Slab;

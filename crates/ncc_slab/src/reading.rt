@@ -1,0 +1,50 @@
+//! Reading all values of a selection.
+
+ghost use Rattle.std.specs.Prelude.{◌≡◌, IsTrue, IfOk};
+ghost use Rattle.ncc_values.specs.Values.{type_of, count_of};
+ghost use Rattle.ncc_store.specs.Store.{Unmoved, KeepsImages};
+ghost use Rattle.ncc_layout.specs.Elements.{var_at};
+ghost use Rattle.ncc_layout.specs.Placed.{record_size_of_file, vars_of};
+ghost use Rattle.ncc_check.specs.Files.{store_of, schema_of, placed_of, must_reopen};
+ghost use Rattle.ncc_slab.specs.Answers.{ReadsAs, SlabCounts};
+ghost use Rattle.ncc_slab.specs.Selected.{Selected};
+ghost use Rattle.ncc_slab.specs.Selection.{selected_count};
+
+use crate::fault::SlabFault;
+use crate::fetching::add_all;
+use crate::gridding::grid_of;
+use crate::slab::Slab;
+use ncc_check::NcFile;
+use ncc_store::Store;
+use ncc_values::Values;
+use std::alloc::Global;
+
+/// The bytes that are read before they become values.
+pub(crate) const BUFFER: usize = 65_536;
+
+/// The values of a selection of the variable with this number, row-major. A selection is refused before
+/// any memory is asked for and any byte is read. Adjoining elements are read by one call of the store.
+pub fn read_slab<S: Store>(
+    alloc: Global,
+    file: &mut NcFile<S>,
+    var: usize,
+    slab: &Slab,
+) -> Result<Values, SlabFault>
+    ensures answers { ReadsAs (vars_of (placed_of file.old)) var slab.now result }
+    ensures values { IsTrue S.tells_bytes → IfOk result (Selected (S.bytes (store_of file.old))
+        (record_size_of_file (placed_of file.old)) (var_at (vars_of (placed_of file.old)) var) slab.now) }
+    ensures typed { IfOk result (λ v. type_of v ≡ (var_at (vars_of (placed_of file.old)) var).xtype) }
+    ensures counted { IfOk result (λ v. count_of v ≡ selected_count slab.now) }
+    ensures schema { schema_of file.new ≡ schema_of file.old }
+    ensures placed { placed_of file.new ≡ placed_of file.old }
+    ensures reopen { must_reopen file.new ≡ must_reopen file.old }
+    ensures unmoved { Unmoved S.bytes S.images S.moment S.images_since (store_of file.old) (store_of file.new) }
+    ensures kept { KeepsImages (S.images (store_of file.old)) (S.images (store_of file.new)) }
+    ensures count { SlabCounts (S.failures (store_of file.old)) (S.failures (store_of file.new)) result }
+{
+    let grid = grid_of(alloc, file.placed(), var, slab)?;
+    let mut values = Values::new(alloc, file.placed().xtype(var));
+    let mut buffer = vec![in alloc; 0; BUFFER]?;
+    add_all(file, &grid, &mut buffer, &mut values)?;
+    Ok(values)
+}
