@@ -79,16 +79,21 @@ expect "an empty file to check" 1 "fault EndsEarly at 0" "" check nothing.nc
 expect "a header of the given limit" 0 "ok CDF-1 records 0 variables 0" "" check --max-header 32 empty.nc
 expect "a header past the given limit" 1 "fault HeaderTooLong at 28" "" check --max-header 31 empty.nc
 expect "version" 0 "ncc 0.1.0" "" --version
-expect_first "help" 0 "Checks and lists netCDF classic files" "" --help
+expect_first "help" 0 "Checks, lists and reads netCDF classic files" "" --help
 expect_first "help of list" 0 "Lists what the header of a file says" "" list --help
 expect_first "help of check" 0 "Says whether a file is sound, and what is unusual in it" "" check --help
+expect_first "help of csv" 0 "Prints the values of a variable, or of a selection of them" "" csv --help
 expect_first "help by a word" 0 "Lists what the header of a file says" "" help list
-expect_first "no word" 2 "" "Checks and lists netCDF classic files"
+expect_first "no word" 2 "" "Checks, lists and reads netCDF classic files"
 expect_first "no such command" 2 "" "error: unrecognized subcommand 'lst'" lst ocean.nc
 expect_first "no file" 2 "" "error: the following required arguments were not provided:" list
 expect_first "no file to check" 2 "" "error: the following required arguments were not provided:" check
 expect_first "a limit that is no number" 2 "" "error: invalid value 'x' for '--max-header <N>': invalid digit found in string" \
   check --max-header x ocean.nc
+expect "a list that can't be read" 2 "" "error usage" csv ocean.nc time --start 1,
+expect "an empty list" 2 "" "error usage" csv not_there.nc time --count=
+expect_first "a start with a sign" 2 "" "error: unexpected argument '-1' found" csv ocean.nc time --start -1
+expect "no such file to select from" 3 "" "error device" csv not_there.nc time
 expect_first "two files" 2 "" "error: unexpected argument 'tiny.nc' found" list ocean.nc tiny.nc
 expect_first "no such option" 2 "" "error: unexpected argument '--all' found" list --all ocean.nc
 "$ncc" list --help > out
@@ -97,6 +102,42 @@ for line in '  0  listed' '  1  the header has a fault, which is the only line' 
   'A header may have 67,108,864 bytes; a longer one is the fault HeaderTooLong.'; do
   count "help of list: $line" 1 "$(grep -cxF -- "$line" out)"
 done
+
+# ---- rows
+
+expect "csv tiny.nc" 0 "$(printf 'dim,vx\n0,3\n1,1\n2,4\n3,1\n4,5')" "" csv tiny.nc vx
+expect "csv from a start on" 0 "$(printf 'dim,vx\n1,1\n3,1')" "" csv tiny.nc vx --start 1 --stride 2
+expect "csv of no rows" 0 "dim,vx" "" csv tiny.nc vx --count 0
+expect "csv of another variable" 1 "refused NoVariable" "" csv tiny.nc vy
+expect "csv past the end" 1 "refused Outside 0" "" csv tiny.nc vx --start 4 --count 2
+expect "csv of two numbers" 1 "refused RankMismatch" "" csv tiny.nc vx --start 1,1
+expect "csv of a stride of 0" 1 "refused ZeroStride 0" "" csv tiny.nc vx --stride 0
+expect "csv of a fault" 1 "fault Truncated at 60" "" csv bad_truncated_1.nc v
+
+# A file of 100,000 shorts, whose rows are read after a second and a half: only a terminal is told how far it is.
+{
+  printf 'CDF\1\0\0\0\0\0\0\0\x0a\0\0\0\1\0\0\0\1x\0\0\0\0\1\x86\xa0\0\0\0\0\0\0\0\0'
+  printf '\0\0\0\x0b\0\0\0\1\0\0\0\1v\0\0\0\0\0\0\1\0\0\0\0\0\0\0\0\0\0\0\0'
+  printf '\0\0\0\3\0\3\x0d\x40\0\0\0\x50'
+  head -c 200000 /dev/zero
+} > long.nc
+count "check of 100,000 shorts" "ok CDF-1 records 0 variables 1" "$("$ncc" check long.nc)"
+cat > slow.py <<'END'
+import os, pty, subprocess, sys, time
+
+terminal, told = pty.openpty()
+errors = subprocess.PIPE if sys.argv[1] == "pipe" else told
+run = subprocess.Popen(sys.argv[2:], stdin=subprocess.DEVNULL, stdout=subprocess.PIPE, stderr=errors)
+time.sleep(1.5)
+rows = run.stdout.read().count(b"\n")
+shown = run.stderr.read() if sys.argv[1] == "pipe" else os.read(terminal, 65536)
+kind = "nothing"
+if shown:
+    kind = "rows" if b" of 100000 rows" in shown and shown.endswith(b"\r\x1b[K") else repr(shown)
+print(run.wait(), rows, kind)
+END
+count "a terminal is told how far it is" "0 100001 rows" "$(python3 slow.py terminal "$ncc" csv long.nc v)"
+count "a pipe isn't" "0 100001 nothing" "$(python3 slow.py pipe "$ncc" csv long.nc v)"
 
 # ---- outputs that take nothing
 
@@ -107,6 +148,8 @@ for file in ocean.nc bad_magic_1.nc; do
   count "list $file, closed output" "3 error device" "$? $(cat err)"
   "$ncc" check "$file" > /dev/full 2> err
   count "check $file, full output" "3 error device" "$? $(cat err)"
+  "$ncc" csv "$file" time > /dev/full 2> err
+  count "csv $file, full output" "3 error device" "$? $(cat err)"
 done
 "$ncc" list --help > /dev/full 2> err
 count "help, full output" "3 error device" "$? $(cat err)"

@@ -1,4 +1,5 @@
 pub mod Answers
 pub mod Listing
 pub mod Checking
+pub mod Selecting
 pub mod Status

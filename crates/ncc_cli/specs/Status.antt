@@ -3,6 +3,8 @@ use Rattle.std.specs.Prelude.{◌≡◌, ℕ, ◌⊎◌}
 use Rattle.clap.specs.declared.error.kind.ErrorKind.{ErrorKind}
 use Rattle.clap.specs.declared.error.kind.ErrorKind.TheVariants.{DisplayHelp, DisplayVersion, OutOfMemory}
 use Rattle.ncc_cli.specs.declared.answer.Answer.{Answer}
+use Rattle.ncc_cli.specs.declared.picking.WordFault.{WordFault}
+use Rattle.ncc_cli.specs.declared.picking.WordFault.TheVariants as words
 use Rattle.ncc_cli.specs.declared.answer.Answer.TheVariants.{Passed, Refused, Device, Memory}
 
 abbrev pub status_of : Answer → ℕ
@@ -10,6 +12,11 @@ status_of Passed = 0
 status_of Refused = 1
 status_of Device = 3
 status_of Memory = 3
+
+-- the words of a selection aren't taken
+abbrev pub status_of_words : WordFault → ℕ
+status_of_words words.NoList = 2
+status_of_words words.Memory = 3
 
 -- help is no fault, and the command line's faults are 2; either may fail to be written
 abbrev pub Explains : ErrorKind → (status : ℕ) → Type 0

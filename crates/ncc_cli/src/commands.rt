@@ -34,6 +34,21 @@ Status:
   2  the command line is wrong
   3  a device or memory failed";
 
+/// What the help of `csv` says of its lists and statuses.
+const CSV_STATUSES: &str =
+    "A is a list of numbers with commas between them, one for each dimension. What isn't given
+is 0 for the start, 1 for the stride, and for the count as many indices as there are.
+
+The first row names the dimensions and the variable. Each other row has the indices of an
+element in the whole array, and its value; a char is the number of its byte, and a float or
+a double is shown by its bits.
+
+Status:
+  0  selected
+  1  the file has a fault or the selection is refused, which is the only line
+  2  the command line is wrong
+  3  a device or memory failed";
+
 fn file_argument<'a>(alloc: Global) -> Arg<'a> {
     Arg::new(alloc, "FILE")
         .help("A netCDF classic file")
@@ -67,15 +82,40 @@ fn check_command<'a>(alloc: Global) -> Result<Command<'a>, AllocError> {
         .arg(file_argument(alloc))
 }
 
+/// An argument that is a list of numbers.
+fn list_argument<'a>(alloc: Global, name: &'a str, help: &'a str) -> Arg<'a> {
+    Arg::new(alloc, name)
+        .long(name)
+        .value_name("A")
+        .help(help)
+        .action(ArgAction::Set)
+}
+
+fn csv_command<'a>(alloc: Global) -> Result<Command<'a>, AllocError> {
+    let variable = Arg::new(alloc, "VAR")
+        .help("The name of a variable")
+        .required(true)
+        .action(ArgAction::Set);
+    Command::new(alloc, "csv")
+        .about("Prints the values of a variable, or of a selection of them")
+        .after_help(CSV_STATUSES)
+        .arg(list_argument(alloc, "start", "The first index along each dimension"))?
+        .arg(list_argument(alloc, "count", "How many indices along each dimension"))?
+        .arg(list_argument(alloc, "stride", "The step from one index to the next"))?
+        .arg(file_argument(alloc))?
+        .arg(variable)
+}
+
 /// The command line of `ncc`.
 pub fn command<'a>(alloc: Global) -> Result<Command<'a>, AllocError> {
     Command::new(alloc, "ncc")
         .bin_name("ncc")?
         .version("0.1.0")
-        .about("Checks and lists netCDF classic files")
+        .about("Checks, lists and reads netCDF classic files")
         .after_help(STATUSES)
         .subcommand_required(true)
         .arg_required_else_help(true)
         .subcommand(check_command(alloc)?)?
+        .subcommand(csv_command(alloc)?)?
         .subcommand(list_command(alloc)?)
 }

@@ -1,4 +1,4 @@
-//! `ncc`: checks and lists netCDF classic files.
+//! `ncc`: checks, lists and reads netCDF classic files.
 #![tactic(auto)]
 
 mod answer;
@@ -6,12 +6,15 @@ mod checking;
 mod commands;
 mod finishing;
 mod listing;
+mod picking;
+mod progress;
 mod run;
+mod selecting;
 #[cfg(test)]
 mod tests;
 
 use answer::Answer;
-use std::io::ErrorKind;
+use std::io::{ErrorKind, IsTerminal};
 use std::process::ExitCode;
 use std::{env, io};
 
@@ -22,7 +25,10 @@ fn command_line(rt: &HostRuntime) -> io::Result<Vec<String>> {
 
 fn main(rt: HostRuntime) -> ExitCode {
     let status = match command_line(&rt) {
-        Ok(line) => run::run(&rt, &line, &mut rt.stdout(), &mut rt.stderr()),
+        Ok(line) => {
+            let shown = rt.stderr().is_terminal() && !rt.stdout().is_terminal();
+            run::run(&rt, &line, &mut rt.stdout(), &mut rt.stderr(), shown)
+        }
         Err(error) if error.kind() == ErrorKind::OutOfMemory => {
             finishing::finish(Answer::Memory, &mut rt.stderr())
         }

@@ -1,23 +1,29 @@
 //! Running a command.
 
-ghost use Rattle.std.specs.Prelude.{◌≡◌, ◌≤◌, ◌⊎◌, List, ℕ, IfSome};
+ghost use Rattle.std.specs.Prelude.{◌≡◌, ◌≤◌, ◌⊎◌, List, ℕ, IsTrue, IfSome};
 ghost use Rattle.ncc_values.specs.Failures.{Rose};
 ghost use Rattle.ncc_schema.specs.Device.{LosesAtMost, Puts};
 ghost use Rattle.ncc_cli.specs.Listing.{Lists};
+ghost use Rattle.ncc_cli.specs.Selecting.{SelectsInto};
 
 use crate::answer::Answer;
 use crate::checking::check_engine;
 use crate::commands::{LIMIT, command};
 use crate::finishing::{USAGE, explain, finish, flushed};
 use crate::listing::list_engine;
+use crate::picking::{pick_given, refuse_words};
+use crate::progress::RowsLine;
+use crate::selecting::csv_engine;
 use clap::ArgMatches;
+use ncc_csv::Pick;
 use ncc_header::{ReadSource, Sink, Source, WriteSink};
-use ncc_store::FileStore;
+use ncc_lines::Progress;
+use ncc_store::{FileStore, Store};
 use std::alloc::Global;
 use std::fs;
 use std::fs::File;
 use std::io::{BufReader, BufWriter, Write};
-use std::rt::Files;
+use std::rt::{Clock, Files};
 
 /// Lists a source onto a sink, with the program's limit.
 fn listed<R: Source, W: Sink>(alloc: Global, source: &mut R, sink: &mut W) -> Answer
@@ -81,12 +87,71 @@ fn check_named<R: Files<File = File> + AllocGlobal, O: Write>(
     check(rt, path, limit, words.get_flag("strict"), out)
 }
 
-/// Runs the command that the command line names, and gives the program's status.
-pub fn run<R: Files<File = File> + AllocGlobal, O: Write, E: Write>(
+/// Prints what is picked of a variable onto a sink, with the program's limit.
+fn selected<S: Store, W: Sink, P: Progress>(
+    alloc: Global,
+    store: S,
+    name: &str,
+    pick: Pick,
+    sink: &mut W,
+    progress: &mut P,
+) -> (S, Answer)
+    ensures selects { IsTrue S.tells_bytes → (out : List ℕ) × Puts (W.put sink.old) (W.put sink.new) out
+        × SelectsInto (S.bytes store) LIMIT name.now pick result.1 out }
+    ensures quiet { (result.1 ≡ Answer.Device → ⊥)
+        → (S.failures result.0 ≡ S.failures store) × (W.failures sink.new ≡ W.failures sink.old) }
+    ensures device { result.1 ≡ Answer.Device
+        → Rose (S.failures store) (S.failures result.0) ⊎ Rose (W.failures sink.old) (W.failures sink.new) }
+{
+    csv_engine(alloc, store, LIMIT, name.as_bytes(), pick, sink, progress)
+}
+
+/// Prints what is picked of a variable of a file.
+fn select_from<R: Files<File = File> + AllocGlobal, O: Write, P: Progress>(
+    rt: &R,
+    path: &str,
+    name: &str,
+    pick: Pick,
+    out: &mut O,
+    progress: &mut P,
+) -> Answer {
+    let Ok(store) = FileStore::open(rt, path, false) else {
+        return Answer::Device;
+    };
+    let Ok(writer) = BufWriter::new(rt.alloc(), out) else {
+        return Answer::Memory;
+    };
+    let mut sink = WriteSink::new(writer);
+    let (_, answer) = selected(rt.alloc(), store, name, pick, &mut sink, progress);
+    let mut writer = sink.into_inner();
+    flushed(&mut writer, answer)
+}
+
+/// Prints what these words pick, and shows on `err` how far it is where that is to be shown.
+fn csv<R: Files<File = File> + Clock + AllocGlobal, O: Write, E: Write>(
+    rt: &R,
+    words: &ArgMatches,
+    pick: Pick,
+    out: &mut O,
+    err: &mut E,
+    shown: bool,
+) -> Answer {
+    let path = words.get_str("FILE").unwrap_or("");
+    let name = words.get_str("VAR").unwrap_or("");
+    let mut line = RowsLine::new(rt, err, shown);
+    let answer = select_from(rt, path, name, pick, out, &mut line);
+    line.clear();
+    answer
+}
+
+/// Runs the command that the command line names, and gives the program's status. Long work is shown on
+/// `err` where that is asked for.
+pub fn run<R: Files<File = File> + Clock + AllocGlobal, O: Write, E: Write>(
     rt: &R,
     line: &[String],
     out: &mut O,
     err: &mut E,
+    shown: bool,
 ) -> u8
     ensures { result ≤ 3 }
 {
@@ -96,6 +161,10 @@ pub fn run<R: Files<File = File> + AllocGlobal, O: Write, E: Write>(
     match command.try_get_matches_from(line) {
         Ok(matches) => match matches.subcommand() {
             Some(("check", words)) => finish(check_named(rt, words, out), err),
+            Some(("csv", words)) => match pick_given(rt.alloc(), words) {
+                Ok(pick) => finish(csv(rt, words, pick, out, err, shown), err),
+                Err(fault) => refuse_words(fault, err),
+            },
             Some(("list", words)) => {
                 finish(list(rt, words.get_str("FILE").unwrap_or(""), out), err)
             }

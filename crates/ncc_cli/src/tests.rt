@@ -5,5 +5,6 @@ mod faults;
 mod helpers;
 mod lists;
 mod runs;
+mod selections;
 mod values;
 mod verdicts;

@@ -1,8 +1,9 @@
 -- Rows of elements, part by part.
-use Rattle.std.proofs.Common.{◌≡◌, ℕ, zero, suc, ◌+◌, ◌≤◌, ℤ, List, [], ◌∷◌, ◌++◌, map, length, take, drop, refl, sym, ap, ◌∙◌, arith}
+use Rattle.std.proofs.Common.{◌≡◌, ℕ, ◌+◌, ◌≤◌, ℤ, List, [], ◌∷◌, ◌++◌, map, length, take, drop, refl, sym, ap, ◌∙◌, arith}
 use Rattle.std.specs.List.{flat_map}
 use Rattle.std.proofs.lemmas.Grind.{flat_map-append}
-use Rattle.std.proofs.lemmas.List.{map-append, length-map, length-drop, length-take-le, take_all}
+use Rattle.std.proofs.lemmas.List.{map-append, length-map, length-drop, length-take-le, take_all, drop-drop}
+use Rattle.std.proofs.Math.Seq.{take-add}
 use Rattle.ncc_layout.specs.declared.placed_var.PlacedVar.{PlacedVar}
 use Rattle.ncc_values.specs.Values.{type_of, count_of}
 use Rattle.ncc_values.specs.declared.values.Values.{Values}
@@ -30,29 +31,15 @@ part_is_of_elements file record_size x s first n values there typed numbers =
     ∙ ap (λ (l : List ℤ). flat_map row_line (value_rows x.xtype indices l)) numbers
     ∙ ap (λ (l : List (List (List ℕ))). flat_map row_line l) (rows_by x.xtype (number_at file record_size x) indices)
 
-take_none : (n : ℕ) → take {A = List ℕ} n [] ≡ []
-take_none zero = refl
-take_none (suc n) = refl
-
-take_both : (m n : ℕ) (xs : List (List ℕ)) → take (m + n) xs ≡ take m xs ++ take n (drop m xs)
-take_both zero n xs =
-    let e : zero + n ≡ n = omega arith in
-    ap (λ (k : ℕ). take k xs) e
-take_both (suc m) n [] =
-    let e : suc m + n ≡ suc (m + n) = omega arith in
-    ap (λ (k : ℕ). take k []) e ∙ sym (take_none n)
-take_both (suc m) n (x ∷ xs) =
-    let e : suc m + n ≡ suc (m + n) = omega arith in
-    ap (λ (k : ℕ). take k (x ∷ xs)) e ∙ ap (λ l. x ∷ l) (take_both m n xs)
-
-pub rows_join : (file : List ℕ) (record_size : ℕ) (x : PlacedVar) (s : Slab) (m n : ℕ)
-    → rows_text file record_size x (part_of s 0 (m + n)) ≡ rows_text file record_size x (part_of s 0 m) ++ rows_text file record_size x (part_of s m n)
-rows_join file record_size x s m n =
+pub rows_join : (file : List ℕ) (record_size : ℕ) (x : PlacedVar) (s : Slab) (first m n : ℕ)
+    → rows_text file record_size x (part_of s first (m + n)) ≡ rows_text file record_size x (part_of s first m) ++ rows_text file record_size x (part_of s (first + m) n)
+rows_join file record_size x s first m n =
     let row = λ (i : List ℕ). value_row x.xtype i (number_at file record_size x i) in
-    let indices = indices_of s in
-    ap (λ (l : List (List ℕ)). flat_map row_line (map row l)) (take_both m n indices)
+    let indices = drop first (indices_of s) in
+    ap (λ (l : List (List ℕ)). flat_map row_line (map row l)) (take-add m n indices)
     ∙ ap (λ (l : List (List (List ℕ))). flat_map row_line l) (map-append row (take m indices) (take n (drop m indices)))
     ∙ flat_map-append row_line (map row (take m indices)) (map row (take n (drop m indices)))
+    ∙ ap (λ (l : List (List ℕ)). flat_map row_line (map row (take m indices)) ++ flat_map row_line (map row (take n l))) (drop-drop m first (indices_of s))
 
 pub all_are_selected : (s : Slab) → part_of s 0 (selected_count s) ≡ indices_of s
 all_are_selected s = take_all (selected_count s) (indices_of s) (omega arith)

@@ -7,3 +7,6 @@ pub mod Picking
 pub mod ListNumbers
 pub mod Fitting
 pub mod Joining
+pub mod PartRows
+pub mod PartCalls
+pub mod SheetTexts

@@ -23,10 +23,10 @@ abbrev pub PartIsOfElements : Type 0
 PartIsOfElements = (file : List ℕ) (record_size : ℕ) (x : PlacedVar) (s : Slab) (first n : ℕ) (values : Values) → first + n ≤ selected_count s → type_of values ≡ x.xtype
     → numbers_of values ≡ map (number_at file record_size x) (part_of s first n) → part_text s first values ≡ rows_text file record_size x (part_of s first n)
 
--- the rows of the first elements, and behind them those of the next
+-- the rows of a part, and behind them those of the next one, are the rows of both
 abbrev pub RowsJoin : Type 0
-RowsJoin = (file : List ℕ) (record_size : ℕ) (x : PlacedVar) (s : Slab) (m n : ℕ)
-    → rows_text file record_size x (part_of s 0 (m + n)) ≡ rows_text file record_size x (part_of s 0 m) ++ rows_text file record_size x (part_of s m n)
+RowsJoin = (file : List ℕ) (record_size : ℕ) (x : PlacedVar) (s : Slab) (first m n : ℕ)
+    → rows_text file record_size x (part_of s first (m + n)) ≡ rows_text file record_size x (part_of s first m) ++ rows_text file record_size x (part_of s (first + m) n)
 
 -- the first elements, as many as are selected, are those of the selection
 abbrev pub AllAreSelected : Type 0

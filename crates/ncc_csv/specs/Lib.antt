@@ -5,6 +5,8 @@ pub mod Runs
 pub mod Names
 pub mod Numbers
 pub mod Picks
+pub mod Named
 pub mod Refusals
 pub mod Csv
+pub mod Sheets
 pub mod Laws

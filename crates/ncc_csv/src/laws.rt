@@ -12,7 +12,7 @@ pub fn part_is_of_elements()
     ensures { PartIsOfElements }
 {}
 
-/// The rows of the first elements, and behind them those of the next.
+/// The rows of a part, and behind them those of the next one, are the rows of both.
 pub fn rows_join()
     ensures { RowsJoin }
 {}

@@ -5,18 +5,23 @@ mod block;
 mod cell;
 mod heads;
 pub mod laws;
+mod named;
 mod names;
 mod numbers;
+mod parts;
 mod pick;
 mod refusals;
 mod row;
 mod sending;
+mod sheet;
 #[cfg(test)]
 mod tests;
 mod word;
 
+pub use named::var_named;
 pub use names::send_names;
 pub use numbers::parse_list;
 pub use pick::Pick;
 pub use refusals::send_refusal;
 pub use sending::send_part;
+pub use sheet::send_sheet;

@@ -133,7 +133,7 @@ fn send_values<T: Cell, W: Sink>(
 }
 
 /// Sends the rows of values of a selection, of which the first is the element with this number in row-major
-/// order, through a buffer below 64 KiB. After an `Err` a front of them is sent.
+/// order, through a buffer below 64 KiB, or of one row where that is longer. After an `Err` a front of them is sent.
 pub fn send_part<W: Sink>(
     alloc: Global,
     slab: &Slab,

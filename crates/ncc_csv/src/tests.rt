@@ -1,4 +1,11 @@
-//! Texts of values, rows of names, lists of numbers, and what a command line selects.
+//! Texts of values, rows of names, lists of numbers, what a command line selects, and whole sheets.
+
+mod columns;
+mod failing;
+mod helpers;
+mod named;
+mod parts;
+mod sheets;
 
 use crate::cell::Cell;
 use crate::{Pick, parse_list, send_names};

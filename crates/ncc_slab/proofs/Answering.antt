@@ -1,5 +1,5 @@
 -- What a call answers where the reading of a part failed, and where all was read.
-use Rattle.std.proofs.Common.{◌≡◌, ℕ, ◌+◌, None, Ok, Err, List, length, sym, ap, subst, ◌∙◌, arith}
+use Rattle.std.proofs.Common.{◌≡◌, ℕ, ◌+◌, ◌*◌, ◌≤◌, None, Err, List, map, length, sym, ap, subst, ◌∙◌, arith}
 use Rattle.std.proofs.lemmas.List.{length-map}
 use Rattle.std.proofs.lemmas.List.FromFn.{length-map-range_with_len}
 use Rattle.ncc_values.specs.declared.values.Values.{Values}
@@ -17,11 +17,13 @@ use Rattle.ncc_slab.specs.declared.fault.SlabFault.{SlabFault}
 use Rattle.ncc_slab.specs.declared.fault.SlabFault.TheVariants.{NoVariable, RankMismatch, ZeroStride, Outside, Device, Memory}
 use Rattle.ncc_slab.specs.Refusals.{slab_fault}
 use Rattle.ncc_slab.specs.Selection.{indices_of, selected_count}
-use Rattle.ncc_slab.specs.Selected.{places_of, AddsPlaces, Selected}
+use Rattle.ncc_slab.specs.Selected.{bytes_at_places, number_at, numbers_of, places_of, AddsPlaces, Selected}
 use Rattle.ncc_slab.specs.Axes.{place_at}
 use Rattle.ncc_slab.specs.Grids.{grid_places, grid_count, EndBy}
+use Rattle.ncc_slab.specs.Stretches.{all_stretches}
 use Rattle.ncc_slab.specs.Answers.{ReadsAs, SlabCounts, PartCounts}
-use Rattle.ncc_slab.proofs.Joined.{all_selected}
+use Rattle.ncc_slab.proofs.Joined.{all_selected, each_whole}
+use Rattle.ncc_slab.proofs.Numbers.{numbers_are_there}
 
 pub failed_part : (A B : Type 0) (vars : List PlacedVar) (n : ℕ) (s : Slab) (old new : ℕ) (e : SlabFault) → slab_fault vars n s ≡ None
     → PartCounts {A = A} old new (Err e) → ReadsAs {A = B} vars n s (Err e)
@@ -75,8 +77,24 @@ module _ (p q r : Placed) (n : ℕ) (s : Slab) (g : Grid) (t : XType) (empty : V
       (subst (λ (places : List ℕ). AddsPlaces file (size_of x.xtype) places empty values) (grid_is same)
       (subst (λ (size : ℕ). AddsPlaces file size (grid_places g) empty values) (ap size_of typed) part)))
 
+  pub numbers : (file : List ℕ) (values : Values) → grid_places g ≡ places_of (record_size_of_file q) (var_at (vars_of q) n) s
+      → AddsPlaces file (size_of (type_of empty)) (grid_places g) empty values → numbers_of values ≡ map (number_at file (record_size_of_file p) x) (indices_of s)
+  numbers file values same part =
+      let size = size_of x.xtype in
+      let whole : length (bytes_at_places file size (places_of (record_size_of_file p) x s)) ≡ length (places_of (record_size_of_file p) x s) * size =
+      subst (λ (places : List ℕ). length (bytes_at_places file size places) ≡ length places * size) (grid_is same)
+      (subst (λ (k : ℕ). length (bytes_at_places file k (grid_places g)) ≡ length (grid_places g) * k) (ap size_of typed) part.whole) in
+      ap numbers_of (selected file values same part)
+      ∙ numbers_are_there file (record_size_of_file p) x (indices_of s) (each_whole file (record_size_of_file p) x (indices_of s) whole)
+
   pub all_counted : (total : ℕ) → grid_places g ≡ places_of (record_size_of_file q) (var_at (vars_of q) n) s → total ≡ count_of empty + grid_count g → total ≡ selected_count s
   all_counted total same is =
       let long : grid_count g ≡ selected_count s =
       sym (length-map-range_with_len (place_at g.base g.axes.items) 0 g.count) ∙ ap length (grid_is same) ∙ length-map (indices_of s) (place_of (record_size_of_file p) x) in
       omega (arith, is, counted, long)
+
+  pub all_calls : (old new : ℕ) → grid_places g ≡ places_of (record_size_of_file q) (var_at (vars_of q) n) s → new ≤ old + all_stretches (size_of (type_of empty)) (grid_places g)
+      → new ≤ old + all_stretches (size_of x.xtype) (places_of (record_size_of_file p) x s)
+  all_calls old new same few =
+      subst (λ (places : List ℕ). new ≤ old + all_stretches (size_of x.xtype) places) (grid_is same)
+      (subst (λ (size : ℕ). new ≤ old + all_stretches size (grid_places g)) (ap size_of typed) few)

@@ -1,5 +1,5 @@
 -- The grid of a selection that isn't refused.
-use Rattle.std.proofs.Common.{◌≡◌, ℕ, ◌+◌, ◌<◌, ◌≤◌, None, List, [], ◌∷◌, ◌++◌, length, ltb, sym, ap, subst, ◌∙◌, arith}
+use Rattle.std.proofs.Common.{◌≡◌, ℕ, ◌+◌, ◌<◌, ◌≤◌, None, List, length, ltb, sym, ap, subst, ◌∙◌, arith}
 use Rattle.std.specs.List.{AllByRecursion}
 use Rattle.std.proofs.lemmas.Bool.{ltb-true}
 use Rattle.ncc_values.specs.XType.{size_of}
@@ -13,7 +13,7 @@ use Rattle.ncc_slab.specs.declared.slab.Slab.{Slab}
 use Rattle.ncc_slab.specs.declared.fault.SlabFault.TheVariants.{NoVariable}
 use Rattle.ncc_slab.specs.Refusals.{slab_fault, shape_fault}
 use Rattle.ncc_slab.specs.Selected.{places_of}
-use Rattle.ncc_slab.specs.Axes.{place_at, places_from, times, units_of, base_of, selection_axes, ArePositive, AreWide, HasRank, SelectsSome}
+use Rattle.ncc_slab.specs.Axes.{place_at, places_from, times, units_of, base_of, selection_axes, ArePositive, AreWide, SelectsSome}
 use Rattle.ncc_slab.specs.declared.grid.Grid.{Grid}
 use Rattle.ncc_slab.specs.Grids.{grid_places, EndBy}
 use Rattle.ncc_slab.proofs.Fitting.{fits_from, if_none}

@@ -1,8 +1,8 @@
 -- What the rules of a placed file say of the numbers of a selection.
-use Rattle.std.proofs.Common.{◌≡◌, ℕ, zero, suc, ◌+◌, ◌-◌, ◌*◌, ◌<◌, ◌≤◌, Bool, true, false, cond, List, [], ◌∷◌, map, length, get_or, drop, refl, sym, ap, subst, ◌∙◌, arith, mul_comm}
+use Rattle.std.proofs.Common.{◌≡◌, ℕ, zero, suc, ◌+◌, ◌-◌, ◌*◌, ◌<◌, ◌≤◌, Bool, true, false, cond, List, [], ◌∷◌, length, get_or, drop, refl, sym, ap, subst, ◌∙◌, arith}
 use Rattle.std.specs.Prelude.{filter}
 use Rattle.std.specs.List.{AllByRecursion}
-use Rattle.std.proofs.Math.Nat.{mul_assoc, add-mul}
+use Rattle.std.proofs.Math.Nat.{mul_assoc}
 use Rattle.std.proofs.lemmas.Nat.{mul-le}
 use Rattle.std.proofs.lemmas.Bool.{eq-eqb, ne_eqb}
 use Rattle.std.proofs.lemmas.List.{get_or-map, length-map}
@@ -12,11 +12,11 @@ use Rattle.ncc_layout.specs.declared.placed_var.PlacedVar.{PlacedVar}
 use Rattle.ncc_layout.specs.declared.placed_file.Placed.{Placed}
 use Rattle.ncc_layout.specs.Sizes.{product}
 use Rattle.ncc_layout.specs.Extents.{end, records_of}
-use Rattle.ncc_layout.specs.Rules.{ByKind, EndsBy, InWindow, LastWithin, Within, Rules}
-use Rattle.ncc_layout.specs.Elements.{var_at, no_var, place_of, Inside, Element, IsShaped, HasShape, Own}
+use Rattle.ncc_layout.specs.Rules.{ByKind, EndsBy, InWindow, LastWithin, Within}
+use Rattle.ncc_layout.specs.Elements.{var_at, no_var, Inside, IsShaped, HasShape, Own}
 use Rattle.ncc_layout.specs.Placed.{header_length_of, file_length_of, record_size_of_file, records_of_file, vars_of, extents_of_file, KeepsRules}
 use Rattle.ncc_slab.specs.declared.slab.Slab.{Slab}
-use Rattle.ncc_slab.specs.Refusals.{along, EndsBy as EndsInside, Fits, FitsIn}
+use Rattle.ncc_slab.specs.Refusals.{along, Fits}
 use Rattle.ncc_slab.specs.Axes.{dot, inner_units, units, units_of, axes_of, times, base_of, last_of, ArePositive, HasRank, SelectsSome}
 use Rattle.ncc_slab.proofs.Counts.{count_below, products_below}
 use Rattle.ncc_slab.proofs.Offsets.{offset_is}

@@ -1,6 +1,6 @@
 -- Parts of values, one behind the other.
-use Rattle.std.proofs.Common.{◌≡◌, ℕ, zero, suc, ◌+◌, ◌-◌, ◌*◌, ◌/◌, ◌<◌, ◌≤◌, min, ℤ, List, [], ◌∷◌, ◌++◌, map, take, drop, length, refl, sym, ap, subst, ◌∙◌, lit<, arith}
-use Rattle.std.specs.List.{AllByRecursion, flat_map, range_with_len}
+use Rattle.std.proofs.Common.{◌≡◌, ℕ, zero, suc, ◌+◌, ◌-◌, ◌*◌, ◌/◌, ◌<◌, ◌≤◌, min, List, [], ◌∷◌, ◌++◌, map, take, drop, length, refl, sym, ap, subst, ◌∙◌, lit<, arith}
+use Rattle.std.specs.List.{range_with_len}
 use Rattle.std.proofs.lemmas.List.{length-append, length-take}
 use Rattle.std.proofs.lemmas.List.FromFn.{length-map-range_with_len}
 use Rattle.std.proofs.lemmas.List.Folds.{flat_map-map}
@@ -17,7 +17,7 @@ use Rattle.ncc_layout.specs.declared.placed_var.PlacedVar.{PlacedVar}
 use Rattle.ncc_layout.specs.Elements.{place_of}
 use Rattle.ncc_slab.specs.declared.slab.Slab.{Slab}
 use Rattle.ncc_slab.specs.Selection.{indices_of}
-use Rattle.ncc_slab.specs.Selected.{bytes_at, element_bytes, bytes_at_places, bytes_of_elements, AddsPlaces, Selected, places_of}
+use Rattle.ncc_slab.specs.Selected.{bytes_at, bytes_at_places, bytes_of_elements, AddsPlaces, Selected, places_of}
 use Rattle.ncc_slab.specs.Laws.{AreWhole}
 use Rattle.ncc_slab.proofs.Ranges.{drop-map-range}
 

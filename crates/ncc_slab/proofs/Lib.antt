@@ -10,9 +10,12 @@ mod Stretches
 mod Joined
 mod Answering
 mod Fitting
-mod Parts
+mod ValueParts
 mod Counts
 mod Numbers
 mod Whole
+mod PartPlaces
+mod Calls
+mod Blocks
 mod Order
 mod Examples

@@ -10,7 +10,7 @@ use Rattle.ncc_values.specs.Values.{elements_of, values_of}
 use Rattle.ncc_layout.specs.declared.placed_var.PlacedVar.{PlacedVar}
 use Rattle.ncc_slab.specs.Selected.{element_bytes, number_at, values_at, numbers_of}
 use Rattle.ncc_slab.specs.Laws.{AreWhole}
-use Rattle.ncc_slab.proofs.Parts.{numbers_by}
+use Rattle.ncc_slab.proofs.ValueParts.{numbers_by}
 
 map_same : (xs : List ℤ) → map (λ z. z) xs ≡ xs
 map_same [] = refl

@@ -1,6 +1,6 @@
 -- The places of a selection, each by its number.
-use Rattle.std.proofs.Common.{◌≡◌, ℕ, zero, suc, ◌+◌, ◌*◌, ◌/◌, ◌%◌, ◌<◌, ◌≤◌, eqb, cond, Bool, true, false, ◌⊎◌, inl, inr, List, [], ◌∷◌, ◌++◌, map, length, refl, sym, ap, ◌∙◌, arith, mul_comm}
-use Rattle.std.specs.List.{AllByRecursion, flat_map, range_with_len}
+use Rattle.std.proofs.Common.{◌≡◌, ℕ, zero, suc, ◌+◌, ◌*◌, ◌%◌, ◌<◌, ◌≤◌, eqb, cond, Bool, true, false, ◌⊎◌, inl, inr, List, [], ◌∷◌, ◌++◌, map, length, refl, sym, ap, ◌∙◌, arith}
+use Rattle.std.specs.List.{flat_map, range_with_len}
 use Rattle.std.proofs.Math.Nat.{mul_assoc, add-mul}
 use Rattle.std.proofs.lemmas.Bool.{eqb-true}
 use Rattle.std.proofs.lemmas.List.{map-append, length-map}
@@ -9,14 +9,14 @@ use Rattle.std.proofs.lemmas.Nat.{div-mul-add, mod-mul-add}
 use Rattle.ncc_values.specs.XType.{size_of}
 use Rattle.ncc_layout.specs.declared.placed_var.PlacedVar.{PlacedVar}
 use Rattle.ncc_layout.specs.Sizes.{product}
-use Rattle.ncc_layout.specs.Elements.{Inside, row_major, offset_in, offset_of, place_of}
+use Rattle.ncc_layout.specs.Elements.{Inside, row_major, offset_in, place_of}
 use Rattle.ncc_slab.specs.declared.axis.Axis.{Axis}
 use Rattle.ncc_slab.specs.declared.slab.Slab.{Slab}
-use Rattle.ncc_slab.specs.Selection.{index_lists, index_of, indices_of, selected_count}
+use Rattle.ncc_slab.specs.Selection.{index_lists, index_of, indices_of}
 use Rattle.ncc_slab.specs.Selected.{places_of}
-use Rattle.ncc_slab.specs.Axes.{offset_at, place_at, places_from, axes_of, inner_units, units, dot, times, units_of, base_of, selection_axes, HasRank}
-use Rattle.ncc_slab.proofs.Lists.{length-index_lists, lists_inside, count_is_product}
-use Rattle.ncc_slab.proofs.Ranges.{map-range_split, map-range_shift, map_same, map_each}
+use Rattle.ncc_slab.specs.Axes.{offset_at, places_from, axes_of, inner_units, units, dot, times, units_of, base_of, selection_axes, HasRank}
+use Rattle.ncc_slab.proofs.Lists.{lists_inside, count_is_product}
+use Rattle.ncc_slab.proofs.Ranges.{map-range_split, map-range_shift, map_same}
 
 -- ---- one dimension more
 

@@ -1,12 +1,12 @@
 -- One dimension more on the way along the dimensions of a selection.
-use Rattle.std.proofs.Common.{◌≡◌, ℕ, zero, suc, ◌+◌, ◌-◌, ◌*◌, ◌/◌, ◌^◌, ◌<◌, ◌≤◌, eqb, cond, Bool, true, false, List, [], ◌∷◌, ◌++◌, length, get_or, drop, refl, sym, ap, ◌∙◌, arith, mul_comm, append_assoc}
+use Rattle.std.proofs.Common.{◌≡◌, ℕ, zero, suc, ◌+◌, ◌-◌, ◌*◌, ◌/◌, ◌<◌, ◌≤◌, eqb, cond, Bool, true, false, List, [], ◌∷◌, ◌++◌, length, get_or, drop, sym, ap, ◌∙◌, arith, mul_comm, append_assoc}
 use Rattle.std.proofs.Math.Nat.{mul_assoc}
 use Rattle.std.proofs.lemmas.Bool.{eq-eqb, ne_eqb}
 use Rattle.std.proofs.lemmas.Nat.{div-mul-add, mul-le}
 use Rattle.std.proofs.lemmas.List.{append-nil, drop_all}
 use Rattle.ncc_layout.specs.Sizes.{product}
 use Rattle.ncc_slab.specs.declared.axis.Axis.{Axis}
-use Rattle.ncc_slab.specs.Axes.{axes_of, inner_units, dot, times, last_of, ArePositive, AreWide, HasRank, no_axis}
+use Rattle.ncc_slab.specs.Axes.{axes_of, inner_units, dot, times, last_of, ArePositive, AreWide, HasRank}
 use Rattle.ncc_slab.proofs.Searches.{next}
 use Rattle.ncc_slab.proofs.Factors.{product_positive, product_split, split}
 

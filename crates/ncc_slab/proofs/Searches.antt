@@ -1,5 +1,5 @@
 -- The search for the first dimension that is refused.
-use Rattle.std.proofs.Common.{◌≡◌, ◌==◌, ◌&&◌, eqb, ℕ, zero, suc, ◌+◌, ◌<◌, ◌≤◌, Bool, true, false, cond, Option, Some, None, option_map, List, [], ◌∷◌, length, get_or, drop, drop-cons, refl, sym, ap, ◌∙◌, arith}
+use Rattle.std.proofs.Common.{◌≡◌, ◌==◌, ℕ, suc, ◌+◌, ◌<◌, ◌≤◌, Bool, true, false, cond, Option, Some, None, option_map, List, [], ◌∷◌, length, get_or, drop, drop-cons, refl, sym, ap, ◌∙◌, arith}
 use Rattle.std.specs.List.{position_from}
 use Rattle.std.proofs.lemmas.List.{drop_all}
 use Rattle.std.specs.Option.{option_or}
@@ -7,7 +7,7 @@ use Rattle.std.proofs.lemmas.Bool.{eq-eqb, and_from}
 use Rattle.ncc_slab.specs.declared.slab.Slab.{Slab}
 use Rattle.ncc_slab.specs.declared.fault.SlabFault.{SlabFault}
 use Rattle.ncc_slab.specs.declared.fault.SlabFault.TheVariants.{RankMismatch, ZeroStride, Outside}
-use Rattle.ncc_slab.specs.Refusals.{Along, along, has_rank, along_fault, shape_fault, has_no_stride, is_outside, ends_past}
+use Rattle.ncc_slab.specs.Refusals.{along, has_rank, along_fault, shape_fault, has_no_stride, is_outside, ends_past}
 
 -- only the strides tell whether there is one
 pub strides_tell : (ls ss cs ds : List ℕ) (n : ℕ) → length ss ≡ length ls → length cs ≡ length ls → length ds ≡ length ls

@@ -1,6 +1,6 @@
 -- The bytes of elements that lie one behind the other.
-use Rattle.std.proofs.Common.{◌≡◌, ℕ, zero, suc, ◌+◌, ◌-◌, ◌*◌, ◌/◌, ◌<◌, ◌≤◌, min, List, [], ◌∷◌, ◌++◌, map, length, take, drop, refl, sym, ap, ◌∙◌, arith}
-use Rattle.std.specs.List.{flat_map, range_with_len}
+use Rattle.std.proofs.Common.{◌≡◌, ℕ, zero, suc, ◌+◌, ◌-◌, ◌*◌, ◌/◌, ◌<◌, ◌≤◌, min, List, ◌++◌, map, length, take, drop, refl, sym, ap, ◌∙◌, arith}
+use Rattle.std.specs.List.{range_with_len}
 use Rattle.std.proofs.Math.Seq.{take-add}
 use Rattle.std.proofs.Math.Nat.{add-mul}
 use Rattle.std.proofs.lemmas.List.{drop-drop, length-take, length-drop}
@@ -8,7 +8,7 @@ use Rattle.std.proofs.lemmas.Nat.{mul-le, div-add-mod'}
 use Rattle.std.proofs.lemmas.List.FromFn.{length-map-range_with_len}
 use Rattle.std.proofs.lemmas.Grind.{flat_map-append}
 use Rattle.ncc_slab.specs.Selected.{bytes_at, bytes_at_places}
-use Rattle.ncc_slab.proofs.Ranges.{take-map-range, drop-map-range, last_and_one}
+use Rattle.ncc_slab.proofs.Ranges.{last_and_one, take-map-range, drop-map-range}
 
 -- the bytes of a stretch are those of its elements
 pub stretch_bytes : (file : List ℕ) (size : ℕ) (f : ℕ → ℕ) (n m place : ℕ) → ((i : ℕ) → i < m → f (n + i) ≡ place + i * size)
@@ -55,6 +55,12 @@ room_there done more count size out le long =
       mul-le (done + more) size count size le (omega arith),
       long,
     )
+
+-- the elements of a stretch end where its last one does
+pub stretch_end : (f : ℕ → ℕ) (next more size end : ℕ) → 0 < more → ((i : ℕ) → i < more → f (next + i) ≡ f next + i * size)
+    → f (next + (more - 1)) + size ≤ end → f next + more * size ≤ end
+stretch_end f next more size end some adjoin last =
+    omega (arith, adjoin (more - 1) (omega (arith, some)), last, last_and_one more size some)
 
 pub part_long : (left size n : ℕ) (buffer : List ℕ) → n ≡ min left (length buffer / size) → length (take (n * size) buffer) ≡ n * size
 part_long left size n buffer is =

@@ -1,15 +1,17 @@
 -- What holds of selections.
-use Rattle.std.specs.Prelude.{◌≡◌, ℕ, ◌+◌, ◌<◌, ◌≤◌, ◌↔◌, None, List, [], map, length, get_or}
+use Rattle.std.specs.Prelude.{◌≡◌, ℕ, ◌+◌, ◌<◌, ◌≤◌, ◌↔◌, None, List, [], map, length, get_or, take, drop}
 use Rattle.std.specs.List.{AllByRecursion}
-use Rattle.ncc_values.specs.Values.{type_of, no_values}
+use Rattle.ncc_values.specs.Values.{type_of, count_of, no_values}
 use Rattle.ncc_values.specs.declared.values.Values.{Values}
+use Rattle.ncc_values.specs.declared.xtype.XType.{XType}
 use Rattle.ncc_values.specs.XType.{size_of}
 use Rattle.ncc_layout.specs.declared.placed_var.PlacedVar.{PlacedVar}
 use Rattle.ncc_layout.specs.Sizes.{product}
-use Rattle.ncc_layout.specs.Elements.{Inside, row_major, var_at, Own}
+use Rattle.ncc_layout.specs.Elements.{Inside, place_of, row_major, var_at, Own}
 use Rattle.ncc_slab.specs.declared.slab.Slab.{Slab}
 use Rattle.ncc_slab.specs.Selection.{index_lists, indices_of, selected_count, fitting_count}
-use Rattle.ncc_slab.specs.Selected.{element_bytes, values_at, Selected, AddsPart, places_of, number_at, numbers_of}
+use Rattle.ncc_slab.specs.Selected.{element_bytes, values_at, Selected, part_of, AddsPart, AddsPlaces, places_of, number_at, numbers_of}
+use Rattle.ncc_slab.specs.Answers.{part_count, TakesPart}
 use Rattle.ncc_slab.specs.Refusals.{shape_fault, slab_fault, EndsBy, FitsIn}
 
 -- as many elements are selected as the product of the counts
@@ -65,3 +67,39 @@ SelectedIsWhole = (file : List ℕ) (header record_size : ℕ) (vars : List Plac
 abbrev pub SelectedIsInFile : Type 0
 SelectedIsInFile = (header file record_size : ℕ) (vars : List PlacedVar) (n : ℕ) (s : Slab) → Own header file record_size vars → slab_fault vars n s ≡ None
     → AllByRecursion (λ place. place + size_of (var_at vars n).xtype ≤ file) (places_of record_size (var_at vars n) s)
+
+-- ---- parts by their places
+
+-- there are as many places as selected elements
+abbrev pub PlacesAreCounted : Type 0
+PlacesAreCounted = (record_size : ℕ) (x : PlacedVar) (s : Slab) → length (places_of record_size x s) ≡ selected_count s
+
+-- the places of a part
+abbrev pub PartHasPlaces : Type 0
+PartHasPlaces = (record_size : ℕ) (x : PlacedVar) (s : Slab) (first n : ℕ)
+    → take n (drop first (places_of record_size x s)) ≡ map (place_of record_size x) (part_of s first n)
+
+-- values are added at the places of a part exactly where they are those of the part and the file has all its bytes
+abbrev pub PlacesAddPart : Type 0
+PlacesAddPart = (file : List ℕ) (record_size : ℕ) (x : PlacedVar) (s : Slab) (first n : ℕ) (old new : Values)
+    → AddsPlaces file (size_of x.xtype) (take n (drop first (places_of record_size x s))) old new
+    ↔ (AddsPart file record_size x s first n old new × AreWhole file record_size x (part_of s first n))
+
+-- behind no values, the number of each value is that of its element
+abbrev pub PartHasNumbers : Type 0
+PartHasNumbers = (file : List ℕ) (record_size : ℕ) (x : PlacedVar) (s : Slab) (first n : ℕ) (old new : Values) → type_of old ≡ x.xtype → count_of old ≡ 0
+    → AddsPlaces file (size_of x.xtype) (take n (drop first (places_of record_size x s))) old new
+    → numbers_of new ≡ map (number_at file record_size x) (part_of s first n)
+
+-- where the first elements are taken, the next part is of those behind them, and what it leaves is what is behind both
+abbrev pub PartsGoOn : Type 0
+PartsGoOn = (record_size : ℕ) (x : PlacedVar) (s : Slab) (size first n : ℕ) (old new : List ℕ) → first ≤ selected_count s → old ≡ drop first (places_of record_size x s)
+    → TakesPart size old new n → (first + n ≤ selected_count s) × (new ≡ drop (first + n) (places_of record_size x s))
+
+-- a part is empty exactly where nothing is left
+abbrev pub NoPartIsTheEnd : Type 0
+NoPartIsTheEnd = (t : XType) (left : List ℕ) → (part_count (size_of t) left ≡ 0) ↔ (left ≡ [])
+
+-- nothing is left exactly where all are taken
+abbrev pub EndIsAllTaken : Type 0
+EndIsAllTaken = (record_size : ℕ) (x : PlacedVar) (s : Slab) (first : ℕ) → first ≤ selected_count s → (drop first (places_of record_size x s) ≡ []) ↔ (first ≡ selected_count s)

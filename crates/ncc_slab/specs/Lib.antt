@@ -4,6 +4,8 @@ pub mod Refusals
 pub mod Axes
 pub mod Grids
 pub mod Places
+pub mod SlabParts
 pub mod Readers
 pub mod Answers
+pub mod Stretches
 pub mod Laws

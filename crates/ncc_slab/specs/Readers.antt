@@ -8,7 +8,7 @@ use Rattle.ncc_check.specs.declared.file.NcFile.{NcFile}
 use Rattle.ncc_check.specs.Files.{placed_of}
 use Rattle.ncc_slab.specs.declared.slab.Slab.{Slab}
 use Rattle.ncc_slab.specs.declared.reader.SlabReader.{SlabReader}
-use Rattle.ncc_slab.specs.Grids.{grid_rest}
+use Rattle.ncc_slab.specs.SlabParts.{parts_type, parts_left}
 use Rattle.ncc_slab.specs.Selected.{places_of}
 
 -- the open file as it is now
@@ -16,11 +16,11 @@ abbrev pub file_in : {S : Type 0} {g : Ghosts S} → SlabReader S g → NcFile S
 file_in r = r.file.now
 
 abbrev pub type_in : {S : Type 0} {g : Ghosts S} → SlabReader S g → XType
-type_in r = r.xtype
+type_in r = parts_type r.parts
 
 -- the places of the elements that are left
 abbrev pub left_in : {S : Type 0} {g : Ghosts S} → SlabReader S g → List ℕ
-left_in r = grid_rest r.grid r.taken
+left_in r = parts_left r.parts
 
 -- it reads a selection of this variable from its first element on
 pub record Begins {S : Type 0} {g : Ghosts S} (file : NcFile S g) (number : ℕ) (s : Slab) (r : SlabReader S g) : Type 0 where

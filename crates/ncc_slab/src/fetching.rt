@@ -1,6 +1,6 @@
 //! Fetching the elements of a selection, a stretch of adjoining ones by one call.
 
-ghost use Rattle.std.specs.Prelude.{◌≡◌, ◌≢◌, ◌⊎◌, ◌+◌, ◌-◌, ◌*◌, ◌<◌, ◌≤◌, ◌^◌, ℕ, length, take, min, IsTrue, IfOk, OnOk, OnErr};
+ghost use Rattle.std.specs.Prelude.{◌≡◌, ◌≢◌, ◌⊎◌, ◌+◌, ◌-◌, ◌*◌, ◌<◌, ◌≤◌, ◌^◌, ℕ, length, take, min, max, IsTrue, IfOk, OnOk, OnErr};
 ghost use Rattle.ncc_values.specs.Failures.{Counts};
 ghost use Rattle.ncc_values.specs.Values.{type_of, count_of};
 ghost use Rattle.ncc_values.specs.XType.{size_of};
@@ -10,6 +10,7 @@ ghost use Rattle.ncc_check.specs.Files.{store_of, schema_of, placed_of, must_reo
 ghost use Rattle.ncc_slab.specs.Answers.{buffer_length, part_count, PartCounts};
 ghost use Rattle.ncc_slab.specs.Grids.{grid_place, grid_count, grid_places, grid_rest, EndBy};
 ghost use Rattle.ncc_slab.specs.Selected.{bytes_at_places, AddsPlaces};
+ghost use Rattle.ncc_slab.specs.Stretches.{stretches, part_stretches, all_stretches};
 
 use crate::fault::SlabFault;
 use crate::grid::Grid;
@@ -28,9 +29,9 @@ fn stretch(grid: &Grid, size: u64, n: u64, most: u64) -> u64
     ensures longest { (result ≡ most) ⊎ (grid_place grid.now (n + result) ≢ grid_place grid.now n + result * size) }
 {
     let place = grid.place(n);
-    let mut count = 1;
+    let mut count = grid.block(size, n, most);
     while count < most && grid.place(n + count) == place + count * size {
-        count += 1;
+        count += grid.block(size, n + count, most - count);
     }
     count
 }
@@ -55,6 +56,10 @@ fn fetch_elements<S: Store>(
     ensures unmoved { Unmoved S.bytes S.images S.moment S.images_since (store_of file.old) (store_of file.new) }
     ensures kept { KeepsImages (S.images (store_of file.old)) (S.images (store_of file.new)) }
     ensures count { Counts (S.failures (store_of file.old)) (S.failures (store_of file.new)) result }
+    ensures calls { S.calls (store_of file.new)
+        ≤ S.calls (store_of file.old) + stretches size (take count (grid_rest grid.now first)) }
+    ensures reach { S.reach (store_of file.new)
+        ≤ max (S.reach (store_of file.old)) (file_length_of (placed_of file.old)) }
 {
     store_laws::unmoved_calls_join::<S>();
     let mut done = 0;
@@ -93,6 +98,10 @@ pub fn add_part<S: Store>(
     ensures unmoved { Unmoved S.bytes S.images S.moment S.images_since (store_of file.old) (store_of file.new) }
     ensures kept { KeepsImages (S.images (store_of file.old)) (S.images (store_of file.new)) }
     ensures count { PartCounts (S.failures (store_of file.old)) (S.failures (store_of file.new)) result }
+    ensures calls { S.calls (store_of file.new) ≤ S.calls (store_of file.old)
+        + part_stretches (size_of (type_of values.old)) (grid_rest grid.now first) }
+    ensures reach { S.reach (store_of file.new)
+        ≤ max (S.reach (store_of file.old)) (file_length_of (placed_of file.old)) }
 {
     let size = values.xtype().size();
     let room = (buffer.len() / size) as u64;
@@ -104,6 +113,7 @@ pub fn add_part<S: Store>(
 }
 
 /// Adds all values of a selection, part by part.
+#[tactic(auto, using(crate::proofs::Calls::none_read))]
 pub fn add_all<S: Store>(
     file: &mut NcFile<S>,
     grid: &Grid,
@@ -122,6 +132,10 @@ pub fn add_all<S: Store>(
     ensures unmoved { Unmoved S.bytes S.images S.moment S.images_since (store_of file.old) (store_of file.new) }
     ensures kept { KeepsImages (S.images (store_of file.old)) (S.images (store_of file.new)) }
     ensures count { PartCounts (S.failures (store_of file.old)) (S.failures (store_of file.new)) result }
+    ensures calls { S.calls (store_of file.new) ≤ S.calls (store_of file.old)
+        + all_stretches (size_of (type_of values.old)) (grid_places grid.now) }
+    ensures reach { S.reach (store_of file.new)
+        ≤ max (S.reach (store_of file.old)) (file_length_of (placed_of file.old)) }
 {
     store_laws::unmoved_calls_join::<S>();
     let mut taken = 0;

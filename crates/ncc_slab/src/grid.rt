@@ -1,6 +1,6 @@
 //! The places of a selection, each by its number.
 
-ghost use Rattle.std.specs.Prelude.{◌≡◌, ◌<◌, ◌^◌, ℕ};
+ghost use Rattle.std.specs.Prelude.{◌≡◌, ◌+◌, ◌*◌, ◌<◌, ◌≤◌, ◌^◌, ℕ, length, IsTrue, IfSome};
 ghost use Rattle.ncc_slab.specs.Axes.{place_at, places_from, AreWide};
 
 use crate::axis::Axis;
@@ -18,7 +18,7 @@ pub struct Grid {
 }
 
 impl Grid {
-    ghost use Rattle.ncc_slab.specs.Grids.{grid_place, grid_count, grid_places};
+    ghost use Rattle.ncc_slab.specs.Grids.{grid_place, grid_count, grid_places, Adjoins, IsDenseFrom};
 
     /// A grid of so many elements.
     pub fn new(base: u64, axes: Vec<Axis>, count: u64) -> Grid
@@ -48,5 +48,53 @@ impl Grid {
             number %= axis.width;
         }
         place
+    }
+
+    /// Does an index of this axis lie right behind all that share the one before it? The last axis does only
+    /// where each element has an index of its own.
+    fn adjoins(&self, axis: usize, size: u64) -> bool
+        requires { axis < length self.now.axes.items }
+        ensures { IsTrue result → Adjoins size self.now axis }
+    {
+        let Axis { step, width } = self.axes[axis];
+        if axis + 1 == self.axes.len() && width != 1 {
+            return false;
+        }
+        step as u128 == width as u128 * size as u128
+    }
+
+    /// The first axis from which on elements of this size lie without a gap, where there is one.
+    fn dense_from(&self, size: u64) -> Option<usize>
+        ensures { IfSome result (IsDenseFrom size self.now) }
+    {
+        let mut from = self.axes.len();
+        while from > 0 && self.adjoins(from - 1, size) {
+            from -= 1;
+        }
+        if from == self.axes.len() {
+            return None;
+        }
+        Some(from)
+    }
+
+    /// How many elements from the n-th on surely lie one behind the other, at most so many: all as far as no
+    /// index changes but along the axes without a gap.
+    pub fn block(&self, size: u64, n: u64, most: u64) -> u64
+        requires { 0 < most }
+        ensures some { 0 < result }
+        ensures most { result ≤ most }
+        ensures adjoin { (i : ℕ) → i < result → grid_place self.now (n + i) ≡ grid_place self.now n + i * size }
+    {
+        let Some(from) = self.dense_from(size) else {
+            return 1;
+        };
+        let mut block = most;
+        let mut number = n;
+        for k in 0..from {
+            let width = self.axes[k].width;
+            number %= width;
+            block = block.min(width - number);
+        }
+        block
     }
 }

@@ -1,6 +1,17 @@
 //! What holds of selections, whatever program reads them.
 
-ghost use Rattle.ncc_slab.specs.Laws.{CountIsProduct, RefusedUnlessItFits, SelectedIsInside, PartsJoin, WholePartIsSelected, OrderIsRowMajor, NumbersAreThere, SelectedIsWhole, SelectsAtMostAll, CountFits, SelectedIsInFile};
+ghost use Rattle.std.specs.Prelude.{◌≡◌, ℕ, ◌<◌, ◌^◌, None, length};
+ghost use Rattle.std.specs.List.{AllByRecursion};
+ghost use Rattle.ncc_layout.specs.Elements.{var_at};
+ghost use Rattle.ncc_layout.specs.Placed.{vars_of};
+ghost use Rattle.ncc_slab.specs.declared.slab.Slab.{Slab};
+ghost use Rattle.ncc_slab.specs.Laws.{CountIsProduct, RefusedUnlessItFits, SelectedIsInside, PartsJoin, WholePartIsSelected, OrderIsRowMajor, NumbersAreThere, SelectedIsWhole, SelectsAtMostAll, CountFits, SelectedIsInFile, PlacesAreCounted, PartHasPlaces, PlacesAddPart, PartHasNumbers, PartsGoOn, NoPartIsTheEnd, EndIsAllTaken};
+ghost use Rattle.ncc_slab.specs.Refusals.{slab_fault};
+ghost use Rattle.ncc_slab.specs.Selection.{selected_count};
+
+use crate::gridding::length_fits;
+use ncc_layout::Placed;
+use ncc_layout::laws::{placed_file_keeps_all_rules, placed_file_keeps_elements_apart};
 
 /// As many elements are selected as the product of the counts.
 pub fn count_is_product()
@@ -56,3 +67,61 @@ pub fn count_fits()
 pub fn selected_is_in_file()
     ensures { SelectedIsInFile }
 {}
+
+/// There are as many places as selected elements.
+pub fn places_are_counted()
+    ensures { PlacesAreCounted }
+{}
+
+/// The places of a part are those of its elements.
+pub fn part_has_places()
+    ensures { PartHasPlaces }
+{}
+
+/// Values are added at the places of a part exactly where they are those of the part, of which the file has
+/// all bytes.
+pub fn places_add_part()
+    ensures { PlacesAddPart }
+{}
+
+/// Behind no values, the number of each value of a part is that of its element.
+pub fn part_has_numbers()
+    ensures { PartHasNumbers }
+{}
+
+/// The next part is of the elements behind those that were taken, and leaves what is behind both.
+pub fn parts_go_on()
+    ensures { PartsGoOn }
+{}
+
+/// A part is empty exactly where nothing is left.
+pub fn no_part_is_the_end()
+    ensures { NoPartIsTheEnd }
+{}
+
+/// Nothing is left exactly where all elements are taken.
+pub fn end_is_all_taken()
+    ensures { EndIsAllTaken }
+{}
+
+/// Numbers of the machine are numbers of 64 bits.
+fn numbers_fit(numbers: &[u64])
+    ensures { AllByRecursion (λ n. n < 2 ^ 64) numbers.now }
+{}
+
+/// The lengths of a placed variable are numbers of 64 bits.
+pub fn lengths_fit(placed: &Placed, var: usize)
+    requires { var < length (vars_of placed.now) }
+    ensures { AllByRecursion (λ l. l < 2 ^ 64) (var_at (vars_of placed.now) var).shape }
+{
+    numbers_fit(placed.shape(var));
+}
+
+/// How many elements of a placed file are selected is a number of 64 bits.
+pub fn selected_count_fits(placed: &Placed)
+    ensures { (var : ℕ) (s : Slab) → slab_fault (vars_of placed.now) var s ≡ None → selected_count s < 2 ^ 64 }
+{
+    placed_file_keeps_all_rules();
+    placed_file_keeps_elements_apart();
+    length_fits(placed);
+}

@@ -7,6 +7,7 @@ mod fetching;
 mod grid;
 mod gridding;
 pub mod laws;
+mod parts;
 mod places;
 mod reader;
 mod reading;
@@ -14,7 +15,11 @@ mod refusing;
 mod slab;
 
 pub use fault::SlabFault;
+pub use parts::SlabParts;
 pub use places::Places;
 pub use reader::SlabReader;
 pub use reading::read_slab;
 pub use slab::Slab;
+
+#[cfg(test)]
+mod tests;

@@ -1,14 +1,17 @@
 //! Reading all values of a selection.
 
-ghost use Rattle.std.specs.Prelude.{◌≡◌, IsTrue, IfOk};
+ghost use Rattle.std.specs.Prelude.{◌≡◌, ◌≤◌, ◌+◌, None, map, max, IsTrue, IfOk};
+ghost use Rattle.ncc_values.specs.XType.{size_of};
 ghost use Rattle.ncc_values.specs.Values.{type_of, count_of};
 ghost use Rattle.ncc_store.specs.Store.{Unmoved, KeepsImages};
 ghost use Rattle.ncc_layout.specs.Elements.{var_at};
-ghost use Rattle.ncc_layout.specs.Placed.{record_size_of_file, vars_of};
+ghost use Rattle.ncc_layout.specs.Placed.{file_length_of, record_size_of_file, vars_of};
 ghost use Rattle.ncc_check.specs.Files.{store_of, schema_of, placed_of, must_reopen};
 ghost use Rattle.ncc_slab.specs.Answers.{ReadsAs, SlabCounts};
-ghost use Rattle.ncc_slab.specs.Selected.{Selected};
-ghost use Rattle.ncc_slab.specs.Selection.{selected_count};
+ghost use Rattle.ncc_slab.specs.Refusals.{slab_fault};
+ghost use Rattle.ncc_slab.specs.Selected.{Selected, number_at, numbers_of, places_of};
+ghost use Rattle.ncc_slab.specs.Selection.{indices_of, selected_count};
+ghost use Rattle.ncc_slab.specs.Stretches.{all_stretches};
 
 use crate::fault::SlabFault;
 use crate::fetching::add_all;
@@ -23,7 +26,8 @@ use std::alloc::Global;
 pub(crate) const BUFFER: usize = 65_536;
 
 /// The values of a selection of the variable with this number, row-major. A selection is refused before
-/// any memory is asked for and any byte is read. Adjoining elements are read by one call of the store.
+/// any memory is asked for and any byte is read. Of 65,536 bytes of them each stretch of adjoining elements
+/// is read by one call of the store.
 pub fn read_slab<S: Store>(
     alloc: Global,
     file: &mut NcFile<S>,
@@ -31,8 +35,12 @@ pub fn read_slab<S: Store>(
     slab: &Slab,
 ) -> Result<Values, SlabFault>
     ensures answers { ReadsAs (vars_of (placed_of file.old)) var slab.now result }
+    ensures still { (slab_fault (vars_of (placed_of file.old)) var slab.now ≡ None → ⊥) → file.new ≡ file.old }
     ensures values { IsTrue S.tells_bytes → IfOk result (Selected (S.bytes (store_of file.old))
         (record_size_of_file (placed_of file.old)) (var_at (vars_of (placed_of file.old)) var) slab.now) }
+    ensures numbers { IsTrue S.tells_bytes → IfOk result (λ v. numbers_of v ≡ map (number_at
+        (S.bytes (store_of file.old)) (record_size_of_file (placed_of file.old))
+        (var_at (vars_of (placed_of file.old)) var)) (indices_of slab.now)) }
     ensures typed { IfOk result (λ v. type_of v ≡ (var_at (vars_of (placed_of file.old)) var).xtype) }
     ensures counted { IfOk result (λ v. count_of v ≡ selected_count slab.now) }
     ensures schema { schema_of file.new ≡ schema_of file.old }
@@ -41,6 +49,11 @@ pub fn read_slab<S: Store>(
     ensures unmoved { Unmoved S.bytes S.images S.moment S.images_since (store_of file.old) (store_of file.new) }
     ensures kept { KeepsImages (S.images (store_of file.old)) (S.images (store_of file.new)) }
     ensures count { SlabCounts (S.failures (store_of file.old)) (S.failures (store_of file.new)) result }
+    ensures calls { S.calls (store_of file.new) ≤ S.calls (store_of file.old) + all_stretches
+        (size_of (var_at (vars_of (placed_of file.old)) var).xtype)
+        (places_of (record_size_of_file (placed_of file.old)) (var_at (vars_of (placed_of file.old)) var) slab.now) }
+    ensures reach { S.reach (store_of file.new)
+        ≤ max (S.reach (store_of file.old)) (file_length_of (placed_of file.old)) }
 {
     let grid = grid_of(alloc, file.placed(), var, slab)?;
     let mut values = Values::new(alloc, file.placed().xtype(var));

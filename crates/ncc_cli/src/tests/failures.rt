@@ -1,11 +1,13 @@
 //! Sources, stores and sinks that fail.
 
-use super::helpers::{ATTRIBUTES_TEXT, EACH_NOTE, EACH_NOTE_TEXT};
+use super::helpers::{ATTRIBUTES_TEXT, EACH_NOTE, EACH_NOTE_TEXT, pick_of};
 use crate::answer::Answer;
 use crate::checking::check_engine;
 use crate::listing::list_engine;
+use crate::selecting::csv_engine;
 use ncc_files::{ATTRIBUTES, FIXED, LIMIT, bytes_of};
 use ncc_header::{ReadSource, WriteSink};
+use ncc_lines::Unshown;
 use ncc_store::{FuseStore, MemStore};
 use std::io;
 use std::io::{Error, ErrorKind, Read, Write};
@@ -188,6 +190,54 @@ fn failing_sinks_of_verdicts(rt: HostRuntime) -> Result<(), Fail> {
         assert!(rt; answer == wanted);
         let (front, _rest) = text.split_at(left.min(text.len()));
         assert!(rt; sink.into_inner().taken.as_slice() == front);
+    }
+    Ok(())
+}
+
+/// What is printed of the first fixture with rows.
+const ROWS: &str = "x,v\n0,1\n1,2\n2,3\n";
+
+/// The sink fails in mid-stream: what it took is a front of the rows.
+#[test]
+fn failing_sinks_of_rows(rt: HostRuntime) -> Result<(), Fail> {
+    let alloc = rt.alloc();
+    let text = ROWS.as_bytes();
+    for left in 0..=text.len() {
+        let store = MemStore::new(bytes_of(alloc, &FIXED)?);
+        let taken = Vec::new(alloc);
+        let mut sink = WriteSink::new(FailingWriter { taken, left });
+        let pick = pick_of(alloc, "", "", "")?;
+        let (_, answer) = csv_engine(alloc, store, LIMIT, b"v", pick, &mut sink, &mut Unshown);
+        let wanted = if left < text.len() {
+            Answer::Device
+        } else {
+            Answer::Passed
+        };
+        assert!(rt; answer == wanted);
+        let (front, _rest) = text.split_at(left.min(text.len()));
+        assert!(rt; sink.into_inner().taken.as_slice() == front);
+    }
+    Ok(())
+}
+
+/// The store fails at one of the three calls that are made here: for the length, the header, and the values. No more
+/// than the row of names goes out, and the store comes back.
+#[test]
+fn failing_stores_of_rows(rt: HostRuntime) -> Result<(), Fail> {
+    let alloc = rt.alloc();
+    for calls in 0..5 {
+        let store = FuseStore::new(MemStore::new(bytes_of(alloc, &FIXED)?), calls);
+        let mut sink = WriteSink::new(Vec::new(alloc));
+        let pick = pick_of(alloc, "", "", "")?;
+        let (store, answer) = csv_engine(alloc, store, LIMIT, b"v", pick, &mut sink, &mut Unshown);
+        let (wanted, text) = match calls {
+            0 | 1 => (Answer::Device, ""),
+            2 => (Answer::Device, "x,v\n"),
+            _ => (Answer::Passed, ROWS),
+        };
+        assert!(rt; answer == wanted);
+        assert!(rt; sink.into_inner().as_slice() == text.as_bytes());
+        assert!(rt; store.left() == calls.saturating_sub(3));
     }
     Ok(())
 }

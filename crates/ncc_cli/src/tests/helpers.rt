@@ -3,10 +3,13 @@
 use crate::answer::Answer;
 use crate::checking::check_engine;
 use crate::listing::list_engine;
+use crate::selecting::csv_engine;
+use ncc_csv::{Pick, parse_list};
 use ncc_files::LIMIT;
-use ncc_header::{ReadSource, WriteSink};
+use ncc_header::{ReadSource, Seq, WriteSink};
+use ncc_lines::Unshown;
 use ncc_store::MemStore;
-use std::alloc::AllocError;
+use std::alloc::{AllocError, Global};
 use std::process::Abort;
 
 /// What `list` says of it.
@@ -86,4 +89,41 @@ pub fn expect_verdict<R: Abort + AllocGlobal>(
 /// The first so many bytes, or all of them.
 pub fn front(bytes: &[u8], size: usize) -> &[u8] {
     bytes.split_at(size.min(bytes.len())).0
+}
+
+/// The numbers of a list that is given, or none where it is empty.
+fn numbers(alloc: Global, list: &str) -> Result<Option<Seq<u64>>, AllocError> {
+    if list.is_empty() {
+        return Ok(None);
+    }
+    parse_list(alloc, list)
+}
+
+/// What is picked by these lists: start, count and stride.
+pub fn pick_of(alloc: Global, start: &str, count: &str, stride: &str) -> Result<Pick, AllocError> {
+    Ok(Pick {
+        start: numbers(alloc, start)?,
+        count: numbers(alloc, count)?,
+        stride: numbers(alloc, stride)?,
+    })
+}
+
+/// What `csv` prints of what is picked of a variable in a file of these bytes has this answer and text.
+pub fn expect_rows<R: Abort + AllocGlobal>(
+    rt: &R,
+    bytes: &[u8],
+    name: &str,
+    pick: Pick,
+    answer: Answer,
+    text: &str,
+) -> Result<(), AllocError> {
+    let alloc = rt.alloc();
+    let store = MemStore::new(bytes.to_vec(alloc)?);
+    let mut sink = WriteSink::new(Vec::new(alloc));
+    let name = name.as_bytes();
+    let (_, found) = csv_engine(alloc, store, LIMIT, name, pick, &mut sink, &mut Unshown);
+    assert!(rt; found == answer);
+    let written = sink.into_inner();
+    assert!(rt; written.as_slice() == text.as_bytes(), "{text}");
+    Ok(())
 }

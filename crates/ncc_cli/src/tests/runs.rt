@@ -9,7 +9,7 @@ use std::alloc::{AllocError, Global};
 use std::fs::File;
 use std::io::{Error, ErrorKind, Write};
 use std::process::Abort;
-use std::rt::Files;
+use std::rt::{Clock, Files};
 use std::test::*;
 use std::{fs, io};
 
@@ -30,16 +30,19 @@ fn line_of(alloc: Global, line: &str) -> Result<Vec<String>, AllocError> {
 }
 
 /// Runs the program on this command line.
-fn outcome<R: Files<File = File> + AllocGlobal>(rt: &R, line: &str) -> Result<Written, AllocError> {
+fn outcome<R: Files<File = File> + Clock + AllocGlobal>(
+    rt: &R,
+    line: &str,
+) -> Result<Written, AllocError> {
     let alloc = rt.alloc();
     let mut out = Vec::new(alloc);
     let mut err = Vec::new(alloc);
-    let status = run(rt, &line_of(alloc, line)?, &mut out, &mut err);
+    let status = run(rt, &line_of(alloc, line)?, &mut out, &mut err, false);
     Ok(Written { status, out, err })
 }
 
 /// A run on this command line has this status and writes these texts.
-fn expect_run<R: Abort + Files<File = File> + AllocGlobal>(
+fn expect_run<R: Abort + Files<File = File> + Clock + AllocGlobal>(
     rt: &R,
     line: &str,
     status: u8,
@@ -54,7 +57,7 @@ fn expect_run<R: Abort + Files<File = File> + AllocGlobal>(
 }
 
 /// A command on a file of these bytes does so.
-fn expect_file<R: Abort + Files<File = File> + AllocGlobal>(
+fn expect_file<R: Abort + Files<File = File> + Clock + AllocGlobal>(
     rt: &R,
     command: &str,
     name: &str,
@@ -177,7 +180,22 @@ fn faults_of_the_command_line(rt: HostRuntime) -> Result<(), Fail> {
             "ncc check --strict --strict one.nc",
             "error: the argument '--strict' cannot be used multiple times\n",
         ),
-        ("ncc", "Checks and lists netCDF classic files\n"),
+        (
+            "ncc csv one.nc v --start -1",
+            "error: unexpected argument '-1' found\n",
+        ),
+        ("ncc csv one.nc v --start=", "error usage\n"),
+        ("ncc csv one.nc v --start=-1", "error usage\n"),
+        ("ncc csv one.nc v --start +1", "error usage\n"),
+        ("ncc csv one.nc v --count 1,", "error usage\n"),
+        ("ncc csv one.nc v --count ,1", "error usage\n"),
+        ("ncc csv one.nc v --count 1,,2", "error usage\n"),
+        ("ncc csv one.nc v --stride 0x1", "error usage\n"),
+        (
+            "ncc csv one.nc v --stride 18446744073709551616",
+            "error usage\n",
+        ),
+        ("ncc", "Checks, lists and reads netCDF classic files\n"),
     ];
     for (line, first) in texts {
         let found = outcome(&rt, line)?;
@@ -234,10 +252,101 @@ Status:
   3  a device or memory failed
 ";
     expect_run(&rt, "ncc check --help", 0, check, "")?;
+    Ok(())
+}
+
+/// A command on a file of these bytes, with more words behind its name, does so.
+fn expect_words<R: Abort + Files<File = File> + Clock + AllocGlobal>(
+    rt: &R,
+    command: &str,
+    words: &str,
+    bytes: &[u8],
+    status: u8,
+    out: &str,
+) -> Result<(), Fail> {
+    let name = "ncc_test_words.nc";
+    fs::write(rt, name, bytes)?;
+    let line = format!(in rt.alloc(); "ncc {command} {name} {words}")?;
+    expect_run(rt, &line, status, out, "")?;
+    fs::remove_file(rt, name)?;
+    Ok(())
+}
+
+#[test]
+fn statuses_of_selections(rt: HostRuntime) -> Result<(), Fail> {
+    let fixed = bytes_of(rt.alloc(), &FIXED)?;
+    expect_words(&rt, "csv", "v", &fixed, 0, "x,v\n0,1\n1,2\n2,3\n")?;
+    expect_words(
+        &rt,
+        "csv --start 1 --stride 2",
+        "v",
+        &fixed,
+        0,
+        "x,v\n1,2\n",
+    )?;
+    expect_words(&rt, "csv", "v --count 0", &fixed, 0, "x,v\n")?;
+    let outside = "refused Outside 0\n";
+    expect_words(
+        &rt,
+        "csv",
+        "v --start 0 --count 3 --stride 2",
+        &fixed,
+        1,
+        outside,
+    )?;
+    expect_words(&rt, "csv", "w", &fixed, 1, "refused NoVariable\n")?;
+    expect_words(
+        &rt,
+        "csv",
+        "v",
+        front(&fixed, 85),
+        1,
+        "fault Truncated at 76\n",
+    )?;
+    expect_run(
+        &rt,
+        "ncc csv ncc_test_not_there.nc v",
+        3,
+        "",
+        "error device\n",
+    )?;
+    Ok(())
+}
+
+#[test]
+fn help_of_selections(rt: HostRuntime) -> Result<(), Fail> {
+    let csv = "Prints the values of a variable, or of a selection of them
+
+Usage: ncc csv [OPTIONS] <FILE> <VAR>
+
+Arguments:
+  <FILE>  A netCDF classic file
+  <VAR>   The name of a variable
+
+Options:
+      --start <A>   The first index along each dimension
+      --count <A>   How many indices along each dimension
+      --stride <A>  The step from one index to the next
+  -h, --help        Print help
+
+A is a list of numbers with commas between them, one for each dimension. What isn't given
+is 0 for the start, 1 for the stride, and for the count as many indices as there are.
+
+The first row names the dimensions and the variable. Each other row has the indices of an
+element in the whole array, and its value; a char is the number of its byte, and a float or
+a double is shown by its bits.
+
+Status:
+  0  selected
+  1  the file has a fault or the selection is refused, which is the only line
+  2  the command line is wrong
+  3  a device or memory failed
+";
+    expect_run(&rt, "ncc csv --help", 0, csv, "")?;
     let found = outcome(&rt, "ncc --help")?;
     assert_eq!(rt; found.status, 0);
     assert!(rt; found.err.is_empty());
-    let first = b"Checks and lists netCDF classic files\n\nUsage: ncc <COMMAND>\n";
+    let first = b"Checks, lists and reads netCDF classic files\n\nUsage: ncc <COMMAND>\n";
     assert!(rt; found.out.as_slice().starts_with(first));
     let last = b"  2  the command line is wrong\n  3  a device or memory failed\n";
     assert!(rt; found.out.as_slice().ends_with(last));
@@ -293,14 +402,14 @@ impl Write for Stuck {
 }
 
 /// Where the output takes nothing, or is not flushed, each command ends with `error device`.
-fn expect_stuck<R: Abort + Files<File = File> + AllocGlobal>(
+fn expect_stuck<R: Abort + Files<File = File> + Clock + AllocGlobal>(
     rt: &R,
     line: &str,
 ) -> Result<(), AllocError> {
     for takes in [false, true] {
         let mut err = Vec::new(rt.alloc());
         let words = line_of(rt.alloc(), line)?;
-        let status = run(rt, &words, &mut Stuck { takes }, &mut err);
+        let status = run(rt, &words, &mut Stuck { takes }, &mut err, false);
         assert_eq!(rt; status, 3, "{line}");
         assert!(rt; err.as_slice() == b"error device\n".as_slice(), "{line}");
     }
@@ -313,9 +422,11 @@ fn outputs_that_take_nothing(rt: HostRuntime) -> Result<(), Fail> {
     fs::write(&rt, name, bytes_of(rt.alloc(), &TITLED)?)?;
     expect_stuck(&rt, "ncc list ncc_test_stuck.nc")?;
     expect_stuck(&rt, "ncc check ncc_test_stuck.nc")?;
+    expect_stuck(&rt, "ncc csv ncc_test_stuck.nc v")?;
     fs::write(&rt, name, with_byte(rt.alloc(), &EMPTY, 3, 4)?)?;
     expect_stuck(&rt, "ncc list ncc_test_stuck.nc")?;
     expect_stuck(&rt, "ncc check ncc_test_stuck.nc")?;
+    expect_stuck(&rt, "ncc csv ncc_test_stuck.nc v")?;
     fs::remove_file(&rt, name)?;
     expect_stuck(&rt, "ncc --help")?;
     expect_stuck(&rt, "ncc --version")?;
@@ -346,7 +457,7 @@ fn error_output_that_takes_nothing(rt: HostRuntime) -> Result<(), Fail> {
         let words = line_of(rt.alloc(), line)?;
         let mut out = Vec::new(rt.alloc());
         assert_eq!(rt;
-            run(&rt, &words, &mut out, &mut Stuck { takes: false }),
+            run(&rt, &words, &mut out, &mut Stuck { takes: false }, false),
             status
         );
         assert!(rt; out.is_empty());

@@ -1,9 +1,13 @@
-use Rattle.std.proofs.Common.{◌≡◌, ◌-◌, ℕ, length, min, take, refl, ap, sym, subst, ◌∙◌, arith}
+use Rattle.std.proofs.Common.{◌≡◌, ◌+◌, ◌-◌, ℕ, take, refl, ap, subst, ◌∙◌, arith}
 use Rattle.ncc_values.specs.XType.{size_of}
 use Rattle.ncc_values.specs.Values.{type_of}
+use Rattle.ncc_layout.specs.Placed.{file_length_of}
 use Rattle.ncc_check.specs.Files.{store_of}
 use Rattle.ncc_slab.specs.Axes.{place_at}
-use Rattle.ncc_slab.specs.Grids.{grid_rest}
+use Rattle.ncc_slab.specs.Answers.{part_count}
+use Rattle.ncc_slab.specs.Grids.{grid_place, grid_rest}
+use Rattle.ncc_slab.specs.Stretches.{part_stretches}
+use Rattle.ncc_slab.proofs.Calls.{part_read, all_read}
 use Rattle.ncc_slab.specs.Selected.{AddsPlaces}
 use Rattle.ncc_slab.proofs.Joined.{next_part, all_taken, part_bounds}
 use Rattle.ncc_slab.proofs.fetching.add_all.Goals as goal
@@ -49,6 +53,13 @@ loop-taken-preserved g c =
       unmoved = c.unmoved_calls_join.ensures (store_of c.args.file.now) (store_of c.loop-taken.file) (store_of c.add_part.new.file) at.unmoved part.unmoved;
       kept = λ image was. part.kept image (at.kept image was);
       count = part.count ∙ at.count;
+      reach = omega (arith, part.reach, at.reach, ap file_length_of at.placed);
+      read =
+          let same : size_of (type_of c.loop-taken.values) ≡ size = ap size_of at.typed in
+          part_read (type_of c.args.values.now) (grid_place grid) grid.count c.loop-taken.taken n
+          (g.S.Store.calls (store_of c.args.file.now)) (g.S.Store.calls (store_of c.loop-taken.file)) (g.S.Store.calls (store_of c.add_part.new.file))
+          (omega (arith, c.loop-taken-test.true, c.count.ensures)) (part.took ∙ ap (λ (m : ℕ). part_count m (grid_rest grid c.loop-taken.taken)) same) at.read
+          (omega (arith, part.calls, ap (λ (m : ℕ). part_stretches m (grid_rest grid c.loop-taken.taken)) same));
     }
 
 pub returns-clause-told : goal.returns-clause-told
@@ -56,3 +67,21 @@ returns-clause-told g c = λ told.
     let grid = c.args.grid.now in
     all_taken (g.S.Store.bytes (store_of c.args.file.now)) (size_of (type_of c.args.values.now)) (place_at grid.base grid.axes.items) grid.count c.loop-taken.taken c.args.values.now c.loop-taken.values
     (omega (arith, c.loop-taken.invariant.within, c.loop-taken-test.false, c.count.ensures)) (c.loop-taken.invariant.told told)
+
+pub returns-clause-calls : goal.returns-clause-calls
+returns-clause-calls g c =
+    let grid = c.args.grid.now in
+    all_read (type_of c.args.values.now) (grid_place grid) grid.count c.loop-taken.taken _ _ c.loop-taken.invariant.read
+
+pub returns-in_err-taken-clause-calls : goal.returns-in_err-taken-clause-calls
+returns-in_err-taken-clause-calls g c =
+    let at = c.loop-taken.invariant in
+    let part = c.in_err-taken.ensures in
+    let grid = c.args.grid.now in
+    let size = size_of (type_of c.args.values.now) in
+    let rest = grid_rest grid c.loop-taken.taken in
+    let same : size_of (type_of c.loop-taken.values) ≡ size = ap size_of at.typed in
+    let read = part_read (type_of c.args.values.now) (grid_place grid) grid.count c.loop-taken.taken (part_count size rest)
+    (g.S.Store.calls (store_of c.args.file.now)) (g.S.Store.calls (store_of c.loop-taken.file)) (g.S.Store.calls (store_of c.add_part.new.file))
+    (omega (arith, c.loop-taken-test.true, c.count.ensures)) refl at.read (omega (arith, part.calls, ap (λ (m : ℕ). part_stretches m rest) same)) in
+    all_read (type_of c.args.values.now) (grid_place grid) grid.count (c.loop-taken.taken + part_count size rest) _ _ read

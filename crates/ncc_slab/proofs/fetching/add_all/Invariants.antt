@@ -1,11 +1,12 @@
-use Rattle.std.proofs.Common.{◌≡◌, ◌+◌, ◌-◌, ◌≤◌, length, take}
+use Rattle.std.proofs.Common.{◌≡◌, ◌+◌, ◌-◌, ◌≤◌, max, take}
 use Rattle.std.specs.Prelude.{IsTrue}
 use Rattle.ncc_values.specs.XType.{size_of}
 use Rattle.ncc_values.specs.Values.{type_of, count_of}
 use Rattle.ncc_store.specs.Store.{Unmoved, KeepsImages}
+use Rattle.ncc_layout.specs.Placed.{file_length_of}
 use Rattle.ncc_check.specs.Files.{store_of, schema_of, placed_of, must_reopen}
-use Rattle.ncc_slab.specs.Answers.{buffer_length}
-use Rattle.ncc_slab.specs.Grids.{grid_places}
+use Rattle.ncc_slab.specs.Grids.{grid_place, grid_places}
+use Rattle.ncc_slab.proofs.Calls.{HasRead}
 use Rattle.ncc_slab.specs.Selected.{AddsPlaces}
 use Rattle.ncc_slab.proofs.fetching.add_all.Given as goal
 
@@ -20,6 +21,8 @@ invariant-loop-taken g l = record {
   reopen : must_reopen l.file ≡ must_reopen l.fn.file;
   unmoved : Unmoved g.S.Store.bytes g.S.Store.images g.S.Store.moment g.S.Store.images_since (store_of l.fn.file) (store_of l.file);
   kept : KeepsImages (g.S.Store.images (store_of l.fn.file)) (g.S.Store.images (store_of l.file));
+  read : HasRead (type_of l.fn.values) (grid_place l.grid) l.grid.count l.taken (g.S.Store.calls (store_of l.fn.file)) (g.S.Store.calls (store_of l.file));
+  reach : g.S.Store.reach (store_of l.file) ≤ max (g.S.Store.reach (store_of l.fn.file)) (file_length_of (placed_of l.fn.file));
   count : g.S.Store.failures (store_of l.file) ≡ g.S.Store.failures (store_of l.fn.file);
 }
 

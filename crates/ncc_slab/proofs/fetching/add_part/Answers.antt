@@ -1,4 +1,4 @@
-use Rattle.std.proofs.Common.{◌≡◌, ℕ, ◌-◌, ◌*◌, ◌/◌, min, length, take, refl, sym, ap, ◌∙◌}
+use Rattle.std.proofs.Common.{◌≡◌, ℕ, ◌-◌, ◌*◌, ◌/◌, min, length, take, refl, sym, ap, ◌∙◌, arith}
 use Rattle.std.proofs.lemmas.List.FromFn.{length-map-range_with_len}
 use Rattle.ncc_values.specs.XType.{size_of}
 use Rattle.ncc_values.specs.Values.{type_of, count_of, with_bytes}
@@ -7,6 +7,7 @@ use Rattle.ncc_check.specs.Files.{store_of}
 use Rattle.ncc_slab.specs.Axes.{place_at}
 use Rattle.ncc_slab.specs.Grids.{grid_rest}
 use Rattle.ncc_slab.specs.Selected.{bytes_at_places}
+use Rattle.ncc_slab.proofs.Calls.{first_part}
 use Rattle.ncc_slab.proofs.Stretches.{part_long, part_counted}
 use Rattle.ncc_slab.proofs.fetching.add_part.Goals as goal
 
@@ -41,3 +42,27 @@ returns-clause-told g c = λ told.
       is = c.in_ok-push_from.ensures.ok ∙ ap (with_bytes c.args.values.now) out;
       whole = sym (ap length out) ∙ long ∙ sym (ap (λ (m : ℕ). m * size_of (type_of c.args.values.now)) counted);
     }
+
+pub returns-in_err-fetch_elements-clause-calls : goal.returns-in_err-fetch_elements-clause-calls
+returns-in_err-fetch_elements-clause-calls g c =
+    let grid = c.args.grid.now in
+    let size : c.size-size.result ≡ size_of (type_of c.args.values.now) = c.size-size.ensures ∙ ap size_of c.xtype.ensures in
+    let counted = first_part (place_at grid.base grid.axes.items) c.args.first (grid.count - c.args.first) c.min-count.result c.size-size.result (size_of (type_of c.args.values.now)) c.args.buffer.now
+    (c.min-count.ensures ∙ ap (λ (m : ℕ). min (m - c.args.first) (length c.args.buffer.now / c.size-size.result)) c.count.ensures) c.requires.room size in
+    omega (arith, c.in_err-fetch_elements.ensures.calls, counted)
+
+pub returns-in_err-push_from-clause-calls : goal.returns-in_err-push_from-clause-calls
+returns-in_err-push_from-clause-calls g c =
+    let grid = c.args.grid.now in
+    let size : c.size-size.result ≡ size_of (type_of c.args.values.now) = c.size-size.ensures ∙ ap size_of c.xtype.ensures in
+    let counted = first_part (place_at grid.base grid.axes.items) c.args.first (grid.count - c.args.first) c.min-count.result c.size-size.result (size_of (type_of c.args.values.now)) c.args.buffer.now
+    (c.min-count.ensures ∙ ap (λ (m : ℕ). min (m - c.args.first) (length c.args.buffer.now / c.size-size.result)) c.count.ensures) c.requires.room size in
+    omega (arith, c.in_ok-fetch_elements.ensures.calls, counted)
+
+pub returns-clause-calls : goal.returns-clause-calls
+returns-clause-calls g c =
+    let grid = c.args.grid.now in
+    let size : c.size-size.result ≡ size_of (type_of c.args.values.now) = c.size-size.ensures ∙ ap size_of c.xtype.ensures in
+    let counted = first_part (place_at grid.base grid.axes.items) c.args.first (grid.count - c.args.first) c.min-count.result c.size-size.result (size_of (type_of c.args.values.now)) c.args.buffer.now
+    (c.min-count.ensures ∙ ap (λ (m : ℕ). min (m - c.args.first) (length c.args.buffer.now / c.size-size.result)) c.count.ensures) c.requires.room size in
+    omega (arith, c.in_ok-fetch_elements.ensures.calls, counted)

@@ -1,14 +1,17 @@
-use Rattle.std.proofs.Common.{◌≡◌, ◌+◌, ◌-◌, ◌*◌, ◌≤◌, ◌++◌, ℕ, List, length, take, drop, sym, ap, subst, ◌∙◌, arith}
+use Rattle.std.proofs.Common.{◌≡◌, ◌+◌, ◌-◌, ◌*◌, ◌≤◌, ◌++◌, ℕ, inl, inr, List, map, length, take, drop, ap, ◌∙◌, arith}
+use Rattle.std.specs.List.{range_with_len}
 use Rattle.std.proofs.lemmas.Slice.{take-put_mid}
 use Rattle.std.proofs.lemmas.Nat.{mul-le}
 use Rattle.std.proofs.Math.Nat.{add-mul}
 use Rattle.ncc_layout.specs.Placed.{file_length_of}
-use Rattle.ncc_check.specs.Files.{store_of, placed_of}
+use Rattle.ncc_check.specs.Files.{store_of}
 use Rattle.ncc_slab.specs.Grids.{grid_place, grid_rest}
 use Rattle.ncc_slab.specs.Axes.{place_at}
 use Rattle.ncc_slab.specs.Selected.{bytes_at_places}
-use Rattle.ncc_slab.proofs.Ranges.{last_and_one}
-use Rattle.ncc_slab.proofs.Stretches.{bytes_so_far, room_there}
+use Rattle.ncc_slab.specs.Stretches.{stretches}
+use Rattle.ncc_slab.proofs.Calls.{one_more, ends_apart}
+use Rattle.ncc_slab.proofs.Ranges.{take-map-range}
+use Rattle.ncc_slab.proofs.Stretches.{bytes_so_far, room_there, stretch_end}
 use Rattle.ncc_slab.proofs.fetching.fetch_elements.Goals as goal
 
 pub fetch-requires : goal.fetch-requires
@@ -16,12 +19,11 @@ fetch-requires g c =
     let at = c.loop-done.invariant in
     let more = c.stretch-more.result in
     let next = c.args.first + c.loop-done.done in
-    let last = c.stretch-more.ensures.adjoin (more - 1) (omega arith) in
-    let end = c.requires.ends (next + (more - 1)) (omega arith) in
-    let whole = last_and_one more c.args.size c.stretch-more.ensures.some in
+    let end = stretch_end (grid_place c.args.grid.now) next more c.args.size _ c.stretch-more.ensures.some c.stretch-more.ensures.adjoin
+    (c.requires.ends (next + (more - 1)) (omega arith)) in
     let room = room_there c.loop-done.done more c.args.count c.args.size c.loop-done.out (omega arith) (c.loop-done.auto.out ∙ c.requires.room) in
     let placed = ap file_length_of at.placed in
-    omega (arith, last, end, whole, room, placed, c.place.ensures)
+    omega (arith, end, room, placed, c.place.ensures)
 
 pub loop-done-preserved : goal.loop-done-preserved
 loop-done-preserved g c =
@@ -56,4 +58,51 @@ loop-done-preserved g c =
       unmoved = c.unmoved_calls_join.ensures (store_of c.args.file.now) (store_of c.loop-done.file) (store_of c.fetch.new.self) at.unmoved fetched.unmoved;
       kept = λ image was. fetched.kept image (at.kept image was);
       count = fetched.count ∙ at.count;
+      reach =
+          let end = stretch_end (grid_place grid) (c.args.first + done) more size _ c.stretch-more.ensures.some c.stretch-more.ensures.adjoin
+          (c.requires.ends (c.args.first + done + (more - 1)) (omega arith)) in
+          omega (arith, fetched.reach, at.reach, end, room, c.place.ensures);
+      calls =
+          let grown = one_more size (grid_place grid) c.args.first done more c.stretch-more.ensures.some (at.apart c.loop-done-test.true) in
+          omega (arith, fetched.calls, at.calls, grown);
+      apart = λ below some is.
+          elim c.stretch-more.ensures.longest [
+            | inl all ↦ absurd (omega (arith, all, below))
+            | inr not ↦
+                ends_apart size (grid_place grid) c.args.first done more c.stretch-more.ensures.some c.stretch-more.ensures.adjoin not is
+          ];
     }
+
+pub returns-in_err-fetch-clause-reach : goal.returns-in_err-fetch-clause-reach
+returns-in_err-fetch-clause-reach g c =
+    let at = c.loop-done.invariant in
+    let size = c.args.size in
+    let next = c.args.first + c.loop-done.done in
+    let more = c.stretch-more.result in
+    let room = room_there c.loop-done.done more c.args.count size c.loop-done.out (omega arith) (c.loop-done.auto.out ∙ c.requires.room) in
+    let end = stretch_end (grid_place c.args.grid.now) next more size _ c.stretch-more.ensures.some c.stretch-more.ensures.adjoin
+    (c.requires.ends (next + (more - 1)) (omega arith)) in
+    omega (arith, c.in_err-fetch.ensures.reach, at.reach, end, room, c.place.ensures)
+
+pub returns-in_err-fetch-clause-calls : goal.returns-in_err-fetch-clause-calls
+returns-in_err-fetch-clause-calls g c =
+    let at = c.loop-done.invariant in
+    let grid = c.args.grid.now in
+    let size = c.args.size in
+    let first = c.args.first in
+    let done = c.loop-done.done in
+    let more = c.stretch-more.result in
+    let left = c.args.count - done in
+    let grown = one_more size (grid_place grid) first done left (omega (arith, c.loop-done-test.true)) (at.apart c.loop-done-test.true) in
+    let all : done + left ≡ c.args.count = omega (arith, at.within) in
+    let whole = take-map-range (grid_place grid) first (grid.count - first) c.args.count (omega (arith, c.requires.there)) in
+    rw whole (omega (arith, c.in_err-fetch.ensures.calls, at.calls, grown, ap (λ (n : ℕ). stretches size (map (grid_place grid) (range_with_len first n))) all))
+
+pub returns-clause-calls : goal.returns-clause-calls
+returns-clause-calls g c =
+    let at = c.loop-done.invariant in
+    let grid = c.args.grid.now in
+    let first = c.args.first in
+    let all : c.loop-done.done ≡ c.args.count = omega (arith, at.within, c.loop-done-test.false) in
+    let whole = take-map-range (grid_place grid) first (grid.count - first) c.args.count (omega (arith, c.requires.there)) in
+    rw whole (omega (arith, at.calls, ap (λ (n : ℕ). stretches c.args.size (map (grid_place grid) (range_with_len first n))) all))

@@ -1,7 +1,6 @@
-use Rattle.std.proofs.Common.{◌≡◌, ◌+◌, ◌*◌, ◌/◌, ◌≤◌, ◌<◌, ◌^◌, ◌++◌, [], ◌∷◌, get_or, drop, ap, sym, ◌∙◌, arith}
-use Rattle.ncc_slab.specs.declared.axis.Axis.{Axis}
+use Rattle.std.proofs.Common.{◌+◌, ◌*◌, ◌/◌, ◌++◌, get_or, drop, ap, sym, ◌∙◌, arith}
 use Rattle.ncc_slab.specs.Axes.{axes_of, inner_units, times}
-use Rattle.ncc_slab.proofs.OneAxis.{next_unit, next_width, lengths_left, counts_left, length_positive, count_positive, offset_split, axis_skipped, axis_pushed, step_fits, rest_fits, start_fits, axes_done, offset_done}
+use Rattle.ncc_slab.proofs.OneAxis.{next_unit, next_width, lengths_left, counts_left, offset_split, axis_skipped, axis_pushed, step_fits, rest_fits, start_fits}
 use Rattle.ncc_slab.proofs.gridding.add_axes.Goals as goal
 use Rattle.ncc_slab.proofs.gridding.add_axes.Goals.{then-count-k-ne1+in_ok-push, else-count-k-ne1}
 

@@ -1,9 +1,6 @@
-use Rattle.std.proofs.Common.{◌≡◌, ◌+◌, ◌<◌, ◌^◌, ℕ, List, Bool, sym, ap, subst, ◌∙◌, arith}
+use Rattle.std.proofs.Common.{sym, ap, subst, arith}
 use Rattle.ncc_layout.specs.Sizes.{product}
-use Rattle.ncc_layout.specs.Elements.{var_at}
-use Rattle.ncc_layout.specs.Placed.{vars_of, record_size_of_file}
-use Rattle.ncc_values.specs.XType.{size_of}
-use Rattle.ncc_slab.specs.Axes.{ArePositive, dot, inner_units, units, last_of}
+use Rattle.ncc_slab.specs.Axes.{ArePositive}
 use Rattle.ncc_slab.proofs.InFile.{all_lengths_positive, count_in_file, fixed_last, fixed_base}
 use Rattle.ncc_slab.proofs.gridding.fixed_axes.Goals as goal
 

@@ -1,4 +1,4 @@
-use Rattle.std.proofs.Common.{◌≡◌, ◌+◌, ◌<◌, ◌≤◌, ◌^◌, ◌++◌, [], ℕ, length, sym, ap, subst, ◌∙◌, arith}
+use Rattle.std.proofs.Common.{◌++◌, ℕ, sym, ap, subst, ◌∙◌, arith}
 use Rattle.ncc_layout.specs.Sizes.{product}
 use Rattle.ncc_layout.specs.Elements.{var_at}
 use Rattle.ncc_layout.specs.Placed.{record_size_of_file, vars_of}

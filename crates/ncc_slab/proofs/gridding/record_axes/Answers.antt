@@ -1,4 +1,4 @@
-use Rattle.std.proofs.Common.{◌+◌, ◌*◌, ◌<◌, ◌^◌, get_or, drop, ap, sym, subst, ◌∙◌, arith}
+use Rattle.std.proofs.Common.{get_or, drop, ap, sym, subst, ◌∙◌, arith}
 use Rattle.ncc_layout.specs.Sizes.{product}
 use Rattle.ncc_slab.specs.Axes.{ArePositive}
 use Rattle.ncc_slab.proofs.InFile.{of_records}

@@ -1,9 +1,9 @@
-use Rattle.std.proofs.Common.{sym, ap, ◌∙◌}
+use Rattle.std.proofs.Common.{◌∙◌}
 use Rattle.std.proofs.lemmas.Result.{err_from_is_err_and}
 use Rattle.ncc_values.specs.declared.values.Values.{Values}
 use Rattle.ncc_check.specs.Files.{store_of, placed_of}
 use Rattle.ncc_layout.specs.Placed.{vars_of}
-use Rattle.ncc_slab.proofs.Answering.{failed_part, failed_count, typed, all_end, not_refused, selected, all_counted}
+use Rattle.ncc_slab.proofs.Answering.{failed_part, failed_count, typed, all_end, not_refused, selected, numbers, all_counted, all_calls}
 use Rattle.ncc_slab.proofs.reading.read_slab.Goals as goal
 
 pub add_all-requires-clause-ends : goal.add_all-requires-clause-ends
@@ -28,6 +28,11 @@ returns-clause-values g c = λ told.
     selected (placed_of c.args.file.now) c.placed.result.now c.placed-2.result.now c.args.var c.args.slab.now c.in_ok-grid.grid c.xtype.result c.new-values.result
     c.placed.ensures c.placed-2.ensures c.xtype.ensures c.new-values.ensures (g.S.Store.bytes (store_of c.args.file.now)) c.add_all.new.values c.in_ok-grid.ensures.places.1 (c.in_ok-add_all.ensures.told told)
 
+pub returns-clause-numbers : goal.returns-clause-numbers
+returns-clause-numbers g c = λ told.
+    numbers (placed_of c.args.file.now) c.placed.result.now c.placed-2.result.now c.args.var c.args.slab.now c.in_ok-grid.grid c.xtype.result c.new-values.result
+    c.placed.ensures c.placed-2.ensures c.xtype.ensures c.new-values.ensures (g.S.Store.bytes (store_of c.args.file.now)) c.add_all.new.values c.in_ok-grid.ensures.places.1 (c.in_ok-add_all.ensures.told told)
+
 pub returns-clause-typed : goal.returns-clause-typed
 returns-clause-typed g c =
     c.in_ok-add_all.ensures.typed
@@ -38,3 +43,13 @@ pub returns-clause-counted : goal.returns-clause-counted
 returns-clause-counted g c =
     all_counted (placed_of c.args.file.now) c.placed.result.now c.placed-2.result.now c.args.var c.args.slab.now c.in_ok-grid.grid c.xtype.result c.new-values.result
     c.placed.ensures c.placed-2.ensures c.xtype.ensures c.new-values.ensures _ c.in_ok-grid.ensures.places.1 c.in_ok-add_all.ensures.counted
+
+pub returns-in_err-add_all-clause-calls : goal.returns-in_err-add_all-clause-calls
+returns-in_err-add_all-clause-calls g c =
+    all_calls (placed_of c.args.file.now) c.placed.result.now c.placed-2.result.now c.args.var c.args.slab.now c.in_ok-grid.grid c.xtype.result c.new-values.result
+    c.placed.ensures c.placed-2.ensures c.xtype.ensures c.new-values.ensures _ _ c.in_ok-grid.ensures.places.1 c.in_err-add_all.ensures.calls
+
+pub returns-clause-calls : goal.returns-clause-calls
+returns-clause-calls g c =
+    all_calls (placed_of c.args.file.now) c.placed.result.now c.placed-2.result.now c.args.var c.args.slab.now c.in_ok-grid.grid c.xtype.result c.new-values.result
+    c.placed.ensures c.placed-2.ensures c.xtype.ensures c.new-values.ensures _ _ c.in_ok-grid.ensures.places.1 c.in_ok-add_all.ensures.calls

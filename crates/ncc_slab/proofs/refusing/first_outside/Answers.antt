@@ -1,5 +1,5 @@
 use Rattle.std.proofs.Common.{◌∙◌, sym}
-use Rattle.ncc_slab.proofs.Searches.{goes_on, is_here, none_left}
+use Rattle.ncc_slab.proofs.Searches.{goes_on}
 use Rattle.ncc_slab.proofs.refusing.first_outside.Goals as goal
 
 pub loop-k-preserved : goal.loop-k-preserved

@@ -1,0 +1,38 @@
+use Rattle.std.proofs.Common.{List, ℕ, get_or, refl, subst}
+use Rattle.ncc_schema.specs.Device.{Puts}
+use Rattle.ncc_layout.specs.Elements.{var_at}
+use Rattle.ncc_layout.specs.Placed.{record_size_of_file, vars_of}
+use Rattle.ncc_check.specs.Files.{store_of, schema_of, placed_of}
+use Rattle.ncc_lines.specs.Sends.{PutsFront}
+use Rattle.ncc_slab.specs.Selection.{indices_of}
+use Rattle.ncc_csv.specs.Csv.{rows_text}
+use Rattle.ncc_csv.specs.Named.{no_var}
+use Rattle.ncc_csv.specs.Names.{names_text}
+use Rattle.ncc_csv.proofs.PartRows.{front_of_more}
+use Rattle.ncc_csv.proofs.PartTexts.{fails}
+use Rattle.ncc_csv.proofs.SheetTexts.{in_schema, names_in_schema, sends_behind}
+use Rattle.ncc_csv.proofs.sheet.send_selected.Goals as goal
+
+pub var_of-requires : goal.var_of-requires
+var_of-requires g c =
+    let there = in_schema g.S.Store.tells_bytes (g.S.Store.bytes (store_of c.args.file.now)) (schema_of c.args.file.now) (placed_of c.args.file.now) c.args.var c.args.slab.now c.open_file_stands.ensures c.requires.selected in
+    rw c.schema-schema.ensures there
+
+pub returns-in_err-send_names-clause-sent : goal.returns-in_err-send_names-clause-sent
+returns-in_err-send_names-clause-sent g c = λ told.
+    let schema = schema_of c.args.file.now in
+    let x = get_or schema.vars c.args.var no_var in
+    let rows = rows_text (g.S.Store.bytes (store_of c.args.file.now)) (record_size_of_file (placed_of c.args.file.now)) (var_at (vars_of (placed_of c.args.file.now)) c.args.var) (indices_of c.args.slab.now) in
+    let names = names_in_schema c.as_slice.result.now c.var_of.result.now c.schema-schema.result.now schema c.args.var c.as_slice.ensures c.var_of.ensures c.schema-schema.ensures in
+    fails _ _ _ _ c.from_residual.ensures.0 (front_of_more _ _ _ (names_text schema.dims x) rows refl
+    (subst (λ (t : List ℕ). PutsFront (g.W.Sink.put c.args.sink.now) (g.W.Sink.put c.send_names.new.sink) t) names c.in_err-send_names.ensures.sent))
+
+pub returns-clause-sent : goal.returns-clause-sent
+returns-clause-sent g c = λ told.
+    let schema = schema_of c.args.file.now in
+    let x = get_or schema.vars c.args.var no_var in
+    let rows = rows_text (g.S.Store.bytes (store_of c.args.file.now)) (record_size_of_file (placed_of c.args.file.now)) (var_at (vars_of (placed_of c.args.file.now)) c.args.var) (indices_of c.args.slab.now) in
+    let names = names_in_schema c.as_slice.result.now c.var_of.result.now c.schema-schema.result.now schema c.args.var c.as_slice.ensures c.var_of.ensures c.schema-schema.ensures in
+    sends_behind _ _ _ (names_text schema.dims x) rows _
+    (subst (λ (t : List ℕ). Puts (g.W.Sink.put c.args.sink.now) (g.W.Sink.put c.send_names.new.sink) t) names c.in_ok-send_names.ensures.sent)
+    (c.send_rows.ensures.sent told c.args.var c.requires.begins)

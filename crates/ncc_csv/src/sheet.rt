@@ -1,0 +1,124 @@
+//! Sending a selection of an open file.
+
+ghost use Rattle.std.specs.Prelude.{◌≡◌, ℕ, ◌+◌, ◌<◌, ◌≤◌, List, [], length, get_or, Option, Some, None, is_none, IsTrue, IfOk};
+ghost use Rattle.ncc_store.specs.Store.{Unmoved, KeepsImages};
+ghost use Rattle.ncc_values.specs.XType.{size_of};
+ghost use Rattle.ncc_layout.specs.Elements.{var_at};
+ghost use Rattle.ncc_layout.specs.Placed.{record_size_of_file, vars_of};
+ghost use Rattle.ncc_check.specs.Files.{store_of, schema_of, placed_of, must_reopen};
+ghost use Rattle.ncc_lines.specs.Sends.{SendsAll};
+ghost use Rattle.ncc_slab.specs.Refusals.{slab_fault};
+ghost use Rattle.ncc_slab.specs.Selected.{places_of};
+ghost use Rattle.ncc_slab.specs.SlabParts.{BeginsParts};
+ghost use Rattle.ncc_slab.specs.Stretches.{all_stretches};
+ghost use Rattle.ncc_slab.specs.declared.fault.SlabFault.{SlabFault as Fault};
+ghost use Rattle.ncc_csv.specs.Named.{no_var};
+ghost use Rattle.ncc_csv.specs.Sheets.{BlamesOne, BlamesEither, IsCause, SendsSheet, sheet_text};
+
+use crate::laws::fitting_has_indices;
+use crate::names::send_names;
+use crate::parts::send_rows;
+use crate::refusals::send_refusal;
+use ncc_check::NcFile;
+use ncc_check::laws::open_file_stands;
+use ncc_header::{Schema, Sink, Var};
+use ncc_lines::{Halt, Progress};
+use ncc_slab::laws::{lengths_fit, refused_unless_it_fits};
+use ncc_slab::{Slab, SlabFault, SlabParts};
+use ncc_store::Store;
+use std::alloc::Global;
+
+/// Sends the line of a selection that is refused, unless memory for it was.
+fn refuse<W: Sink>(alloc: Global, fault: SlabFault, sink: &mut W) -> Result<bool, Halt>
+    requires { (cause : Option Fault) × IsCause cause fault }
+    ensures sent { (cause : Option Fault) (sheet : List ℕ) → IsCause cause fault
+        → SendsSheet cause (W.put sink.old) (W.put sink.new) sheet result }
+    ensures answer { (cause : Option Fault) → IsCause cause fault → IfOk result (λ b. b ≡ is_none cause) }
+    ensures count { BlamesOne (W.failures sink.old) (W.failures sink.new) result }
+{
+    match fault {
+        SlabFault::Memory => Err(Halt::Memory),
+        _ => {
+            send_refusal(alloc, fault, sink)?;
+            Ok(false)
+        }
+    }
+}
+
+/// A variable by its number.
+fn var_of(schema: &Schema, var: usize) -> &Var
+    requires { var < length schema.now.vars }
+    ensures { result.now ≡ get_or schema.now.vars var no_var }
+{
+    &schema.vars.as_slice()[var]
+}
+
+/// Sends the row of names and the rows of a selection that isn't refused. After an `Err` a front of them is sent.
+fn send_selected<S: Store, W: Sink, P: Progress>(
+    alloc: Global,
+    file: &mut NcFile<S>,
+    var: usize,
+    slab: &Slab,
+    parts: &mut SlabParts,
+    sink: &mut W,
+    progress: &mut P,
+) -> Result<(), Halt>
+    requires selected { slab_fault (vars_of (placed_of file.old)) var slab.now ≡ None }
+    requires begins { BeginsParts (placed_of file.old) var slab.now parts.old }
+    ensures sent { IsTrue S.tells_bytes → SendsAll (W.put sink.old) (W.put sink.new)
+        (sheet_text (S.bytes (store_of file.old)) (schema_of file.old) (placed_of file.old) var slab.now) result }
+    ensures schema { schema_of file.new ≡ schema_of file.old }
+    ensures placed { placed_of file.new ≡ placed_of file.old }
+    ensures reopen { must_reopen file.new ≡ must_reopen file.old }
+    ensures unmoved { Unmoved S.bytes S.images S.moment S.images_since (store_of file.old) (store_of file.new) }
+    ensures kept { KeepsImages (S.images (store_of file.old)) (S.images (store_of file.new)) }
+    ensures count { BlamesEither (S.failures (store_of file.old)) (S.failures (store_of file.new))
+        (W.failures sink.old) (W.failures sink.new) result }
+    ensures calls { S.calls (store_of file.new) ≤ S.calls (store_of file.old)
+        + all_stretches (size_of (var_at (vars_of (placed_of file.old)) var).xtype)
+        (places_of (record_size_of_file (placed_of file.old)) (var_at (vars_of (placed_of file.old)) var) slab.now) }
+{
+    open_file_stands(file);
+    lengths_fit(file.placed(), var);
+    refused_unless_it_fits();
+    fitting_has_indices();
+    let schema = file.schema();
+    send_names(alloc, schema.dims.as_slice(), var_of(schema, var), sink)?;
+    send_rows(alloc, file, slab, parts, sink, progress)
+}
+
+/// Sends the row of names and the rows of a selection of the variable with this number, or the line of the
+/// selection's refusal, and tells whether it was selected. Memory doesn't grow with the selection.
+pub fn send_sheet<S: Store, W: Sink, P: Progress>(
+    alloc: Global,
+    file: &mut NcFile<S>,
+    var: usize,
+    slab: &Slab,
+    sink: &mut W,
+    progress: &mut P,
+) -> Result<bool, Halt>
+    ensures sent { IsTrue S.tells_bytes → SendsSheet (slab_fault (vars_of (placed_of file.old)) var slab.now)
+        (W.put sink.old) (W.put sink.new)
+        (sheet_text (S.bytes (store_of file.old)) (schema_of file.old) (placed_of file.old) var slab.now) result }
+    ensures answer { IfOk result (λ b. b ≡ is_none (slab_fault (vars_of (placed_of file.old)) var slab.now)) }
+    ensures schema { schema_of file.new ≡ schema_of file.old }
+    ensures placed { placed_of file.new ≡ placed_of file.old }
+    ensures reopen { must_reopen file.new ≡ must_reopen file.old }
+    ensures unmoved { Unmoved S.bytes S.images S.moment S.images_since (store_of file.old) (store_of file.new) }
+    ensures kept { KeepsImages (S.images (store_of file.old)) (S.images (store_of file.new)) }
+    ensures count { BlamesEither (S.failures (store_of file.old)) (S.failures (store_of file.new))
+        (W.failures sink.old) (W.failures sink.new) result }
+    ensures refused { (fault : Fault) → slab_fault (vars_of (placed_of file.old)) var slab.now ≡ Some fault
+        → SendsSheet (Some fault) (W.put sink.old) (W.put sink.new) [] result
+        × (store_of file.new ≡ store_of file.old) }
+    ensures calls { S.calls (store_of file.new) ≤ S.calls (store_of file.old)
+        + all_stretches (size_of (var_at (vars_of (placed_of file.old)) var).xtype)
+        (places_of (record_size_of_file (placed_of file.old)) (var_at (vars_of (placed_of file.old)) var) slab.now) }
+{
+    let mut parts = match SlabParts::new(alloc, file.placed(), var, slab) {
+        Ok(parts) => parts,
+        Err(fault) => return refuse(alloc, fault, sink),
+    };
+    send_selected(alloc, file, var, slab, &mut parts, sink, progress)?;
+    Ok(true)
+}

@@ -1,0 +1,13 @@
+//! Selections of files that are given by their bytes: values that were worked by hand, refusals, parts, calls of
+//! the store, stores that fail, and a sweep over selections of all kinds.
+
+mod failing;
+mod helpers;
+mod memory;
+mod parts;
+mod readers;
+mod records;
+mod refusals;
+mod rows;
+mod sweep;
+mod types;
