@@ -26,7 +26,7 @@ use Rattle.ncc_csv.specs.Sheets.{SendsSheet, sheet_or_line}
 use Rattle.ncc_csv.specs.declared.pick.Pick.{Pick}
 use Rattle.ncc_cli.specs.declared.answer.Answer.{Answer}
 use Rattle.ncc_cli.specs.declared.answer.Answer.TheVariants.{Passed, Refused, Device, Memory}
-use Rattle.ncc_cli.specs.Answers.{BeginsEach, Writes, answer_of}
+use Rattle.ncc_cli.specs.Answers.{BeginsEach, Texts, Writes, answer_of}
 use Rattle.ncc_cli.specs.Checking.{IsFaultOf}
 use Rattle.ncc_cli.specs.Selecting.{Contents, contents_in, contents_of, refusal, table, answer_to, sheet_answer, IsSelection, IsSelectionOf, IsCsvText}
 use Rattle.ncc_cli.proofs.Sent.{Gone, OneText, sent}
@@ -47,6 +47,10 @@ one_selection c name p a b t u x y =
     x.text_is
     ∙ ap (λ (n : Option ℕ). sheet_or_line (refusal c p n) (table c p n)) (one_number c.schema.vars name x.number y.number x.named y.named)
     ∙ sym y.text_is
+
+one_answer : (c : Contents) (name : List ℕ) (p : Pick) (a b : Answer) (t u : List ℕ) → IsSelection c name p a t → IsSelection c name p b u → a ≡ b
+one_answer c name p a b t u x y =
+    x.answer_is ∙ ap (λ (n : Option ℕ). answer_to (refusal c p n)) (one_number c.schema.vars name x.number y.number x.named y.named) ∙ sym y.answer_is
 
 -- ---- a selection of an open file
 
@@ -121,9 +125,33 @@ same_text laws bytes limit name p a b t u (inl x) (inr y) = absurd (laws.apart b
 same_text laws bytes limit name p a b t u (inr x) (inl y) = absurd (laws.apart bytes limit x.0 (y.0, y.1) x.1)
 same_text laws bytes limit name p a b t u (inr x) (inr y) = x.2 ∙ ap file_fault_line (laws.one_fault bytes limit x.0 y.0 x.1 y.1) ∙ sym y.2
 
-one_text : Laws → (bytes : List ℕ) (limit : ℕ) (name : List ℕ) (p : Pick) → OneText (IsCsvText bytes limit name p)
-one_text laws bytes limit name p a b t u is other =
-    same_text laws bytes limit name p a b t u (either bytes limit name p a t is) (either bytes limit name p b u other)
+-- one answer and one text at most is right
+abbrev pub OneAnswer : Texts → Type 0
+OneAnswer IsText = (a b : Answer) (t u : List ℕ) → IsText a t → IsText b u → (a ≡ b) × (t ≡ u)
+
+of_one_header : Laws → (bytes : List ℕ) (limit : ℕ) (name : List ℕ) (p : Pick) (a b : Answer) (t u : List ℕ) → IsSelectionOf bytes limit name p a t → IsSelectionOf bytes limit name p b u → a ≡ b
+of_one_header laws bytes limit name p a b t u x y =
+    one_answer (contents_of bytes y.0) name p a b t u (of_header laws bytes limit name p y.0 y.1 a t x) y.2
+
+same_answer : Laws → (bytes : List ℕ) (limit : ℕ) (name : List ℕ) (p : Pick) (a b : Answer) (t u : List ℕ) → IsCsvText bytes limit name p a t → IsCsvText bytes limit name p b u → a ≡ b
+same_answer laws bytes limit name p Device b t u x y = absurd x
+same_answer laws bytes limit name p Memory b t u x y = absurd x
+same_answer laws bytes limit name p Passed Passed t u x y = refl
+same_answer laws bytes limit name p Passed Refused t u x (inl y) = of_one_header laws bytes limit name p Passed Refused t u x y
+same_answer laws bytes limit name p Passed Refused t u x (inr y) = absurd (laws.apart bytes limit y.0 (x.0, x.1) y.1)
+same_answer laws bytes limit name p Passed Device t u x y = absurd y
+same_answer laws bytes limit name p Passed Memory t u x y = absurd y
+same_answer laws bytes limit name p Refused Passed t u (inl x) y = of_one_header laws bytes limit name p Refused Passed t u x y
+same_answer laws bytes limit name p Refused Passed t u (inr x) y = absurd (laws.apart bytes limit x.0 (y.0, y.1) x.1)
+same_answer laws bytes limit name p Refused Refused t u x y = refl
+same_answer laws bytes limit name p Refused Device t u x y = absurd y
+same_answer laws bytes limit name p Refused Memory t u x y = absurd y
+
+pub one_csv_text : Laws → (bytes : List ℕ) (limit : ℕ) (name : List ℕ) (p : Pick) → OneAnswer (IsCsvText bytes limit name p)
+one_csv_text laws bytes limit name p a b t u is other = (
+  same_answer laws bytes limit name p a b t u is other,
+  same_text laws bytes limit name p a b t u (either bytes limit name p a t is) (either bytes limit name p b u other),
+)
 
 -- what begins each text of a selection begins each text of the bytes
 begins : Laws → (bytes : List ℕ) (limit : ℕ) (name : List ℕ) (p : Pick) (h : Header) → PassesWith bytes limit h → (out : List ℕ) → BeginsEach (IsSelection (contents_of bytes h) name p) out
@@ -155,8 +183,8 @@ sent_opened laws bytes limit name p s placed o old new answer gone = (
       (subst (λ (c : Contents). Writes (IsSelection c name p) answer gone.0) (opened_contents bytes limit s placed o) gone.2),
 )
 
-pub sent_fault : Laws → (bytes : List ℕ) (limit : ℕ) (name : List ℕ) (p : Pick) (old new : Option (List ℕ)) (f : FileFault) (answer : Answer) (result : Result (Unit {0}) Halt) → Fails bytes limit f
+pub sent_fault : (bytes : List ℕ) (limit : ℕ) (name : List ℕ) (p : Pick) → OneAnswer (IsCsvText bytes limit name p) → (old new : Option (List ℕ)) (f : FileFault) (answer : Answer) (result : Result (Unit {0}) Halt) → Fails bytes limit f
     → SendsAll old new (file_fault_line f) result → answer ≡ answer_of result Refused → Gone (IsCsvText bytes limit name p) old new answer
-sent_fault laws bytes limit name p old new f answer result a s e =
+sent_fault bytes limit name p one old new f answer result a s e =
     subst (λ (x : Answer). Gone (IsCsvText bytes limit name p) old new x) (sym e)
-    (sent (IsCsvText bytes limit name p) (one_text laws bytes limit name p) old new (file_fault_line f) Refused result (inr (f, a, refl)) (inr (f, a, refl)) s)
+    (sent (IsCsvText bytes limit name p) (λ a b t u x y. (one a b t u x y).1) old new (file_fault_line f) Refused result (inr (f, a, refl)) (inr (f, a, refl)) s)

@@ -10,7 +10,9 @@ ghost use Rattle.ncc_check.specs.FromStore.{calls_for};
 ghost use Rattle.ncc_check.specs.Passes.{Passes, PassesWith, HasOwnElements};
 ghost use Rattle.ncc_csv.specs.Named.{IsFirstNamed};
 ghost use Rattle.ncc_cli.specs.Answers.{Writes};
-ghost use Rattle.ncc_cli.specs.Selecting.{contents_in, contents_of, value_calls, sheet_answer, IsSelection, SelectsInto};
+ghost use Rattle.ncc_cli.specs.Selecting.{contents_in, contents_of, value_calls, sheet_answer, IsCsvText, IsSelection, SelectsInto};
+ghost use Rattle.ncc_cli.specs.declared.answer.Answer.{Answer as GivenAnswer};
+ghost use Rattle.ncc_csv.specs.declared.pick.Pick.{Pick as GivenPick};
 
 use crate::answer::{Answer, answered};
 use ncc_check::{NcFile, Refusal, laws as check_laws, open};
@@ -21,6 +23,15 @@ use ncc_lines::{Halt, Progress, send_file_fault};
 use ncc_slab::SlabFault;
 use ncc_store::Store;
 use std::alloc::Global;
+
+/// Of any bytes one answer and one text at most is right.
+fn one_csv_text()
+    ensures { (bytes : List ℕ) (limit : ℕ) (name : List ℕ) (pick : GivenPick) (a b : GivenAnswer) (t u : List ℕ)
+        → IsCsvText bytes limit name pick a t → IsCsvText bytes limit name pick b u → (a ≡ b) × (t ≡ u) }
+{
+    check_laws::passing_has_no_fault();
+    header_or_stop();
+}
 
 /// What a selection comes to that was sent, or refused.
 fn told(sent: Result<bool, Halt>) -> Answer
@@ -56,7 +67,7 @@ fn select<S: Store, W: Sink, P: Progress>(
         → S.calls (store_of file.new) ≤ S.calls (store_of file.old) + value_calls
         (contents_in (S.bytes (store_of file.old)) (schema_of file.old) (placed_of file.old)) pick number }
 {
-    check_laws::open_file_stands(file);
+    check_laws::open_file_places_all(file);
     csv_laws::pick_fault_is_shape_fault();
     let Some(var) = var_named(file.schema().vars.as_slice(), name) else {
         return answered(
@@ -103,6 +114,7 @@ pub fn csv_engine<S: Store, W: Sink, P: Progress>(
 {
     check_laws::passing_has_no_fault();
     header_or_stop();
+    one_csv_text();
     match open(alloc, store, limit) {
         Ok(opened) => {
             let mut file = opened;

@@ -1,20 +1,12 @@
 -- The text of a sheet, or of a refusal.
 use Rattle.std.proofs.Common.{◌≡◌, ℕ, suc, ◌<◌, ◌≤◌, Bool, List, [], ◌∷◌, ◌++◌, length, get_or, Option, Some, None, Result, Ok, Err, rules, refl, ap, ◌∙◌, arith}
-use Rattle.std.proofs.Math.Logic.{∥∥₁_elim}
-use Rattle.std.proofs.Props.{props}
 use Rattle.std.specs.Prelude.{IsErr}
 use Rattle.ncc_schema.specs.Device.{Puts}
 use Rattle.ncc_schema.proofs.Writing.{puts_both}
-use Rattle.ncc_schema.specs.Schema.{Place, places_of}
 use Rattle.ncc_schema.specs.declared.schema.Dim.{Dim}
 use Rattle.ncc_schema.specs.declared.schema.Schema.{Schema}
 use Rattle.ncc_schema.specs.declared.schema.Var.{Var}
-use Rattle.ncc_layout.specs.Elements.{placed_from}
-use Rattle.ncc_layout.specs.Extents.{record_count}
-use Rattle.ncc_layout.specs.Placed.{vars_of, file_length_of}
-use Rattle.ncc_layout.specs.declared.placed_file.Placed.{Placed}
 use Rattle.ncc_layout.specs.declared.placed_var.PlacedVar.{PlacedVar}
-use Rattle.ncc_check.specs.Checks.{StandsIn}
 use Rattle.ncc_lines.specs.Sends.{PutsFront, SendsAll}
 use Rattle.ncc_lines.specs.declared.halt.Halt.{Halt}
 use Rattle.ncc_slab.specs.Refusals.{slab_fault}
@@ -29,30 +21,10 @@ use Rattle.ncc_csv.proofs.PartRows.{front_behind}
 -- ---- the variable
 
 -- a selection that isn't refused is of a variable that is there
-in_vars : (vars : List PlacedVar) (n : ℕ) (s : Slab) → slab_fault vars n s ≡ None → n < length vars
+pub in_vars : (vars : List PlacedVar) (n : ℕ) (s : Slab) → slab_fault vars n s ≡ None → n < length vars
 in_vars vars n s none = search rules
 
-length-placed_from : (dims : List Dim) (records number : ℕ) (vars : List Var) (places : List Place) → length (placed_from dims records number vars places) ≤ length vars
-length-placed_from dims records number [] places = omega arith
-length-placed_from dims records number (x ∷ vars) [] = omega arith
-length-placed_from dims records number (x ∷ vars) (p ∷ places) = omega (arith, length-placed_from dims records (suc number) vars places)
-
--- it stands in the schema of an open file too
-pub in_schema : (told : Bool) (bytes : List ℕ) (schema : Schema) (placed : Placed) (n : ℕ) (s : Slab) → ∥ StandsIn told bytes schema placed ∥₁ → slab_fault (vars_of placed) n s ≡ None → n < length schema.vars
-in_schema told bytes schema placed n s stands none =
-    ∥∥₁_elim stands (hlevel props)
-    (λ st.
-    let h = st.header.schema in
-    let places = places_of st.header.places in
-    omega (
-      arith,
-      in_vars (vars_of placed) n s none,
-      ap (λ (l : List PlacedVar). length l) st.placed_is.vars_are,
-      length-placed_from h.dims (record_count h places (file_length_of placed)) 0 h.vars places,
-      ap (λ (t : Schema). length t.vars) st.schema_is,
-    ))
-
--- and its row of names is that of the schema
+-- its row of names is that of the schema
 pub names_in_schema : (dims : List Dim) (x : Var) (s schema : Schema) (n : ℕ) → dims ≡ s.dims → x ≡ get_or s.vars n no_var → s ≡ schema → names_text dims x ≡ names_text schema.dims (get_or schema.vars n no_var)
 names_in_schema dims x s schema n dims_are x_is same =
     ap (λ (d : List Dim). names_text d x) dims_are

@@ -20,7 +20,7 @@ use crate::names::send_names;
 use crate::parts::send_rows;
 use crate::refusals::send_refusal;
 use ncc_check::NcFile;
-use ncc_check::laws::open_file_stands;
+use ncc_check::laws::open_file_places_all;
 use ncc_header::{Schema, Sink, Var};
 use ncc_lines::{Halt, Progress};
 use ncc_slab::laws::{lengths_fit, refused_unless_it_fits};
@@ -78,7 +78,7 @@ fn send_selected<S: Store, W: Sink, P: Progress>(
         + all_stretches (size_of (var_at (vars_of (placed_of file.old)) var).xtype)
         (places_of (record_size_of_file (placed_of file.old)) (var_at (vars_of (placed_of file.old)) var) slab.now) }
 {
-    open_file_stands(file);
+    open_file_places_all(file);
     lengths_fit(file.placed(), var);
     refused_unless_it_fits();
     fitting_has_indices();

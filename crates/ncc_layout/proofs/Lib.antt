@@ -20,3 +20,5 @@ mod Lengthening
 mod OneMore
 mod StandardPlaces
 mod VersionFits
+pub mod ShapesInFile
+mod NextPlaces

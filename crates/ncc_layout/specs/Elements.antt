@@ -82,6 +82,12 @@ offset_of record_size x index = offset_in record_size (size_of x.xtype) x.extent
 abbrev pub place_of : (record_size : ℕ) → PlacedVar → (index : List ℕ) → ℕ
 place_of record_size x index = x.extent.begin + offset_of record_size x index
 
+-- the index list whose last index is one further on
+abbrev pub next_index : (index : List ℕ) → List ℕ
+next_index [] = []
+next_index (i ∷ []) = (i + 1) ∷ []
+next_index (i ∷ j ∷ is) = i ∷ next_index (j ∷ is)
+
 -- the record of an element, and its number in the slab
 abbrev pub record_in : Bool → (index : List ℕ) → ℕ
 record_in true [] = 0

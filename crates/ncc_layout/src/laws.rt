@@ -1,7 +1,8 @@
 //! What the layout rules say of elements and of faults, whatever program judges them.
 
-ghost use Rattle.std.specs.Prelude.{◌≡◌, ℕ, ◌+◌, ◌<◌, ◌↔◌, List, Contains, IsPermutation};
+ghost use Rattle.std.specs.Prelude.{◌≡◌, ℕ, ◌+◌, ◌*◌, ◌<◌, ◌≤◌, ◌↔◌, List, length, true, Contains, IsPermutation, if◌then◌else◌};
 ghost use Rattle.std.specs.List.{AllByRecursion};
+ghost use Rattle.ncc_values.specs.XType.{size_of};
 ghost use Rattle.ncc_schema.specs.declared.schema.Count.TheVariants.{Known};
 ghost use Rattle.ncc_schema.specs.declared.schema.Schema.{Schema};
 ghost use Rattle.ncc_schema.specs.Schema.{Place};
@@ -9,12 +10,12 @@ ghost use Rattle.ncc_layout.specs.declared.fault.LayoutFaultKind.{LayoutFaultKin
 ghost use Rattle.ncc_schema.specs.Names.{header_length};
 ghost use Rattle.ncc_layout.specs.declared.extent.Extent.{Extent};
 ghost use Rattle.ncc_layout.specs.declared.placed_var.PlacedVar.{PlacedVar};
-ghost use Rattle.ncc_layout.specs.Sizes.{record_size_of};
+ghost use Rattle.ncc_layout.specs.Sizes.{product, record_size_of};
 ghost use Rattle.ncc_layout.specs.Extents.{extents_of, records_of, LeastBegin};
 ghost use Rattle.ncc_layout.specs.declared.placed_file.Placed.{Placed};
 ghost use Rattle.ncc_layout.specs.Rules.{InWindow, InRecord, IsPlaced};
 ghost use Rattle.ncc_layout.specs.Faults.{FirstShared, InOrder, FirstInside, FirstFault};
-ghost use Rattle.ncc_layout.specs.Elements.{row_major, placed_vars, Inside, HasShape, LiesInSlab, Own};
+ghost use Rattle.ncc_layout.specs.Elements.{row_major, placed_vars, var_at, place_of, next_index, Inside, HasShape, LiesInSlab, Own};
 ghost use Rattle.ncc_layout.specs.Standard.{standard_places, file_length, FitsVersion, ArePacked, AreInTurn, AreAligned};
 ghost use Rattle.ncc_layout.specs.Placed.{header_length_of, file_length_of, record_size_of_file, vars_of, KeepsRules, Holds, HasRoom, HasOneMore, with_count};
 
@@ -60,6 +61,25 @@ pub fn placed_file_keeps_all_rules()
 /// Every value of a placed file keeps its elements apart.
 pub fn placed_file_keeps_elements_apart()
     ensures { (p : Placed) → Own (header_length_of p) (file_length_of p) (record_size_of_file p) (vars_of p) }
+{}
+
+/// The elements of a variable of a placed file have no more bytes together than the file.
+pub fn shape_is_in_file()
+    ensures { (p : Placed) (n : ℕ) → n < length (vars_of p)
+        → product (var_at (vars_of p) n).shape * size_of (var_at (vars_of p) n).xtype ≤ file_length_of p }
+{
+    placed_file_keeps_all_rules();
+}
+
+/// The next place along the last index is one element further on, but that of a record variable of rank 1,
+/// which is in the next record.
+pub fn next_place_adjoins()
+    ensures element { (record_size : ℕ) (x : PlacedVar) (index : List ℕ) → length index ≡ length x.shape
+        → (if x.extent.is_record then 1 else 0) < length x.shape
+        → place_of record_size x (next_index index) ≡ place_of record_size x index + size_of x.xtype }
+    ensures record { (record_size : ℕ) (x : PlacedVar) (index : List ℕ) → length index ≡ length x.shape
+        → x.extent.is_record ≡ true → length x.shape ≡ 1
+        → place_of record_size x (next_index index) ≡ place_of record_size x index + record_size }
 {}
 
 /// There is one first fault at most, and of one variable.

@@ -15,6 +15,7 @@ mod Counts
 mod Numbers
 mod Whole
 mod PartPlaces
+mod AllParts
 mod Calls
 mod Blocks
 mod Order

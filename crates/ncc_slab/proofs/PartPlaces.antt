@@ -14,6 +14,7 @@ use Rattle.ncc_layout.specs.declared.placed_file.Placed.{Placed}
 use Rattle.ncc_layout.specs.Elements.{var_at, place_of}
 use Rattle.ncc_layout.specs.Placed.{file_length_of, vars_of, KeepsRules}
 use Rattle.ncc_layout.specs.Sizes.{product}
+use Rattle.ncc_layout.proofs.ShapesInFile.{shape_in_file}
 use Rattle.ncc_slab.specs.declared.slab.Slab.{Slab}
 use Rattle.ncc_slab.specs.declared.fault.SlabFault.TheVariants.{NoVariable}
 use Rattle.ncc_slab.specs.Answers.{part_count, TakesPart}
@@ -23,7 +24,6 @@ use Rattle.ncc_slab.specs.Selection.{indices_of, selected_count}
 use Rattle.ncc_slab.specs.Selected.{element_bytes, number_at, numbers_of, bytes_of_elements, part_of, places_of, AddsPart, AddsPlaces}
 use Rattle.ncc_slab.proofs.Counts.{selects_at_most_all}
 use Rattle.ncc_slab.proofs.Fitting.{if_none}
-use Rattle.ncc_slab.proofs.InFile.{shape_in_file}
 use Rattle.ncc_slab.proofs.Joined.{same_bytes, each_whole, room_some}
 use Rattle.ncc_slab.proofs.Numbers.{numbers_are_there}
 use Rattle.ncc_slab.proofs.ValueParts.{length_whole}

@@ -60,10 +60,10 @@ selected_is_in_file header file record_size vars n s own none =
     all_map (place_of record_size (var_at vars n)) (λ (place : ℕ). place + size_of (var_at vars n).xtype ≤ file) (λ (i : List ℕ). place_of record_size (var_at vars n) i + size_of (var_at vars n).xtype ≤ file)
     (λ i ends. ends) (indices_of s) (selected_ends header file record_size vars n s own none)
 
-pub selected_is_whole : (file : List ℕ) (header record_size : ℕ) (vars : List PlacedVar) (n : ℕ) (s : Slab) → Own header (length file) record_size vars
-    → slab_fault vars n s ≡ None → AreWhole file record_size (var_at vars n) (indices_of s)
-selected_is_whole file header record_size vars n s own none =
+pub selected_is_whole : (file : List ℕ) (header most record_size : ℕ) (vars : List PlacedVar) (n : ℕ) (s : Slab) → Own header most record_size vars
+    → most ≤ length file → slab_fault vars n s ≡ None → AreWhole file record_size (var_at vars n) (indices_of s)
+selected_is_whole file header most record_size vars n s own long none =
     let x = var_at vars n in
-    pick (λ (i : List ℕ). place_of record_size x i + size_of x.xtype ≤ length file) (λ (i : List ℕ). length (element_bytes file record_size x i) ≡ size_of x.xtype)
-    (λ i ends. length_at file (place_of record_size x i) (size_of x.xtype) ends)
-    (indices_of s) (selected_ends header (length file) record_size vars n s own none)
+    pick (λ (i : List ℕ). place_of record_size x i + size_of x.xtype ≤ most) (λ (i : List ℕ). length (element_bytes file record_size x i) ≡ size_of x.xtype)
+    (λ i ends. length_at file (place_of record_size x i) (size_of x.xtype) (omega (arith, ends, long)))
+    (indices_of s) (selected_ends header most record_size vars n s own none)

@@ -1,5 +1,5 @@
 -- What holds of selections.
-use Rattle.std.specs.Prelude.{◌≡◌, ℕ, ◌+◌, ◌<◌, ◌≤◌, ◌↔◌, None, List, [], map, length, get_or, take, drop}
+use Rattle.std.specs.Prelude.{◌≡◌, ℕ, ◌+◌, ◌<◌, ◌≤◌, ◌↔◌, None, List, [], ◌∷◌, map, length, get_or, take, drop}
 use Rattle.std.specs.List.{AllByRecursion}
 use Rattle.ncc_values.specs.Values.{type_of, count_of, no_values}
 use Rattle.ncc_values.specs.declared.values.Values.{Values}
@@ -58,10 +58,10 @@ abbrev pub WholePartIsSelected : Type 0
 WholePartIsSelected = (file : List ℕ) (record_size : ℕ) (x : PlacedVar) (s : Slab) (values : Values)
     → AddsPart file record_size x s 0 (selected_count s) (no_values x.xtype) values → Selected file record_size x s values
 
--- where every element has its bytes in the file, a selection that isn't refused has them
+-- where every element has its bytes in a file that is no longer than these bytes, a selection that isn't refused has them
 abbrev pub SelectedIsWhole : Type 0
-SelectedIsWhole = (file : List ℕ) (header record_size : ℕ) (vars : List PlacedVar) (n : ℕ) (s : Slab) → Own header (length file) record_size vars
-    → slab_fault vars n s ≡ None → AreWhole file record_size (var_at vars n) (indices_of s)
+SelectedIsWhole = (file : List ℕ) (header most record_size : ℕ) (vars : List PlacedVar) (n : ℕ) (s : Slab) → Own header most record_size vars
+    → most ≤ length file → slab_fault vars n s ≡ None → AreWhole file record_size (var_at vars n) (indices_of s)
 
 -- and they lie inside it
 abbrev pub SelectedIsInFile : Type 0
@@ -103,3 +103,16 @@ NoPartIsTheEnd = (t : XType) (left : List ℕ) → (part_count (size_of t) left 
 -- nothing is left exactly where all are taken
 abbrev pub EndIsAllTaken : Type 0
 EndIsAllTaken = (record_size : ℕ) (x : PlacedVar) (s : Slab) (first : ℕ) → first ≤ selected_count s → (drop first (places_of record_size x s) ≡ []) ↔ (first ≡ selected_count s)
+
+-- ---- all parts
+
+-- part after part was taken of these places, until none is left, and each added the values at its places
+abbrev pub TakesAll : (file : List ℕ) → (size : ℕ) → (counts left : List ℕ) → (old new : Values) → Type 0
+TakesAll file size [] left old new = (left ≡ []) × (new ≡ old)
+TakesAll file size (n ∷ counts) left old new = (rest : List ℕ) × (mid : Values) × TakesPart size left rest n
+    × AddsPlaces file size (take n left) old mid × TakesAll file size counts rest mid new
+
+-- all parts, one behind the other, are what is selected
+abbrev pub PartsAreSelected : Type 0
+PartsAreSelected = (file : List ℕ) (record_size : ℕ) (x : PlacedVar) (s : Slab) (counts : List ℕ) (values : Values)
+    → TakesAll file (size_of x.xtype) counts (places_of record_size x s) (no_values x.xtype) values → Selected file record_size x s values

@@ -5,7 +5,7 @@ ghost use Rattle.std.specs.List.{AllByRecursion};
 ghost use Rattle.ncc_layout.specs.Elements.{var_at};
 ghost use Rattle.ncc_layout.specs.Placed.{vars_of};
 ghost use Rattle.ncc_slab.specs.declared.slab.Slab.{Slab};
-ghost use Rattle.ncc_slab.specs.Laws.{CountIsProduct, RefusedUnlessItFits, SelectedIsInside, PartsJoin, WholePartIsSelected, OrderIsRowMajor, NumbersAreThere, SelectedIsWhole, SelectsAtMostAll, CountFits, SelectedIsInFile, PlacesAreCounted, PartHasPlaces, PlacesAddPart, PartHasNumbers, PartsGoOn, NoPartIsTheEnd, EndIsAllTaken};
+ghost use Rattle.ncc_slab.specs.Laws.{CountIsProduct, RefusedUnlessItFits, SelectedIsInside, PartsJoin, WholePartIsSelected, OrderIsRowMajor, NumbersAreThere, SelectedIsWhole, SelectsAtMostAll, CountFits, SelectedIsInFile, PlacesAreCounted, PartHasPlaces, PlacesAddPart, PartHasNumbers, PartsGoOn, NoPartIsTheEnd, EndIsAllTaken, PartsAreSelected};
 ghost use Rattle.ncc_slab.specs.Refusals.{slab_fault};
 ghost use Rattle.ncc_slab.specs.Selection.{selected_count};
 
@@ -48,7 +48,8 @@ pub fn numbers_are_there()
     ensures { NumbersAreThere }
 {}
 
-/// Where every element has its bytes in the file, a selection that isn't refused has them.
+/// Where every element has its bytes in a file that is no longer than these bytes, a selection that isn't
+/// refused has them: `ncc_check::laws::open_file_is_long` says so of an open file.
 pub fn selected_is_whole()
     ensures { SelectedIsWhole }
 {}
@@ -102,6 +103,11 @@ pub fn no_part_is_the_end()
 /// Nothing is left exactly where all elements are taken.
 pub fn end_is_all_taken()
     ensures { EndIsAllTaken }
+{}
+
+/// All parts of a selection, one behind the other until none is left, are what is selected.
+pub fn parts_are_selected()
+    ensures { PartsAreSelected }
 {}
 
 /// Numbers of the machine are numbers of 64 bits.

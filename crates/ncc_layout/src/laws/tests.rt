@@ -10,6 +10,8 @@ fn laws_are_there() {
     placed_elements_are_apart();
     placed_file_keeps_all_rules();
     placed_file_keeps_elements_apart();
+    shape_is_in_file();
+    next_place_adjoins();
     placed_or_fault();
     one_fault();
     neighbours_tell_the_first_overlap();

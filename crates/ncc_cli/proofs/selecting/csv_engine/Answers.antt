@@ -5,9 +5,9 @@ use Rattle.ncc_check.specs.declared.fault.Refusal.{Refusal}
 use Rattle.ncc_check.specs.Checks.{Refuses}
 use Rattle.ncc_check.specs.Files.{store_of, schema_of, placed_of}
 use Rattle.ncc_csv.specs.Named.{IsFirstNamed}
-use Rattle.ncc_cli.specs.Selecting.{Contents, contents_in, contents_of, value_calls, IsSelection}
+use Rattle.ncc_cli.specs.Selecting.{Contents, contents_in, contents_of, value_calls, IsCsvText, IsSelection}
 use Rattle.ncc_cli.proofs.Sent.{Gone}
-use Rattle.ncc_cli.proofs.SentTable.{Laws, opened_contents, sent_opened, sent_fault}
+use Rattle.ncc_cli.proofs.SentTable.{Laws, OneAnswer, opened_contents, sent_opened, sent_fault}
 use Rattle.ncc_cli.proofs.selecting.csv_engine.Goals as goal
 
 pub returns-in-Ok-clause-selects : goal.returns-in-Ok-clause-selects
@@ -21,9 +21,9 @@ returns-in-Ok-clause-selects g c = λ told.
 
 pub returns-in-Fault-clause-selects : goal.returns-in-Fault-clause-selects
 returns-in-Fault-clause-selects g c = λ told.
-    let laws : Laws = record { apart = c.passing_has_no_fault.ensures.apart; one_header = c.header_or_stop.ensures.one_header; one_fault = c.passing_has_no_fault.ensures.one_fault } in
     let fails = subst (λ (r : Refusal). Refuses (g.S.Store.bytes c.args.store) c.args.limit r) c.in-Fault.is (c.in-Err.ensures.refused told) in
-    sent_fault laws (g.S.Store.bytes c.args.store) c.args.limit c.args.name.now c.args.pick (g.W.Sink.put c.args.sink.now) (g.W.Sink.put c.send_file_fault.new.sink) c.in-Fault.fault c.answered.result c.send_file_fault.result
+    let one : OneAnswer (IsCsvText (g.S.Store.bytes c.args.store) c.args.limit c.args.name.now c.args.pick) = λ a b t u x y. c.one_csv_text.ensures (g.S.Store.bytes c.args.store) c.args.limit c.args.name.now c.args.pick a b t u x y in
+    sent_fault (g.S.Store.bytes c.args.store) c.args.limit c.args.name.now c.args.pick one (g.W.Sink.put c.args.sink.now) (g.W.Sink.put c.send_file_fault.new.sink) c.in-Fault.fault c.answered.result c.send_file_fault.result
     fails c.send_file_fault.ensures.sent c.answered.ensures
 
 pub returns-in-Ok-clause-calls : goal.returns-in-Ok-clause-calls

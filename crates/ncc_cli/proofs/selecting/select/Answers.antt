@@ -16,7 +16,6 @@ use Rattle.ncc_csv.specs.Named.{IsFirstNamed}
 use Rattle.ncc_csv.specs.Picks.{picked, PicksAs}
 use Rattle.ncc_csv.specs.Sheets.{SendsSheet, sheet_text}
 use Rattle.ncc_cli.specs.Selecting.{contents_in, value_calls, IsSelection}
-use Rattle.ncc_cli.proofs.OpenVars.{variables_there}
 use Rattle.ncc_cli.proofs.Picked.{pick_refused}
 use Rattle.ncc_cli.proofs.Sent.{nothing}
 use Rattle.ncc_cli.proofs.SentTable.{one_number, sent_refusal, sent_sheet}
@@ -25,7 +24,7 @@ use Rattle.ncc_cli.proofs.selecting.select.Goals as goal
 pub shape-requires : goal.shape-requires
 shape-requires g c =
     let f = c.args.file.now in
-    let as_many = variables_there g.S.Store.tells_bytes (g.S.Store.bytes (store_of f)) (schema_of f) (placed_of f) c.open_file_stands.ensures in
+    let as_many = c.open_file_places_all.ensures in
     let below = c.in-Some.ensures.0 in
     let vars = ap length c.as_slice.ensures in
     let schema = ap (λ (s : Schema). length s.vars) c.schema.ensures in
@@ -42,7 +41,7 @@ returns-else-eq-clause-selects g c = λ told.
     let f = c.args.file.now in
     let vars = vars_of (placed_of f) in
     let var = c.in-Some.var in
-    let as_many = variables_there g.S.Store.tells_bytes (g.S.Store.bytes (store_of f)) (schema_of f) (placed_of f) c.open_file_stands.ensures in
+    let as_many = c.open_file_places_all.ensures in
     let named : IsFirstNamed (schema_of f).vars c.args.name.now (Some var) =
     subst (λ (l : List Var). IsFirstNamed l c.args.name.now (Some var)) (c.as_slice.ensures ∙ ap (λ (s : Schema). s.vars) c.schema.ensures) c.in-Some.ensures in
     let there : var < length vars = omega (arith, named.0, as_many) in

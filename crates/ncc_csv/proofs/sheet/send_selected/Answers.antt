@@ -1,4 +1,4 @@
-use Rattle.std.proofs.Common.{List, ℕ, get_or, refl, subst}
+use Rattle.std.proofs.Common.{List, ℕ, ◌<◌, length, get_or, refl, subst, arith}
 use Rattle.ncc_schema.specs.Device.{Puts}
 use Rattle.ncc_layout.specs.Elements.{var_at}
 use Rattle.ncc_layout.specs.Placed.{record_size_of_file, vars_of}
@@ -10,12 +10,13 @@ use Rattle.ncc_csv.specs.Named.{no_var}
 use Rattle.ncc_csv.specs.Names.{names_text}
 use Rattle.ncc_csv.proofs.PartRows.{front_of_more}
 use Rattle.ncc_csv.proofs.PartTexts.{fails}
-use Rattle.ncc_csv.proofs.SheetTexts.{in_schema, names_in_schema, sends_behind}
+use Rattle.ncc_csv.proofs.SheetTexts.{in_vars, names_in_schema, sends_behind}
 use Rattle.ncc_csv.proofs.sheet.send_selected.Goals as goal
 
 pub var_of-requires : goal.var_of-requires
 var_of-requires g c =
-    let there = in_schema g.S.Store.tells_bytes (g.S.Store.bytes (store_of c.args.file.now)) (schema_of c.args.file.now) (placed_of c.args.file.now) c.args.var c.args.slab.now c.open_file_stands.ensures c.requires.selected in
+    let placed = in_vars (vars_of (placed_of c.args.file.now)) c.args.var c.args.slab.now c.requires.selected in
+    let there : c.args.var < length (schema_of c.args.file.now).vars = omega (arith, placed, c.open_file_places_all.ensures) in
     rw c.schema-schema.ensures there
 
 pub returns-in_err-send_names-clause-sent : goal.returns-in_err-send_names-clause-sent
