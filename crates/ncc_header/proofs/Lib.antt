@@ -9,6 +9,7 @@ mod Rules
 mod BeginFields
 mod HeaderLaws
 mod Unmarked
+mod CanonicalMarks
 mod ValuesGathered
 mod Turns
 mod RefusedKinds

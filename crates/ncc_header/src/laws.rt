@@ -6,10 +6,12 @@ ghost use Rattle.ncc_header.specs.declared.fault.Fault.{Fault};
 ghost use Rattle.ncc_header.specs.declared.fault.FaultKind.TheVariants.{EndsEarly};
 ghost use Rattle.ncc_schema.specs.declared.schema.Schema.{Schema};
 ghost use Rattle.ncc_schema.specs.declared.schema.Header.{Header};
-ghost use Rattle.ncc_schema.specs.Schema.{Place, places_of};
+ghost use Rattle.ncc_schema.specs.Schema.{Place, places_of, Legal, IsTyped};
 ghost use Rattle.ncc_schema.specs.Header.{IsHeader, canon};
 ghost use Rattle.ncc_header.specs.Marks.{header_marks};
 ghost use Rattle.ncc_header.specs.Answers.{Begins, Stops};
+
+use ncc_schema::laws::canonical_header;
 
 /// Of the fronts of one input one is a header at most, and of one schema and placement.
 pub fn one_header()
@@ -60,3 +62,11 @@ pub fn unmarked_is_canonical()
     ensures { (s : Schema) (places : List Place) (b : List ℕ) → IsHeader s places b → header_marks b ≡ []
         → b ≡ canon s places }
 {}
+
+/// The canonical spelling of a legal schema and placement has no marks.
+pub fn canonical_is_unmarked()
+    ensures { (s : Schema) (places : List Place) → Legal s places → IsTyped s
+        → header_marks (canon s places) ≡ [] }
+{
+    canonical_header();
+}

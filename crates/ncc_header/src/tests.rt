@@ -26,6 +26,7 @@ fn laws_are_there() {
     laws::stop_stays();
     laws::limit_covers();
     laws::unmarked_is_canonical();
+    laws::canonical_is_unmarked();
     laws::header_is_begun();
     laws::length_is_canonical();
 }

@@ -1,0 +1,8 @@
+mod Builders
+mod Lists
+mod NewItems
+mod NewNames
+mod Passing
+mod Refusals
+pub mod SoundProps
+mod Tables

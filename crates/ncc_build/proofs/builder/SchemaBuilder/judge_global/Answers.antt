@@ -1,0 +1,6 @@
+use Rattle.ncc_build.proofs.builder.SchemaBuilder.judge_global.Goals as goal
+
+pub returns-clause-judged : goal.returns-clause-judged
+returns-clause-judged c = λ fits told.
+    let judged = c.judge_attr.ensures.judged fits told in
+    rw c.as_slice-gatts.ensures at judged

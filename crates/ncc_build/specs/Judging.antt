@@ -1,0 +1,37 @@
+-- Parts of the judging of a call, each a run of refusals in their order.
+use Rattle.std.specs.Prelude.{ℕ, ◌+◌, ◌||◌, Bool, List, [], ◌∷◌, length}
+use Rattle.std.specs.List.{list_any}
+use Rattle.ncc_values.specs.declared.version.Version.{Version}
+use Rattle.ncc_values.specs.declared.xtype.XType.{XType}
+use Rattle.ncc_schema.specs.declared.schema.Dim.{Dim}
+use Rattle.ncc_build.specs.declared.fault.WriteFault.{WriteFault}
+use Rattle.ncc_layout.specs.declared.plan_fault.PlanFault.{PlanFault}
+use Rattle.ncc_layout.specs.declared.plan_fault.PlanFault.TheVariants as plan
+use Rattle.ncc_build.specs.declared.fault.WriteFault.TheVariants.{BadName, DuplicateName, TwoRecordDims, BadDimId, RecordDimNotFirst, TypeForVersion, CountForVersion, OffsetForVersion, SizeForVersion, Memory}
+use Rattle.ncc_build.specs.Building.{is_bad, is_among, is_second_record, is_past, is_foreign, any_missing, any_record_behind}
+
+-- of a name beside these
+abbrev pub name_refusals : (fits : Bool) → (names : List (List ℕ)) → (name : List ℕ) → List (Bool × WriteFault)
+name_refusals fits names name = (is_bad fits name, BadName) ∷ (is_among name names, DuplicateName) ∷ []
+
+-- of the dimensions of a variable
+abbrev pub dims_refusals : List Dim → (ids : List ℕ) → List (Bool × WriteFault)
+dims_refusals dims ids = (any_missing dims ids, BadDimId) ∷ (any_record_behind dims ids, RecordDimNotFirst) ∷ []
+
+-- one item more than so many, or this number, can't be told
+abbrev pub is_too_many : Version → (items number : ℕ) → Bool
+is_too_many v items number = is_past v (items + 1) || list_any (is_past v) (number ∷ [])
+
+-- of a type, and of the numbers
+abbrev pub kind_refusals : Version → XType → (items number : ℕ) → List (Bool × WriteFault)
+kind_refusals v t items number = (is_foreign v t, TypeForVersion) ∷ (is_too_many v items number, CountForVersion) ∷ []
+
+-- of the length of a dimension behind these
+abbrev pub dim_refusals : Version → List Dim → (length : ℕ) → List (Bool × WriteFault)
+dim_refusals v dims n = (is_second_record dims n, TwoRecordDims) ∷ (is_too_many v (length dims) n, CountForVersion) ∷ []
+
+-- the refusal for want of a plan
+abbrev pub refusal_of : PlanFault → WriteFault
+refusal_of plan.SizeForVersion = SizeForVersion
+refusal_of plan.OffsetForVersion = OffsetForVersion
+refusal_of plan.Memory = Memory

@@ -1,0 +1,17 @@
+//! Schemas of netCDF classic files that are to be written, built call by call.
+#![tactic(auto)]
+
+mod adding;
+mod builder;
+mod built;
+mod fault;
+mod judging;
+pub mod laws;
+mod names;
+mod ranges;
+#[cfg(test)]
+mod tests;
+
+pub use builder::SchemaBuilder;
+pub use built::Built;
+pub use fault::WriteFault;

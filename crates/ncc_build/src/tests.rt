@@ -1,0 +1,8 @@
+//! Schemas that are built call by call.
+
+mod helpers;
+mod items;
+mod many;
+mod memory;
+mod names;
+mod plans;

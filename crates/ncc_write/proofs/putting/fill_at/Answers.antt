@@ -1,0 +1,11 @@
+use Rattle.std.proofs.Common.{◌∙◌}
+use Rattle.ncc_write.proofs.ManyFills.{next_fill}
+use Rattle.ncc_write.proofs.putting.fill_at.Goals as goal
+
+pub loop-done-preserved : goal.loop-done-preserved
+loop-done-preserved c =
+    let at = c.loop-done.invariant in
+    record {
+      bytes = next_fill c.args.place c.loop-done.done c.args.fill.now c.args.buffer.now c.loop-done.buffer c.put_fill.new.buffer at.bytes c.put_fill.ensures.bytes;
+      room = c.put_fill.ensures.room ∙ at.room;
+    }

@@ -1,0 +1,46 @@
+use Rattle.std.proofs.Common.{◌≡◌, ◌<◌, ◌+◌, ◌++◌, [], length, ap, sym, ◌∙◌, arith}
+use Rattle.std.proofs.lemmas.List.{append-nil}
+use Rattle.ncc_write.specs.Outlet.{sink_of, waiting}
+use Rattle.ncc_write.specs.Writing.{written}
+use Rattle.ncc_write.proofs.Going.{as_bytes, at_next, front_in_files, front_went, holds_more, is_out, none_missing, stops_at}
+use Rattle.ncc_write.proofs.writer.FileWriter.open_slab.Goals as goal
+
+pub returns-then-next-slabs-clause-opens : goal.returns-then-next-slabs-clause-opens
+returns-then-next-slabs-clause-opens g c = λ start w e.
+    let x = c.args.self.now in
+    record {
+      schema = e.schema;
+      failed = e.failed ∙ sym e.stands;
+      bytes = e.bytes;
+      at = λ f. at_next _ w.schema x.course (length w.taken) x.slab c.turn.result.0.elements e.schema c.built_is_writable.ensures.built x.planned c.requires e.end (λ h. ap (λ t. t.elements) c.turn.ensures.turn);
+      whole = λ f. e.whole;
+      out = is_out w start _ (waiting x.outlet) e.stands (none_missing start _ (waiting x.outlet) (written w.schema w.taken) e.out);
+    }
+
+pub returns-in_err-flush-clause-opens : goal.returns-in_err-flush-clause-opens
+returns-in_err-flush-clause-opens g c = λ start w e.
+    let x = c.args.self.now in
+    let bytes = written w.schema w.taken in
+    let holds = none_missing start _ (waiting x.outlet) bytes e.out in
+    stops_at _ start _ _ w c.from_residual.result c.from_residual.ensures.1 (record {
+      schema = e.schema;
+      bytes = e.bytes;
+      out = front_in_files w.schema start _ w.taken (bytes ++ []) [] (sym (append-nil bytes) ∙ sym (append-nil (bytes ++ [])))
+          (front_went start (g.W.Sink.put (sink_of x.outlet)) (g.W.Sink.put (sink_of c.flush.new.self)) (waiting x.outlet) (waiting c.flush.new.self) bytes [] c.in_err-flush.field-0.0 holds c.in_err-flush.ensures.streams);
+    })
+
+pub returns-clause-opens : goal.returns-clause-opens
+returns-clause-opens g c = λ start w e.
+    let x = c.args.self.now in
+    let bytes = written w.schema w.taken in
+    let holds = none_missing start _ (waiting x.outlet) bytes e.out in
+    record {
+      schema = e.schema;
+      failed = e.failed ∙ sym e.stands;
+      bytes = e.bytes;
+      at = λ f. at_next _ w.schema x.course (length w.taken) x.slab x.left e.schema c.built_is_writable.ensures.built x.planned c.requires e.end (λ h. absurd (omega (arith, h, c.if-next-slabs.false, c.slabs.ensures)));
+      whole = λ f. e.whole;
+      out = is_out w start _ (waiting c.flush.new.self) e.stands
+          (as_bytes start _ (waiting c.flush.new.self) (bytes ++ []) bytes (append-nil bytes)
+          (holds_more start (g.W.Sink.put (sink_of x.outlet)) (g.W.Sink.put (sink_of c.flush.new.self)) (waiting x.outlet) (waiting c.flush.new.self) bytes [] holds c.in_ok-flush.ensures.streams));
+    }

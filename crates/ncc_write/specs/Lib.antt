@@ -1,0 +1,9 @@
+pub mod Holds
+pub mod Writing
+pub mod Laws
+pub mod Headline
+pub mod Streams
+pub mod Outlet
+pub mod Turns
+pub mod Positions
+pub mod Writer

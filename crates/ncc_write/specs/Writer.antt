@@ -1,0 +1,48 @@
+-- What a writer's fields say of where it stands.
+use Rattle.std.specs.Prelude.{◌≡◌, ℕ, ◌+◌, false, List, ◌++◌, Option, Some, None, length, Result, Ok, Err}
+use Rattle.ncc_values.specs.Numbers.{IsBytes}
+use Rattle.ncc_schema.specs.declared.failed.Failed.{Failed}
+use Rattle.ncc_schema.specs.declared.schema.Schema.{Schema}
+use Rattle.ncc_build.specs.Builds.{schema_of}
+use Rattle.ncc_write.specs.declared.writer.FileWriter.{FileWriter}
+use Rattle.ncc_write.specs.Outlet.{sink_of, waiting}
+use Rattle.ncc_write.specs.Positions.{IsAt, end_of}
+use Rattle.ncc_write.specs.Writing.{Standing, Went, IsOut, IsFrontOfFiles, IsWhole, written}
+
+abbrev pub sink_in : {W : Type 0} → FileWriter W → W
+sink_in x = sink_of x.outlet
+
+abbrev pub schema_in : {W : Type 0} → FileWriter W → Schema
+schema_in x = schema_of x.built
+
+-- The writer stands there: it has this schema; the bytes taken end where its next value goes; and what went out since
+-- the start, of which the sink had these bytes then and has those now, shows which were taken.
+pub record Stands {W : Type 0} (start put : Option (List ℕ)) (x : FileWriter W) (w : Standing) : Type 0 where
+  pub schema : schema_in x ≡ w.schema
+  pub failed : x.failed ≡ w.failed
+  pub bytes : IsBytes w.taken
+  pub at : w.failed ≡ false → IsAt w.schema (length w.taken) x.slab x.left
+  pub whole : w.failed ≡ false → IsWhole w.schema w.taken
+  pub out : Went start put (IsOut w (waiting x.outlet))
+
+-- ---- on the way
+
+-- its sink failed in a call that takes these: what went out begins each file whose values begin so
+pub record Stops {W : Type 0} (start put : Option (List ℕ)) (x : FileWriter W) (w : Standing) : Type 0 where
+  pub schema : schema_in x ≡ w.schema
+  pub bytes : IsBytes w.taken
+  pub out : Went start put (IsFrontOfFiles w.schema w.taken)
+
+abbrev pub StandsOrStops : {W : Type 0} → (start put : Option (List ℕ)) → FileWriter W → Standing → Result (Unit {0}) Failed → Type 0
+StandsOrStops start put x w (Ok u) = Stands start put x w
+StandsOrStops start put x w (Err e) = Stops start put x w
+
+-- the slab has all its elements, and these bytes of its padding aren't put yet
+pub record Ends {W : Type 0} (missing : List ℕ) (start put : Option (List ℕ)) (x : FileWriter W) (w : Standing) : Type 0 where
+  pub schema : schema_in x ≡ w.schema
+  pub failed : x.failed ≡ false
+  pub stands : w.failed ≡ false
+  pub bytes : IsBytes w.taken
+  pub end : length w.taken ≡ end_of w.schema (x.slab + 1)
+  pub whole : IsWhole w.schema w.taken
+  pub out : Went start put (λ out. out ++ waiting x.outlet ++ missing ≡ written w.schema w.taken)

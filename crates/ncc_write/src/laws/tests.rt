@@ -1,0 +1,27 @@
+//! The laws can be cited.
+
+use super::*;
+use crate::headline;
+use std::test::*;
+
+#[test]
+fn laws_are_there() {
+    written_in_full();
+    dataset_told();
+    bytes_are_data();
+    complete_when_taken();
+    written_stays();
+    out_is_in_files();
+    taking_grows();
+    next_is_behind();
+    filling_goes_on();
+    fills_are_whole();
+    header_is_first();
+    file_length();
+    file_holds();
+    one_dataset();
+    file_passes();
+    taking_all_completes();
+    count_is_rewritten();
+    headline();
+}

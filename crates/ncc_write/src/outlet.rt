@@ -1,0 +1,151 @@
+//! A sink behind a buffer.
+
+ghost use Rattle.std.specs.Prelude.{◌≡◌, ◌<◌, ◌≤◌, ◌+◌, ◌*◌, ◌%◌, [], length, take, drop, replicate, OnOk};
+ghost use Rattle.std.specs.List.{concat};
+ghost use Rattle.ncc_values.specs.Failures.{Counts};
+ghost use Rattle.ncc_values.specs.Values.{bytes_of, count_of, type_of};
+ghost use Rattle.ncc_values.specs.XType.{size_of};
+ghost use Rattle.ncc_write.specs.Streams.{Streams};
+
+use crate::putting::{fill_at, put_at};
+use ncc_schema::{Failed, Sink, write_all};
+use ncc_values::Values;
+
+/// The bytes that go out at once.
+const PAGE: usize = 65_536;
+
+/// The buffer: a page, and room for a value that ends behind it.
+pub(crate) const BUFFER: usize = 65_544;
+
+/// A sink behind a buffer, which goes out where what went out is then a multiple of 65,536 bytes.
+#[derive(Drop)]
+pub(crate) struct Outlet<W> {
+    sink: W,
+    buffer: Vec<u8>,
+    filled: usize,
+    full: usize,
+    ghost room: { length buffer.items ≡ 65544 },
+    ghost waits: { filled < full },
+    ghost page: { full ≤ 65536 },
+}
+
+impl<W: Sink> Outlet<W> {
+    ghost use Rattle.ncc_write.specs.Outlet.{sink_of, waiting};
+
+    /// Over a sink to which so many bytes went out. The buffer has 65,544 bytes.
+    pub(crate) fn over(sink: W, buffer: Vec<u8>, sent: u64) -> Outlet<W>
+        requires { length buffer.items ≡ 65544 }
+        ensures sink { sink_of result ≡ sink }
+        ensures waiting { waiting result ≡ [] }
+    {
+        Outlet {
+            sink,
+            buffer,
+            filled: 0,
+            full: PAGE - (sent % PAGE as u64) as usize,
+        }
+    }
+
+    /// Has the first `end` bytes of the buffer wait, or go out where they fill it.
+    fn hold(&mut self, end: usize) -> Result<(), Failed>
+        requires { end < self.old.full + 8 }
+        ensures streams { Streams (W.put (sink_of self.old)) (W.put (sink_of self.new))
+            (take end self.old.buffer.items) (waiting self.new) [] result }
+        ensures count { Counts (W.failures (sink_of self.old)) (W.failures (sink_of self.new)) result }
+    {
+        if end < self.full {
+            self.filled = end;
+            return Ok(());
+        }
+        write_all(&mut self.sink, &self.buffer[..self.full])?;
+        self.buffer.copy_within(self.full..end, 0);
+        self.filled = end - self.full;
+        self.full = PAGE;
+        Ok(())
+    }
+
+    /// Puts the values from `first` on behind what waits: `count` of them, which end at most a value behind a page.
+    fn put_some(&mut self, values: &Values, first: usize, count: usize) -> Result<(), Failed>
+        requires there { first + count ≤ count_of values.now }
+        requires near { self.old.filled + count * size_of (type_of values.now) < self.old.full + 8 }
+        ensures streams { Streams (W.put (sink_of self.old)) (W.put (sink_of self.new)) (waiting self.old) (waiting self.new)
+            (take (count * size_of (type_of values.now)) (drop (first * size_of (type_of values.now)) (bytes_of values.now))) result }
+        ensures count { Counts (W.failures (sink_of self.old)) (W.failures (sink_of self.new)) result }
+    {
+        let end = put_at(&mut self.buffer, self.filled, values, first, count);
+        self.hold(end)
+    }
+
+    /// How many values of this size end at most one behind a page.
+    fn room_for(&self, size: usize) -> usize
+        requires { 0 < size }
+        ensures some { 0 < result }
+        ensures near { self.now.filled + result * size < self.now.full + size }
+    {
+        (self.full - self.filled - 1) / size + 1
+    }
+
+    /// Puts all values behind what waits.
+    pub(crate) fn put_values(&mut self, values: &Values) -> Result<(), Failed>
+        ensures streams { Streams (W.put (sink_of self.old)) (W.put (sink_of self.new)) (waiting self.old) (waiting self.new)
+            (bytes_of values.now) result }
+        ensures count { Counts (W.failures (sink_of self.old)) (W.failures (sink_of self.new)) result }
+    {
+        let size = values.xtype().size();
+        let mut done = 0;
+        while done < values.len() {
+            let count = self.room_for(size).min(values.len() - done);
+            self.put_some(values, done, count)?;
+            done += count;
+        }
+        Ok(())
+    }
+
+    /// Puts the bytes of a fill value behind what waits, `count` times, so that they end at most one behind a page.
+    fn fill_some(&mut self, fill: &[u8], count: usize) -> Result<(), Failed>
+        requires { self.old.filled + count * length fill.now < self.old.full + 8 }
+        ensures streams { Streams (W.put (sink_of self.old)) (W.put (sink_of self.new)) (waiting self.old) (waiting self.new)
+            (concat (replicate count fill.now)) result }
+        ensures count { Counts (W.failures (sink_of self.old)) (W.failures (sink_of self.new)) result }
+    {
+        let end = fill_at(&mut self.buffer, self.filled, fill, count);
+        self.hold(end)
+    }
+
+    /// Puts the bytes of a fill value behind what waits, `count` times.
+    pub(crate) fn put_fills(&mut self, fill: &[u8], count: u64) -> Result<(), Failed>
+        requires some { 0 < length fill.now }
+        requires short { length fill.now ≤ 8 }
+        ensures streams { Streams (W.put (sink_of self.old)) (W.put (sink_of self.new)) (waiting self.old) (waiting self.new)
+            (concat (replicate count fill.now)) result }
+        ensures count { Counts (W.failures (sink_of self.old)) (W.failures (sink_of self.new)) result }
+    {
+        let mut left = count;
+        while left > 0 {
+            let room = self.room_for(fill.len());
+            let more = left.min(room as u64) as usize;
+            self.fill_some(fill, more)?;
+            left -= more as u64;
+        }
+        Ok(())
+    }
+
+    /// Puts out all that waits.
+    pub(crate) fn flush(&mut self) -> Result<(), Failed>
+        ensures streams { Streams (W.put (sink_of self.old)) (W.put (sink_of self.new)) (waiting self.old) (waiting self.new)
+            [] result }
+        ensures empty { OnOk result (waiting self.new ≡ []) }
+        ensures count { Counts (W.failures (sink_of self.old)) (W.failures (sink_of self.new)) result }
+    {
+        write_all(&mut self.sink, &self.buffer[..self.filled])?;
+        self.full -= self.filled;
+        self.filled = 0;
+        Ok(())
+    }
+
+    pub(crate) fn into_sink(self) -> W
+        ensures { result ≡ sink_of self }
+    {
+        self.sink
+    }
+}

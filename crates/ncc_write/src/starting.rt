@@ -1,0 +1,73 @@
+//! What a writer is made of before anything goes out.
+
+ghost use Rattle.std.specs.Prelude.{◌≡◌, length, IfOk};
+ghost use Rattle.ncc_layout.specs.Plans.{known};
+ghost use Rattle.ncc_build.specs.Builds.{schema_of};
+ghost use Rattle.ncc_build.specs.File.{header_of};
+ghost use Rattle.ncc_write.specs.Turns.{IsCourse};
+
+use crate::course::Course;
+use crate::outlet::BUFFER;
+use ncc_build::Built;
+use ncc_build::laws::built_is_writable;
+use ncc_layout::{SizeError, sizes};
+use ncc_schema::{Count, WriteSink, encode};
+use std::alloc::{AllocError, Global};
+
+/// The bytes of the header.
+pub(crate) fn header_bytes(alloc: Global, built: &Built) -> Result<Vec<u8>, AllocError>
+    ensures { IfOk result (λ bytes. bytes.items ≡ header_of (schema_of built.now)) }
+{
+    built_is_writable(built);
+    let mut sink = WriteSink::new(Vec::new(alloc));
+    match encode(built.schema(), built.places(), &mut sink) {
+        Ok(()) => Ok(sink.into_inner()),
+        Err(_) => Err(AllocError),
+    }
+}
+
+/// The number of records.
+fn records_of(count: Count) -> u64
+    ensures { result ≡ known count }
+{
+    match count {
+        Count::Known(n) => n,
+        Count::Streaming => 0,
+    }
+}
+
+/// The order of the slabs.
+pub(crate) fn course_of(alloc: Global, built: &Built) -> Result<Course, AllocError>
+    ensures { IfOk result (IsCourse (schema_of built.now)) }
+{
+    built_is_writable(built);
+    let schema = built.schema();
+    match sizes(alloc, schema) {
+        Ok(sizes) => Course::new(alloc, schema, &sizes, records_of(schema.count)),
+        Err(_) => Err(AllocError),
+    }
+}
+
+/// What a writer has before anything goes out.
+#[derive(Drop)]
+pub(crate) struct Parts {
+    pub(crate) header: Vec<u8>,
+    pub(crate) course: Course,
+    pub(crate) buffer: Vec<u8>,
+}
+
+/// The header's bytes, the order of the slabs, and the buffer.
+pub(crate) fn prepared(alloc: Global, built: &Built) -> Result<Parts, AllocError>
+    ensures header { IfOk result (λ p. p.header.items ≡ header_of (schema_of built.now)) }
+    ensures course { IfOk result (λ p. IsCourse (schema_of built.now) p.course) }
+    ensures buffer { IfOk result (λ p. length p.buffer.items ≡ 65544) }
+{
+    let header = header_bytes(alloc, built)?;
+    let course = course_of(alloc, built)?;
+    let buffer = vec![in alloc; 0; BUFFER]?;
+    Ok(Parts {
+        header,
+        course,
+        buffer,
+    })
+}

@@ -1,0 +1,255 @@
+//! Writes values in the order in which they lie.
+
+ghost use Rattle.std.specs.Prelude.{◌≡◌, ◌<◌, ◌≤◌, [], false};
+ghost use Rattle.ncc_build.specs.Builds.{schema_of};
+ghost use Rattle.ncc_write.specs.Outlet.{waiting};
+ghost use Rattle.ncc_write.specs.Turns.{IsCourse};
+
+use crate::course::Course;
+use crate::laws::taking_all_completes;
+use crate::outlet::Outlet;
+use crate::starting::{Parts, prepared};
+use ncc_build::laws::built_is_writable;
+use ncc_build::{Built, WriteFault};
+use ncc_schema::{Failed, Sink, write_all};
+use ncc_values::Values;
+use std::alloc::Global;
+
+/// A netCDF file that is being written. Its values are put slab by slab: the fixed variables as in the header, and
+/// then record by record, in each the record variables as in the header. They go out through a buffer of 65,536
+/// bytes and room for one value more, the last memory that is taken.
+#[derive(Drop)]
+pub struct FileWriter<W> {
+    built: Built,
+    course: Course,
+    /// The slab of the next value, and how many elements of it are left.
+    slab: u64,
+    left: u64,
+    failed: bool,
+    outlet: Outlet<W>,
+    ghost planned: { IsCourse (schema_of built) course },
+    ghost within: { slab ≤ course.slabs },
+    ghost flushed: { slab ≡ course.slabs → failed ≡ false → waiting outlet ≡ [] },
+}
+
+impl<W: Sink> FileWriter<W> {
+    ghost use Rattle.std.specs.Prelude.{ℕ, ◌+◌, List, Option, IfOk, IfErr, OnOk};
+    ghost use Rattle.ncc_build.specs.Fill.{fills};
+    ghost use Rattle.ncc_values.specs.Failures.{Counts};
+    ghost use Rattle.ncc_values.specs.Values.{count_of, type_of};
+    ghost use Rattle.ncc_build.specs.File.{header_of, padding_bytes};
+    ghost use Rattle.ncc_schema.specs.Device.{Puts};
+    ghost use Rattle.ncc_write.specs.Laws.{IsCompleted};
+    ghost use Rattle.ncc_write.specs.Positions.{slab_at};
+    ghost use Rattle.ncc_write.specs.Turns.{turn_at};
+    ghost use Rattle.ncc_write.specs.Writer.{sink_in, Stands, StandsOrStops, Ends};
+    ghost use Rattle.ncc_write.specs.Writing.{Standing, Went, starting, StartFails, expected, refuses_put, refuses_fill, refuses_finish, with_values, with_more, with_fills, IsAnswer, IsExactly, StandsAfter, CountsFailure};
+
+    /// Puts out the header, and makes the buffer. After `Memory` nothing went out, after `Device` a beginning of the
+    /// header.
+    pub fn start(alloc: Global, built: Built, sink: W) -> Result<FileWriter<W>, (W, WriteFault)>
+        ensures stands { IfOk result (λ x. Stands (W.put sink) (W.put (sink_in x)) x (starting (schema_of built))) }
+        ensures header { IfOk result (λ x. Puts (W.put sink) (W.put (sink_in x)) (header_of (schema_of built))) }
+        ensures count { IfOk result (λ x. W.failures (sink_in x) ≡ W.failures sink) }
+        ensures refused { IfErr result (λ e. StartFails (W.put sink) (W.put e.0) (W.failures sink) (W.failures e.0)
+            (header_of (schema_of built)) e.1) }
+    {
+        built_is_writable(&built);
+        let Parts {
+            header,
+            course,
+            buffer,
+        } = match prepared(alloc, &built) {
+            Ok(parts) => parts,
+            Err(_) => return Err((sink, WriteFault::Memory)),
+        };
+        let mut sink = sink;
+        if write_all(&mut sink, header.as_slice()).is_err() {
+            return Err((sink, WriteFault::Device));
+        }
+        Ok(FileWriter {
+            left: course.first_elements(),
+            course,
+            slab: 0,
+            failed: false,
+            outlet: Outlet::over(sink, buffer, header.len() as u64),
+            built,
+        })
+    }
+
+    /// The variable, the record and how many elements are left of the slab that the next value is of; nothing where
+    /// all values are there, or the sink failed. A fixed variable is in record 0.
+    pub fn expects(&self) -> Option<(usize, u64, u64)>
+        ensures { (start : Option (List ℕ)) (w : Standing) → Stands start (W.put (sink_in self.now)) self.now w → result ≡ expected w }
+    {
+        if self.failed {
+            return None;
+        }
+        if self.slab == self.course.slabs() {
+            return None;
+        }
+        let (turn, record) = self.course.turn(self.slab);
+        Some((turn.var, record, self.left))
+    }
+
+    /// Goes on to the next slab, of which nothing is there yet.
+    fn open_slab(&mut self) -> Result<(), Failed>
+        requires { self.old.slab < self.old.course.slabs }
+        ensures next { OnOk result (self.new.slab ≡ self.old.slab + 1) }
+        ensures slabs { self.new.course.slabs ≡ self.old.course.slabs }
+        ensures opens { (start : Option (List ℕ)) (w : Standing) → Ends [] start (W.put (sink_in self.old)) self.old w
+            → StandsOrStops start (W.put (sink_in self.new)) self.new w result }
+        ensures count { Counts (W.failures (sink_in self.old)) (W.failures (sink_in self.new)) result }
+    {
+        built_is_writable(&self.built);
+        let next = self.slab + 1;
+        if next < self.course.slabs() {
+            self.left = self.course.turn(next).0.elements;
+            self.slab = next;
+            return Ok(());
+        }
+        self.outlet.flush()?;
+        self.slab = next;
+        Ok(())
+    }
+
+    /// Pads a slab that has all its elements, and goes on to the next one.
+    fn close_slab(&mut self) -> Result<(), Failed>
+        requires { self.old.slab < self.old.course.slabs }
+        ensures next { OnOk result (self.new.slab ≡ self.old.slab + 1) }
+        ensures slabs { self.new.course.slabs ≡ self.old.course.slabs }
+        ensures closes { (start : Option (List ℕ)) (w : Standing)
+            → Ends (padding_bytes w.schema (slab_at w.schema self.old.slab).var) start (W.put (sink_in self.old)) self.old w
+            → StandsOrStops start (W.put (sink_in self.new)) self.new w result }
+        ensures count { Counts (W.failures (sink_in self.old)) (W.failures (sink_in self.new)) result }
+    {
+        let turn = self.course.turn(self.slab).0;
+        self.outlet.put_fills(turn.fill(), turn.padding)?;
+        self.open_slab()
+    }
+
+    /// Takes values that fit in the slab.
+    fn take(&mut self, values: &Values) -> Result<(), Failed>
+        requires there { self.old.slab < self.old.course.slabs }
+        requires room { count_of values.now ≤ self.old.left }
+        requires typed { type_of values.now ≡ (turn_at self.old.course self.old.slab).xtype }
+        ensures takes { (start : Option (List ℕ)) (w : Standing) → Stands start (W.put (sink_in self.old)) self.old w
+            → w.failed ≡ false → StandsOrStops start (W.put (sink_in self.new)) self.new (with_values w values.now) result }
+        ensures count { Counts (W.failures (sink_in self.old)) (W.failures (sink_in self.new)) result }
+    {
+        self.outlet.put_values(values)?;
+        let count = values.len() as u64;
+        if count < self.left {
+            self.left -= count;
+            return Ok(());
+        }
+        self.close_slab()
+    }
+
+    /// Takes the next values, any number up to what is left of the slab. Refused values change nothing. After a
+    /// `Device` a beginning of the file went out, and every later call is refused as `Failed`.
+    pub fn put(&mut self, values: &Values) -> Result<(), WriteFault>
+        ensures answer { (start : Option (List ℕ)) (w : Standing) → Stands start (W.put (sink_in self.old)) self.old w
+            → IsAnswer (λ e. e) (refuses_put w values.now) result }
+        ensures stands { (start : Option (List ℕ)) (w : Standing) → Stands start (W.put (sink_in self.old)) self.old w
+            → (new : Standing) × Stands start (W.put (sink_in self.new)) self.new new × StandsAfter w (with_values w values.now) new result }
+        ensures count { CountsFailure (W.failures (sink_in self.old)) (W.failures (sink_in self.new)) result }
+    {
+        if self.failed {
+            return Err(WriteFault::Failed);
+        }
+        if self.slab == self.course.slabs() {
+            return Err(WriteFault::Complete);
+        }
+        if values.xtype() != self.course.turn(self.slab).0.xtype {
+            return Err(WriteFault::WrongType);
+        }
+        if values.len() as u64 > self.left {
+            return Err(WriteFault::TooManyValues);
+        }
+        match self.take(values) {
+            Ok(()) => Ok(()),
+            Err(_) => {
+                self.failed = true;
+                Err(WriteFault::Device)
+            }
+        }
+    }
+
+    /// Fills what is left of the slab.
+    fn fill_slab(&mut self) -> Result<(), Failed>
+        requires { self.old.slab < self.old.course.slabs }
+        ensures fills { (start : Option (List ℕ)) (w : Standing) → Stands start (W.put (sink_in self.old)) self.old w
+            → w.failed ≡ false → StandsOrStops start (W.put (sink_in self.new)) self.new
+            (with_more w (fills self.old.left (slab_at w.schema self.old.slab).var)) result }
+        ensures next { OnOk result (self.new.slab ≡ self.old.slab + 1) }
+        ensures slabs { self.new.course.slabs ≡ self.old.course.slabs }
+        ensures count { Counts (W.failures (sink_in self.old)) (W.failures (sink_in self.new)) result }
+    {
+        let turn = self.course.turn(self.slab).0;
+        self.outlet.put_fills(turn.fill(), self.left)?;
+        self.close_slab()
+    }
+
+    /// Fills all that is left.
+    fn fill_slabs(&mut self) -> Result<(), Failed>
+        ensures fills { (start : Option (List ℕ)) (w : Standing) → Stands start (W.put (sink_in self.old)) self.old w
+            → w.failed ≡ false → StandsOrStops start (W.put (sink_in self.new)) self.new (with_fills w) result }
+        ensures count { Counts (W.failures (sink_in self.old)) (W.failures (sink_in self.new)) result }
+    {
+        while self.slab < self.course.slabs() {
+            self.fill_slab()?;
+        }
+        Ok(())
+    }
+
+    /// Puts fill values for all that is still expected: of each variable its first attribute `_FillValue` where that
+    /// is one value of its type, else the default of the type. After a `Device` a beginning of the file went out,
+    /// and every later call is refused as `Failed`.
+    pub fn fill_rest(&mut self) -> Result<(), WriteFault>
+        ensures answer { (start : Option (List ℕ)) (w : Standing) → Stands start (W.put (sink_in self.old)) self.old w
+            → IsAnswer (λ e. e) (refuses_fill w) result }
+        ensures stands { (start : Option (List ℕ)) (w : Standing) → Stands start (W.put (sink_in self.old)) self.old w
+            → (new : Standing) × Stands start (W.put (sink_in self.new)) self.new new × StandsAfter w (with_fills w) new result }
+        ensures count { CountsFailure (W.failures (sink_in self.old)) (W.failures (sink_in self.new)) result }
+    {
+        if self.failed {
+            return Err(WriteFault::Failed);
+        }
+        match self.fill_slabs() {
+            Ok(()) => Ok(()),
+            Err(_) => {
+                self.failed = true;
+                Err(WriteFault::Device)
+            }
+        }
+    }
+
+    /// Ends a file that has all its values, which is then out, and gives the sink back. Nothing is written here.
+    /// A refused writer is given back as it was.
+    pub fn finish(self) -> Result<W, (FileWriter<W>, WriteFault)>
+        ensures answer { (start : Option (List ℕ)) (w : Standing) → Stands start (W.put (sink_in self)) self w
+            → IsExactly (λ e. e.1) (refuses_finish w) result }
+        ensures file { (start : Option (List ℕ)) (w : Standing) → Stands start (W.put (sink_in self)) self w
+            → IfOk result (λ sink. Went start (W.put sink) (λ out. ∥ IsCompleted w.schema w.taken out ∥₁)) }
+        ensures sink { IfOk result (λ sink. sink ≡ sink_in self) }
+        ensures unchanged { IfErr result (λ e. e.0 ≡ self) }
+    {
+        built_is_writable(&self.built);
+        taking_all_completes();
+        if self.failed {
+            return Err((self, WriteFault::Failed));
+        }
+        if self.slab < self.course.slabs() {
+            return Err((self, WriteFault::Unfinished));
+        }
+        Ok(self.into_sink())
+    }
+
+    /// Gives the sink back. All that went out is in it, and what waits in the buffer isn't.
+    pub fn into_sink(self) -> W
+        ensures { result ≡ sink_in self }
+    {
+        self.outlet.into_sink()
+    }
+}
