@@ -25,6 +25,7 @@ completes laws s taken built counted small writable are long =
     ∙ written_all d is in
     record {
       dataset = is;
+      values = taken_is_data s taken are long;
       file_is = file_is;
       passes = λ limit within. subst (λ (file : List ℕ). PassesUnnoted file limit s) (sym file_is)
           (passes_unnoted laws d limit (record { dataset = is; built = built; count = small; writable = writable })

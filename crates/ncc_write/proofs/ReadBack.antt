@@ -138,7 +138,16 @@ module _ (laws : Laws) (s : Schema) (taken file : List ℕ) (limit : ℕ) (done 
 
   pub passes_and_reads : PassesAndReads (dataset_of s taken) s file limit
   passes_and_reads = record {
-    unnoted = λ r checked. ap (λ (q : Report). q.notes) (laws.one_report file limit r report checked right);
+    passes = passes;
+    unnoted = λ r checked.
+        let same : r ≡ report = laws.one_report file limit r report checked right in
+        record {
+          version = ap (λ (q : Report). q.version) same ∙ ap (λ (u : Schema). u.version) passes.schema_is;
+          records = ap (λ (q : Report). q.records) same ∙ ap₂ (λ (u : Schema) (q : List Place). record_count u q (length file)) passes.schema_is passes.places_are
+              ∙ count_is (record_size_of s) (length file) (extents_of s (standard_places s)) s.count done.dataset.counted;
+          variables = ap (λ (q : Report). q.variables) same ∙ ap (λ (u : Schema). length u.vars) passes.schema_is;
+          notes = ap (λ (q : Report). q.notes) same;
+        };
     no_fault = λ f fails. laws.no_fault file limit f (h, passes.passes) fails;
     schema = λ t p opened. schema_is t p opened;
     reads = λ t p opened. back t p opened;

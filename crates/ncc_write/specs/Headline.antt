@@ -6,6 +6,7 @@ use Rattle.ncc_values.specs.declared.values.Values.{Values}
 use Rattle.ncc_schema.specs.declared.schema.Schema.{Schema}
 use Rattle.ncc_layout.specs.Elements.{Inside, var_at}
 use Rattle.ncc_layout.specs.Placed.{record_size_of_file, vars_of}
+use Rattle.ncc_layout.specs.Plans.{known}
 use Rattle.ncc_layout.specs.declared.placed_file.Placed.{Placed}
 use Rattle.ncc_layout.specs.declared.placed_var.PlacedVar.{PlacedVar}
 use Rattle.ncc_check.specs.Checks.{Checks, Opens, Refuses}
@@ -18,6 +19,7 @@ use Rattle.ncc_slab.specs.Selection.{indices_of}
 use Rattle.ncc_slab.specs.declared.slab.Slab.{Slab}
 use Rattle.ncc_build.specs.Dataset.{Dataset}
 use Rattle.ncc_write.specs.Holds.{value_at}
+use Rattle.ncc_write.specs.Laws.{PassesUnnoted}
 
 -- ---- reading
 
@@ -41,10 +43,18 @@ abbrev pub ReadsBack : Dataset → (file : List ℕ) → Placed → Type 0
 ReadsBack d file p = (n : ℕ) (s : Slab) (values : Values) → slab_fault (vars_of p) n s ≡ None
     → Selected file (record_size_of_file p) (var_at (vars_of p) n) s values → values ≡ written_values d (var_at (vars_of p) n) n s
 
+-- the report of a file of this schema in which nothing is noted
+pub record IsUnnoted (s : Schema) (r : Report) : Type 0 where
+  pub version : r.version ≡ s.version
+  pub records : r.records ≡ known s.count
+  pub variables : r.variables ≡ length s.vars
+  pub notes : r.notes ≡ []
+
 -- the file passes without a note and has no fault, and whoever opens it has the schema that was built and reads the
 -- dataset's values
 pub record PassesAndReads (d : Dataset) (s : Schema) (file : List ℕ) (limit : ℕ) : Type 0 where
-  pub unnoted : (r : Report) → Checks file limit (Ok r) → r.notes ≡ []
+  pub passes : PassesUnnoted file limit s
+  pub unnoted : (r : Report) → Checks file limit (Ok r) → IsUnnoted s r
   pub no_fault : (f : FileFault) → Refuses file limit (Fault f) → ⊥
   pub schema : (t : Schema) (p : Placed) → Opens file limit t p → t ≡ s
   pub reads : (t : Schema) (p : Placed) → Opens file limit t p → ReadsBack d file p

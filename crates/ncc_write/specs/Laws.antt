@@ -114,6 +114,7 @@ FillingEnds = (s : Schema) (taken : List ℕ) → next_of s taken ≡ None → l
 -- the file of all that was taken: it passes without a note, with the schema that was built, and holds what was taken
 pub record IsCompleted (s : Schema) (taken file : List ℕ) : Type 0 where
   pub dataset : IsDataset (dataset_of s taken)
+  pub values : data_of (dataset_of s taken) ≡ taken
   pub file_is : file ≡ file_of (dataset_of s taken)
   pub passes : (limit : ℕ) → length (header_of s) ≤ limit → PassesUnnoted file limit s
   pub holds : HoldsValues file (standard_places s) (dataset_of s taken)

@@ -11,5 +11,6 @@ mod turning;
 mod whole;
 mod writer;
 
+pub use ncc_build::{Built, SchemaBuilder, WriteFault};
 pub use whole::headline;
 pub use writer::FileWriter;

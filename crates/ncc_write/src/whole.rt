@@ -31,8 +31,8 @@ pub fn headline()
     ensures passes { (bytes : List ℕ) (limit : ℕ) (r : Report) → Checks bytes limit (Ok r) → HasOwnElements bytes limit }
     ensures reads { (bytes : List ℕ) (limit : ℕ) (s : Schema) (p : Placed) → Opens bytes limit s p
         → (n : ℕ) (slab : Slab) → ReadsThere bytes p n slab }
-    ensures completed { (s : Schema) (taken file : List ℕ) (limit : ℕ) → IsCompleted s taken file
-        → length (header_of s) ≤ limit → PassesAndReads (dataset_of s taken) s file limit }
+    ensures completed { (s : Schema) (taken file : List ℕ) (limit : ℕ) → ∥ IsCompleted s taken file ∥₁
+        → length (header_of s) ≤ limit → ∥ PassesAndReads (dataset_of s taken) s file limit ∥₁ }
 {
     passing_elements_are_apart();
     passing_has_no_fault();

@@ -33,7 +33,8 @@ pub struct FileWriter<W> {
 }
 
 impl<W: Sink> FileWriter<W> {
-    ghost use Rattle.std.specs.Prelude.{ℕ, ◌+◌, List, Option, IfOk, IfErr, OnOk};
+    ghost use Rattle.std.specs.Prelude.{ℕ, ◌+◌, List, Option, None, IfOk, IfErr, IsOk, OnOk};
+    ghost use Rattle.ncc_build.specs.declared.fault.WriteFault.TheVariants.{Device, Memory};
     ghost use Rattle.ncc_build.specs.Fill.{fills};
     ghost use Rattle.ncc_values.specs.Failures.{Counts};
     ghost use Rattle.ncc_values.specs.Values.{count_of, type_of};
@@ -43,7 +44,7 @@ impl<W: Sink> FileWriter<W> {
     ghost use Rattle.ncc_write.specs.Positions.{slab_at};
     ghost use Rattle.ncc_write.specs.Turns.{turn_at};
     ghost use Rattle.ncc_write.specs.Writer.{sink_in, Stands, StandsOrStops, Ends};
-    ghost use Rattle.ncc_write.specs.Writing.{Standing, Went, starting, StartFails, expected, refuses_put, refuses_fill, refuses_finish, with_values, with_more, with_fills, IsAnswer, IsExactly, StandsAfter, CountsFailure};
+    ghost use Rattle.ncc_write.specs.Writing.{Standing, Went, next_of, starting, StartFails, expected, refuses_put, refuses_fill, refuses_finish, with_values, with_more, with_fills, IsAnswer, IsExactly, StandsAfter, CountsFailure};
 
     /// Puts out the header, and makes the buffer. After `Memory` nothing went out, after `Device` a beginning of the
     /// header.
@@ -51,6 +52,7 @@ impl<W: Sink> FileWriter<W> {
         ensures stands { IfOk result (λ x. Stands (W.put sink) (W.put (sink_in x)) x (starting (schema_of built))) }
         ensures header { IfOk result (λ x. Puts (W.put sink) (W.put (sink_in x)) (header_of (schema_of built))) }
         ensures count { IfOk result (λ x. W.failures (sink_in x) ≡ W.failures sink) }
+        ensures untouched { IfErr result (λ e. e.1 ≡ Memory → e.0 ≡ sink) }
         ensures refused { IfErr result (λ e. StartFails (W.put sink) (W.put e.0) (W.failures sink) (W.failures e.0)
             (header_of (schema_of built)) e.1) }
     {
@@ -153,6 +155,7 @@ impl<W: Sink> FileWriter<W> {
             → IsAnswer (λ e. e) (refuses_put w values.now) result }
         ensures stands { (start : Option (List ℕ)) (w : Standing) → Stands start (W.put (sink_in self.old)) self.old w
             → (new : Standing) × Stands start (W.put (sink_in self.new)) self.new new × StandsAfter w (with_values w values.now) new result }
+        ensures unchanged { IfErr result (λ e. (e ≡ Device → ⊥) → self.new ≡ self.old) }
         ensures count { CountsFailure (W.failures (sink_in self.old)) (W.failures (sink_in self.new)) result }
     {
         if self.failed {
@@ -211,10 +214,16 @@ impl<W: Sink> FileWriter<W> {
             → IsAnswer (λ e. e) (refuses_fill w) result }
         ensures stands { (start : Option (List ℕ)) (w : Standing) → Stands start (W.put (sink_in self.old)) self.old w
             → (new : Standing) × Stands start (W.put (sink_in self.new)) self.new new × StandsAfter w (with_fills w) new result }
+        ensures complete { (start : Option (List ℕ)) (w : Standing) → Stands start (W.put (sink_in self.old)) self.old w
+            → w.failed ≡ false → next_of w.schema w.taken ≡ None → IsOk result × (self.new ≡ self.old) }
+        ensures unchanged { IfErr result (λ e. (e ≡ Device → ⊥) → self.new ≡ self.old) }
         ensures count { CountsFailure (W.failures (sink_in self.old)) (W.failures (sink_in self.new)) result }
     {
         if self.failed {
             return Err(WriteFault::Failed);
+        }
+        if self.slab == self.course.slabs() {
+            return Ok(());
         }
         match self.fill_slabs() {
             Ok(()) => Ok(()),

@@ -1,7 +1,6 @@
 //! The laws can be cited.
 
 use super::*;
-use crate::headline;
 use std::test::*;
 
 #[test]
@@ -23,5 +22,4 @@ fn laws_are_there() {
     file_passes();
     taking_all_completes();
     count_is_rewritten();
-    headline();
 }

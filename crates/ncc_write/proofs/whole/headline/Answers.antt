@@ -1,8 +1,10 @@
 use Rattle.std.proofs.Common.{◌≡◌, ◌≤◌, length, ap, ◌∙◌, arith}
+use Rattle.std.proofs.Math.Logic.{∥∥₁_map}
 use Rattle.ncc_layout.specs.Elements.{var_at}
 use Rattle.ncc_layout.specs.Placed.{header_length_of, file_length_of, record_size_of_file, vars_of}
 use Rattle.ncc_slab.specs.Selected.{numbers_of}
 use Rattle.ncc_slab.specs.Selection.{indices_of}
+use Rattle.ncc_write.specs.Laws.{IsCompleted}
 use Rattle.ncc_write.proofs.ReadBack.{Laws, not_refused, passes_and_reads, refused_unless}
 use Rattle.ncc_write.proofs.whole.headline.Goals as goal
 
@@ -29,4 +31,4 @@ returns-clause-completed c = λ s taken file limit done within.
       one_report = c.one_report.ensures;
       inside = c.selected_is_inside.ensures;
     } in
-    passes_and_reads laws s taken file limit done (done.passes limit within)
+    ∥∥₁_map done (λ (d : IsCompleted s taken file). passes_and_reads laws s taken file limit d (d.passes limit within))

@@ -1,6 +1,32 @@
-use Rattle.std.proofs.Common.{◌≡◌, false, refl, sym, ◌∙◌}
+use Rattle.std.proofs.Common.{◌≡◌, ◌<◌, ℕ, false, Some, None, refl, sym, subst, ◌∙◌, arith}
+use Rattle.ncc_schema.specs.declared.schema.Schema.{Schema}
+use Rattle.ncc_write.specs.Turns.{IsCourse}
 use Rattle.ncc_write.specs.Writing.{as_failed, with_fills}
+use Rattle.ncc_write.proofs.AllFills.{fills_end, fills_from}
+use Rattle.ncc_write.proofs.Positions.{next_open}
 use Rattle.ncc_write.proofs.writer.FileWriter.fill_rest.Goals as goal
+
+pub returns-then-self-slabs-clause-stands : goal.returns-then-self-slabs-clause-stands
+returns-then-self-slabs-clause-stands g c = λ start w at.
+    let x = c.args.self.now in
+    let stands : w.failed ≡ false = sym at.failed ∙ c.if-self.false in
+    (with_fills w, fills_end start _ x w (fills_from start _ x w at stands) (omega (arith, c.if-self-slabs.true, c.slabs.ensures)), refl)
+
+pub returns-in-Ok-clause-complete : goal.returns-in-Ok-clause-complete
+returns-in-Ok-clause-complete g c = λ start w at stands none.
+    let x = c.args.self.now in
+    let planned : IsCourse w.schema x.course = subst (λ (u : Schema). IsCourse u x.course) at.schema x.planned in
+    let less : x.slab < x.course.slabs = omega (arith, c.if-self-slabs.false, c.slabs.ensures, x.within) in
+    let some = next_open w.schema w.taken x.slab x.left (at.at stands) (omega (arith, less, planned.slabs)) in
+    absurd (cc (some, none))
+
+pub returns-in-Err-clause-complete : goal.returns-in-Err-clause-complete
+returns-in-Err-clause-complete g c = λ start w at stands none.
+    let x = c.args.self.now in
+    let planned : IsCourse w.schema x.course = subst (λ (u : Schema). IsCourse u x.course) at.schema x.planned in
+    let less : x.slab < x.course.slabs = omega (arith, c.if-self-slabs.false, c.slabs.ensures, x.within) in
+    let some = next_open w.schema w.taken x.slab x.left (at.at stands) (omega (arith, less, planned.slabs)) in
+    absurd (cc (some, none))
 
 pub returns-in-Ok-clause-stands : goal.returns-in-Ok-clause-stands
 returns-in-Ok-clause-stands g c = λ start w at.
