@@ -5,4 +5,4 @@ mod NewNames
 mod Passing
 mod Refusals
 pub mod SoundProps
-mod Tables
+pub mod Tables

@@ -1,7 +1,7 @@
 -- That a schema is sound has one proof at most, so that it can be taken from a ghost field.
 use Rattle.std.proofs.Common.{ℕ, List, [], ◌∷◌}
 use Rattle.std.specs.List.{AllByRecursion, AllByRecursion-prop}
-use Rattle.std.proofs.Math.Logic.{∥∥₁_elim}
+use Rattle.std.proofs.Math.Logic.{∥∥₁_elim, ∥∥₁_map}
 use Rattle.std.proofs.Props.{props}
 use Rattle.ncc_values.specs.declared.version.Version.{Version}
 use Rattle.ncc_schema.specs.declared.schema.Count.{Count}
@@ -10,7 +10,7 @@ use Rattle.ncc_schema.specs.declared.schema.Dim.{Dim}
 use Rattle.ncc_schema.specs.declared.schema.Attr.{Attr}
 use Rattle.ncc_schema.specs.declared.schema.Var.{Var}
 use Rattle.ncc_schema.specs.declared.schema.Schema.{Schema}
-use Rattle.ncc_schema.specs.Schema.{LegalCount, LegalDim, LegalAttr, LegalVar, LegalDims, IsFixed, Sound}
+use Rattle.ncc_schema.specs.Schema.{Place, Legal, LegalCount, LegalDim, LegalAttr, LegalPlace, LegalVar, LegalDims, IsFixed, Sound}
 use Rattle.ncc_build.specs.Building.{IsBuilt}
 
 count-prop : (v : Version) (c : Count) → IsProp (LegalCount v c)
@@ -35,14 +35,25 @@ var-prop v dims x =
     let attrs : IsProp (AllByRecursion (LegalAttr v) x.attrs) = AllByRecursion-prop (LegalAttr v) (attr-prop v) x.attrs in
     hlevel (props, ids, attrs)
 
+sound_is : (s : Schema) → ∥ Sound s ∥₁ → Sound s
+sound_is s sound = record {
+  count = ∥∥₁_elim sound (count-prop s.version s.count) (λ (l : Sound s). l.count);
+  dims_number = ∥∥₁_elim sound (hlevel props) (λ (l : Sound s). l.dims_number);
+  dims = ∥∥₁_elim sound (AllByRecursion-prop (LegalDim s.version) (dim-prop s.version) s.dims) (λ (l : Sound s). l.dims);
+  one_record_dim = ∥∥₁_elim sound (hlevel props) (λ (l : Sound s). l.one_record_dim);
+  gatts_number = ∥∥₁_elim sound (hlevel props) (λ (l : Sound s). l.gatts_number);
+  gatts = ∥∥₁_elim sound (AllByRecursion-prop (LegalAttr s.version) (attr-prop s.version) s.gatts) (λ (l : Sound s). l.gatts);
+  vars_number = ∥∥₁_elim sound (hlevel props) (λ (l : Sound s). l.vars_number);
+  vars = ∥∥₁_elim sound (AllByRecursion-prop (LegalVar s.version s.dims) (var-prop s.version s.dims) s.vars) (λ (l : Sound s). l.vars);
+}
+
 pub sound_of : (s : Schema) → ∥ IsBuilt s ∥₁ → Sound s
-sound_of s built = record {
-  count = ∥∥₁_elim built (count-prop s.version s.count) (λ (b : IsBuilt s). b.sound.count);
-  dims_number = ∥∥₁_elim built (hlevel props) (λ (b : IsBuilt s). b.sound.dims_number);
-  dims = ∥∥₁_elim built (AllByRecursion-prop (LegalDim s.version) (dim-prop s.version) s.dims) (λ (b : IsBuilt s). b.sound.dims);
-  one_record_dim = ∥∥₁_elim built (hlevel props) (λ (b : IsBuilt s). b.sound.one_record_dim);
-  gatts_number = ∥∥₁_elim built (hlevel props) (λ (b : IsBuilt s). b.sound.gatts_number);
-  gatts = ∥∥₁_elim built (AllByRecursion-prop (LegalAttr s.version) (attr-prop s.version) s.gatts) (λ (b : IsBuilt s). b.sound.gatts);
-  vars_number = ∥∥₁_elim built (hlevel props) (λ (b : IsBuilt s). b.sound.vars_number);
-  vars = ∥∥₁_elim built (AllByRecursion-prop (LegalVar s.version s.dims) (var-prop s.version s.dims) s.vars) (λ (b : IsBuilt s). b.sound.vars);
+sound_of s built = sound_is s (∥∥₁_map built (λ (b : IsBuilt s). b.sound))
+
+-- and so has that it is legal
+pub legal_of : (s : Schema) (places : List Place) → ∥ Legal s places ∥₁ → Legal s places
+legal_of s places legal = record {
+  sound = sound_is s (∥∥₁_map legal (λ (l : Legal s places). l.sound));
+  number = ∥∥₁_elim legal (hlevel props) (λ (l : Legal s places). l.number);
+  placed = ∥∥₁_elim legal (AllByRecursion-prop (LegalPlace s.version) (λ p. hlevel props) places) (λ (l : Legal s places). l.placed);
 }

@@ -113,8 +113,10 @@ refuses_var fits s name t ids = first_refusal (
 -- the schema can't be built with so many records: their number, then the sizes, then the begins
 abbrev pub BuildFails : Schema → (records : ℕ) → WriteFault → Type 0
 BuildFails s records CountForVersion = count_limit s.version ≤ records
-BuildFails s records SizeForVersion = (records < count_limit s.version) × PlanFails (with_count s records) records plan.SizeForVersion
-BuildFails s records OffsetForVersion = (records < count_limit s.version) × PlanFails (with_count s records) records plan.OffsetForVersion
+BuildFails s records SizeForVersion =
+    (records < count_limit s.version) × PlanFails (with_count s records) records plan.SizeForVersion
+BuildFails s records OffsetForVersion =
+    (records < count_limit s.version) × PlanFails (with_count s records) records plan.OffsetForVersion
 BuildFails s records _ = ⊥
 
 -- ---- the schema with one item more
@@ -123,17 +125,40 @@ abbrev pub no_schema : Version → Schema
 no_schema v = record { version = v; count = Known 0; dims = []; gatts = []; vars = [] }
 
 abbrev pub with_dim : Schema → (name : List ℕ) → (length : ℕ) → Schema
-with_dim s name n = record { version = s.version; count = s.count; dims = s.dims ++ record { name = name; length = n } ∷ []; gatts = s.gatts; vars = s.vars }
+with_dim s name n = record {
+  version = s.version;
+  count = s.count;
+  dims = s.dims ++ record { name = name; length = n } ∷ [];
+  gatts = s.gatts;
+  vars = s.vars;
+}
 
 abbrev pub with_global : Schema → (name : List ℕ) → Values → Schema
-with_global s name values = record { version = s.version; count = s.count; dims = s.dims; gatts = s.gatts ++ record { name = name; values = values } ∷ []; vars = s.vars }
+with_global s name values = record {
+  version = s.version;
+  count = s.count;
+  dims = s.dims;
+  gatts = s.gatts ++ record { name = name; values = values } ∷ [];
+  vars = s.vars;
+}
 
 abbrev pub with_var : Schema → (name : List ℕ) → XType → (dims : List ℕ) → Schema
-with_var s name t ids = record { version = s.version; count = s.count; dims = s.dims; gatts = s.gatts; vars = s.vars ++ record { name = name; dims = ids; attrs = []; xtype = t } ∷ [] }
+with_var s name t ids = record {
+  version = s.version;
+  count = s.count;
+  dims = s.dims;
+  gatts = s.gatts;
+  vars = s.vars ++ record { name = name; dims = ids; attrs = []; xtype = t } ∷ [];
+}
 
 -- a variable with one attribute more
 abbrev pub var_with : Var → (name : List ℕ) → Values → Var
-var_with x name values = record { name = x.name; dims = x.dims; attrs = x.attrs ++ record { name = name; values = values } ∷ []; xtype = x.xtype }
+var_with x name values = record {
+  name = x.name;
+  dims = x.dims;
+  attrs = x.attrs ++ record { name = name; values = values } ∷ [];
+  xtype = x.xtype;
+}
 
 abbrev pub vars_with : List Var → (var : ℕ) → (name : List ℕ) → Values → List Var
 vars_with [] n name values = []
@@ -141,7 +166,13 @@ vars_with (x ∷ vars) zero name values = var_with x name values ∷ vars
 vars_with (x ∷ vars) (suc n) name values = x ∷ vars_with vars n name values
 
 abbrev pub with_attr : Schema → (var : ℕ) → (name : List ℕ) → Values → Schema
-with_attr s n name values = record { version = s.version; count = s.count; dims = s.dims; gatts = s.gatts; vars = vars_with s.vars n name values }
+with_attr s n name values = record {
+  version = s.version;
+  count = s.count;
+  dims = s.dims;
+  gatts = s.gatts;
+  vars = vars_with s.vars n name values;
+}
 
 -- ---- what has been built
 
@@ -188,35 +219,47 @@ or_else (Some f) later = Some f
 -- the first refusal of these dimensions, behind those of s; fits is the rule of names
 abbrev pub refuses_dims : (fits : List ℕ → Bool) → Schema → List Dim → Option WriteFault
 refuses_dims fits s [] = None
-refuses_dims fits s (d ∷ dims) = or_else (refuses_dim (fits d.name) s d.name d.length) (refuses_dims fits (with_dim s d.name d.length) dims)
+refuses_dims fits s (d ∷ dims) =
+    or_else (refuses_dim (fits d.name) s d.name d.length)
+    (refuses_dims fits (with_dim s d.name d.length) dims)
 
 abbrev pub refuses_globals : (fits : List ℕ → Bool) → Schema → List Attr → Option WriteFault
 refuses_globals fits s [] = None
 refuses_globals fits s (a ∷ attrs) =
-    or_else (refuses_global (fits a.name) s a.name a.values) (refuses_globals fits (with_global s a.name a.values) attrs)
+    or_else (refuses_global (fits a.name) s a.name a.values)
+    (refuses_globals fits (with_global s a.name a.values) attrs)
 
 -- of these attributes of a variable
 abbrev pub refuses_attrs : (fits : List ℕ → Bool) → Schema → (var : ℕ) → List Attr → Option WriteFault
 refuses_attrs fits s n [] = None
 refuses_attrs fits s n (a ∷ attrs) =
-    or_else (refuses_attr (fits a.name) s n a.name a.values) (refuses_attrs fits (with_attr s n a.name a.values) n attrs)
+    or_else (refuses_attr (fits a.name) s n a.name a.values)
+    (refuses_attrs fits (with_attr s n a.name a.values) n attrs)
 
 -- with a variable and its attributes
 abbrev pub with_whole : Schema → Var → Schema
-with_whole s x = record { version = s.version; count = s.count; dims = s.dims; gatts = s.gatts; vars = s.vars ++ x ∷ [] }
+with_whole s x = record {
+  version = s.version;
+  count = s.count;
+  dims = s.dims;
+  gatts = s.gatts;
+  vars = s.vars ++ x ∷ [];
+}
 
 -- of these variables, each followed by its attributes
 abbrev pub refuses_vars : (fits : List ℕ → Bool) → Schema → List Var → Option WriteFault
 refuses_vars fits s [] = None
 refuses_vars fits s (x ∷ vars) =
     or_else (refuses_var (fits x.name) s x.name x.xtype x.dims)
-    (or_else (refuses_attrs fits (with_var s x.name x.xtype x.dims) (length s.vars) x.attrs) (refuses_vars fits (with_whole s x) vars))
+    (or_else (refuses_attrs fits (with_var s x.name x.xtype x.dims) (length s.vars) x.attrs)
+    (refuses_vars fits (with_whole s x) vars))
 
 -- of a schema in another version: its dimensions, its global attributes, and its variables with theirs
 abbrev pub refuses_schema : (fits : List ℕ → Bool) → Version → Schema → Option WriteFault
 refuses_schema fits v s =
     or_else (refuses_dims fits (no_schema v) s.dims)
-    (or_else (refuses_globals fits (record { version = v; count = Known 0; dims = s.dims; gatts = []; vars = [] }) s.gatts)
+    (or_else
+    (refuses_globals fits (record { version = v; count = Known 0; dims = s.dims; gatts = []; vars = [] }) s.gatts)
     (refuses_vars fits (record { version = v; count = Known 0; dims = s.dims; gatts = s.gatts; vars = [] }) s.vars))
 
 -- ---- answers of a call

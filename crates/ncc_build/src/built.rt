@@ -1,7 +1,7 @@
 //! A schema that can be written.
 
 ghost use Rattle.std.specs.Prelude.{◌≡◌, ◌<◌};
-ghost use Rattle.ncc_schema.specs.Schema.{count_limit};
+ghost use Rattle.ncc_schema.specs.Schema.{count_limit, places_of, Legal};
 ghost use Rattle.ncc_layout.specs.Plans.{IsKnown, known, IsStandard};
 ghost use Rattle.ncc_build.specs.File.{IsWritable};
 ghost use Rattle.ncc_build.specs.Building.{IsBuilt};
@@ -18,6 +18,7 @@ pub struct Built {
     ghost counted: { ∥ IsKnown schema.count × (known schema.count < count_limit schema.version) ∥₁ },
     ghost writable: { ∥ IsWritable schema ∥₁ },
     ghost standard: { ∥ IsStandard schema places ∥₁ },
+    ghost legal: { ∥ Legal schema (places_of places) ∥₁ },
 }
 
 impl Built {
@@ -29,6 +30,7 @@ impl Built {
         requires counted { ∥ IsKnown schema.count × (known schema.count < count_limit schema.version) ∥₁ }
         requires writable { ∥ IsWritable schema ∥₁ }
         requires standard { ∥ IsStandard schema places ∥₁ }
+        requires legal { ∥ Legal schema (places_of places) ∥₁ }
         ensures schema { schema_of result ≡ schema }
         ensures places { places_of_built result ≡ places }
     {

@@ -55,7 +55,8 @@ fn select<S: Store, W: Sink, P: Progress>(
     progress: &mut P,
 ) -> Answer
     ensures selects { IsTrue S.tells_bytes → (out : List ℕ) × Puts (W.put sink.old) (W.put sink.new) out × Writes
-        (IsSelection (contents_in (S.bytes (store_of file.old)) (schema_of file.old) (placed_of file.old)) name.now pick)
+        (IsSelection (contents_in (S.bytes (store_of file.old)) (schema_of file.old) (placed_of file.old))
+        name.now pick)
         result out }
     ensures unmoved { Unmoved S.bytes S.images S.moment S.images_since (store_of file.old) (store_of file.new) }
     ensures kept { KeepsImages (S.images (store_of file.old)) (S.images (store_of file.new)) }

@@ -5,16 +5,15 @@ use Rattle.std.specs.List.{AllByRecursion, IsDistinct}
 use Rattle.std.proofs.lemmas.List.{get_or-map, length-map}
 use Rattle.std.proofs.lemmas.List.Sums.{sum_by-cons}
 use Rattle.std.proofs.lemmas.Map.Keys.{IsDistinct-cons}
-use Rattle.std.proofs.lemmas.Nat.{mul-le}
 use Rattle.ncc_values.specs.XType.{size_of}
 use Rattle.ncc_schema.specs.declared.schema.Dim.{Dim}
 use Rattle.ncc_schema.specs.declared.schema.Var.{Var}
 use Rattle.ncc_schema.specs.declared.schema.VarPlace.{VarPlace}
 use Rattle.ncc_schema.specs.declared.schema.Schema.{Schema}
-use Rattle.ncc_schema.specs.Schema.{Place, place_of, places_of, is_record, count_limit, LegalDims, LegalVar, Sound, starts_with_record, is_record_var}
+use Rattle.ncc_schema.specs.Schema.{Place, place_of, places_of, is_record, count_limit, LegalDims, LegalVar, Sound, is_record_var}
 use Rattle.ncc_layout.specs.declared.extent.Extent.{Extent}
 use Rattle.ncc_layout.specs.declared.placed_var.PlacedVar.{PlacedVar}
-use Rattle.ncc_layout.specs.Sizes.{up, product, length_of, inner, slab, rounded, record_vars, record_slabs, record_bytes, record_size_of, room, Fit}
+use Rattle.ncc_layout.specs.Sizes.{up, product, inner, slab, rounded, record_vars, record_slabs, record_bytes, record_size_of, room, Fit}
 use Rattle.ncc_layout.specs.Extents.{extent_of, extents_from, extents_of, NumberedFrom, records_of, slabs_of_records, record_count}
 use Rattle.ncc_layout.specs.Rules.{PastHeader, InWindow, BeforeRecords, Within, Rules}
 use Rattle.ncc_layout.specs.Faults.{FailsFirst, FirstShared, FirstOverlap, RuleFails, PlaceFails, FirstFault}
@@ -28,23 +27,8 @@ use Rattle.ncc_layout.specs.declared.placed_file.Placed.{Placed}
 use Rattle.ncc_layout.specs.Placed.{IsFrame, HasLaid, Holds}
 use Rattle.ncc_layout.specs.Elements.{placed_var, placed_from, placed_on, placed_with, placed_vars, IsShaped, HasShape, AreLaid, AreSized}
 use Rattle.ncc_layout.proofs.Membership.{In, in_from_contains, in_filter, filter_in, all_in}
-use Rattle.ncc_layout.proofs.Products.{product_positive}
-use Rattle.ncc_layout.proofs.Own.{size_positive}
+use Rattle.ncc_layout.proofs.Positive.{slab_positive}
 use Rattle.ncc_layout.proofs.Summing.{sum_of_slabs}
-
--- ---- sizes are positive
-
-fixed_first : (dims : List Dim) (d : ℕ) (ds : List ℕ) (b : Bool) → b ≡ is_record dims d → LegalDims dims (d ∷ ds) → 0 < product (map (length_of dims) (if b then ds else d ∷ ds))
-fixed_first dims d ds true e legal = product_positive dims ds legal.1
-fixed_first dims d ds false e legal = product_positive dims (d ∷ ds) ((legal.0, sym e), legal.1)
-
-inner_positive : (dims : List Dim) (ids : List ℕ) (b : Bool) → b ≡ starts_with_record dims ids → LegalDims dims ids → 0 < product (map (length_of dims) (if b then drop 1 ids else ids))
-inner_positive dims [] true e legal = omega arith
-inner_positive dims [] false e legal = omega arith
-inner_positive dims (d ∷ ds) b e legal = fixed_first dims d ds b e legal
-
-pub slab_positive : (dims : List Dim) (x : Var) → LegalDims dims x.dims → 0 < slab dims x
-slab_positive dims x legal = mul-le 1 1 (product (inner dims x)) (size_of x.xtype) (inner_positive dims x.dims (is_record_var dims x) refl legal) (size_positive x.xtype)
 
 -- ---- one extent more
 

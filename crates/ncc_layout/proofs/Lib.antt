@@ -1,9 +1,10 @@
-mod Membership
+pub mod Membership
 mod RowMajor
 mod Own
 mod PlacedFiles
 mod Searching
 mod Counting
+pub mod Positive
 mod Products
 mod Summing
 mod Sharing
@@ -18,7 +19,7 @@ mod RecordWindows
 mod StandardRules
 mod Lengthening
 mod OneMore
-mod StandardPlaces
-mod VersionFits
+pub mod StandardPlaces
+pub mod VersionFits
 pub mod ShapesInFile
 mod NextPlaces

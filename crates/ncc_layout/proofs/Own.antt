@@ -3,9 +3,8 @@ use Rattle.std.proofs.Common.{◌≡◌, ℕ, zero, suc, ◌+◌, ◌-◌, ◌*�
 use Rattle.std.specs.Prelude.{Contains}
 use Rattle.std.proofs.lemmas.Bool.{cases_lt}
 use Rattle.std.proofs.lemmas.Nat.{mul-le, row_fits, same_from_place}
+use Rattle.ncc_values.proofs.ElementsLemmas.{size_of-some}
 use Rattle.ncc_values.specs.XType.{size_of}
-use Rattle.ncc_values.specs.declared.xtype.XType.{XType}
-use Rattle.ncc_values.specs.declared.xtype.XType.TheVariants.{Byte, Char, Short, Int, Float, Double, UByte, UShort, UInt, Int64, UInt64}
 use Rattle.ncc_layout.specs.declared.extent.Extent.{Extent}
 use Rattle.ncc_layout.specs.declared.placed_var.PlacedVar.{PlacedVar}
 use Rattle.ncc_layout.specs.Sizes.{product}
@@ -71,19 +70,6 @@ apart_records r first_end begin i j byte less window low high =
     let step : (i + 1) * r ≤ j * r = mul-le (i + 1) r j r (omega arith) (omega arith) in
     let next : (i + 1) * r ≡ i * r + r = omega arith in
     omega arith
-
-pub size_positive : (t : XType) → 0 < size_of t
-size_positive Byte = omega arith
-size_positive Char = omega arith
-size_positive Short = omega arith
-size_positive Int = omega arith
-size_positive Float = omega arith
-size_positive Double = omega arith
-size_positive UByte = omega arith
-size_positive UShort = omega arith
-size_positive UInt = omega arith
-size_positive Int64 = omega arith
-size_positive UInt64 = omega arith
 
 -- ---- a byte of an element
 
@@ -296,7 +282,7 @@ module _ (header length record_size records : ℕ) (vars : List PlacedVar) (laid
   }
 
   pub element_in_file : (x : PlacedVar) (is : List ℕ) → Contains vars x → Inside x.shape is → LiesInFile header length x (place_of record_size x is)
-  element_in_file x is h inside = (omega (arith, first.0), omega (arith, last.1, size_positive x.xtype))
+  element_in_file x is h inside = (omega (arith, first.0), omega (arith, last.1, size_of-some x.xtype))
     where
       byte_in_file : (byte : ℕ) → place_of record_size x is ≤ byte → byte < place_of record_size x is + size_of x.xtype → (header ≤ byte) × (byte < length)
       byte_in_file byte low high =
@@ -308,7 +294,7 @@ module _ (header length record_size records : ℕ) (vars : List PlacedVar) (laid
           })
 
       first : (header ≤ place_of record_size x is) × (place_of record_size x is < length)
-      first = byte_in_file (place_of record_size x is) (omega arith) (omega (arith, size_positive x.xtype))
+      first = byte_in_file (place_of record_size x is) (omega arith) (omega (arith, size_of-some x.xtype))
 
       last : (header ≤ place_of record_size x is + (size_of x.xtype - 1)) × (place_of record_size x is + (size_of x.xtype - 1) < length)
-      last = byte_in_file (place_of record_size x is + (size_of x.xtype - 1)) (omega arith) (omega (arith, size_positive x.xtype))
+      last = byte_in_file (place_of record_size x is + (size_of x.xtype - 1)) (omega arith) (omega (arith, size_of-some x.xtype))

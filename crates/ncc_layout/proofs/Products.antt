@@ -5,23 +5,16 @@ use Rattle.std.proofs.lemmas.List.{get_or-map, drop_all}
 use Rattle.std.specs.List.{AllByRecursion}
 use Rattle.std.proofs.lemmas.Bool.{le-ltb, lt-ltb}
 use Rattle.std.proofs.lemmas.Nat.{mul-le}
-use Rattle.std.proofs.lemmas.Grind.{common_steps}
 use Rattle.ncc_schema.specs.declared.schema.Dim.{Dim}
 use Rattle.ncc_schema.specs.Schema.{IsFixed}
 use Rattle.ncc_layout.specs.Sizes.{in_u64, length_of, product}
+use Rattle.ncc_layout.proofs.Positive.{fixed_positive, product_positive}
 
 pub in_u64-some : (n : ℕ) → n < 2 ^ 64 → in_u64 n ≡ Some n
 in_u64-some n h = rw (lt-ltb _ _ h) refl
 
 pub in_u64-none : (n : ℕ) → 2 ^ 64 ≤ n → in_u64 n ≡ None
 in_u64-none n h = rw (le-ltb _ _ h) refl
-
-pub fixed_positive : (dims : List Dim) (d : ℕ) → IsFixed dims d → 0 < length_of dims d
-fixed_positive dims d h = grind (arith, common_steps, h.0, h.1)
-
-pub product_positive : (dims : List Dim) (ids : List ℕ) → AllByRecursion (IsFixed dims) ids → 0 < product (map (length_of dims) ids)
-product_positive dims [] all = omega arith
-product_positive dims (d ∷ ids) all = mul-le 1 1 (length_of dims d) (product (map (length_of dims) ids)) (fixed_positive dims d all.0) (product_positive dims ids all.1)
 
 turn : (l p b : ℕ) → l * p * b ≡ b * l * p
 turn l p b = mul_comm (l * p) b ∙ sym (mul_assoc b l p)

@@ -15,7 +15,7 @@ use Rattle.ncc_layout.specs.Rules.{ByKind, EndsBy, InWindow, LastWithin, Within}
 use Rattle.ncc_layout.specs.Elements.{var_at, no_var, IsShaped, HasShape}
 use Rattle.ncc_layout.specs.Placed.{file_length_of, record_size_of_file, records_of_file, vars_of, extents_of_file, KeepsRules}
 
-all_at : {A : Type 0} (P : A → Type 0) (xs : List A) (n : ℕ) (d : A) → n < length xs → AllByRecursion P xs → P (get_or xs n d)
+pub all_at : {A : Type 0} (P : A → Type 0) (xs : List A) (n : ℕ) (d : A) → n < length xs → AllByRecursion P xs → P (get_or xs n d)
 all_at P [] n d lt all = absurd (omega (arith, lt))
 all_at P (x ∷ xs) zero d lt all = all.0
 all_at P (x ∷ xs) (suc n) d lt all = all_at P xs n d (omega (arith, lt)) all.1

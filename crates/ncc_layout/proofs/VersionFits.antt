@@ -15,7 +15,7 @@ use Rattle.ncc_layout.specs.declared.fault.SizeError.TheVariants as size_error
 use Rattle.ncc_layout.specs.declared.plan_fault.PlanFault.{PlanFault}
 use Rattle.ncc_layout.specs.declared.size_list.Sizes.{Sizes}
 use Rattle.ncc_layout.specs.Sizes.{rounded, Fit, FirstTooLarge, AreSizes, IsSizes}
-use Rattle.ncc_layout.specs.Standard.{size_limit, standard_from, standard_places, file_length, FitsVersion}
+use Rattle.ncc_layout.specs.Standard.{size_limit, standard_from, standard_places, file_length, FitsVersion, OffsetsFit}
 use Rattle.ncc_layout.specs.Plans.{fixed_end, plan_fault, PlanFails, IsStandard}
 use Rattle.ncc_layout.proofs.OneFault.{fit_take}
 use Rattle.ncc_layout.proofs.StandardPlaces.{length-standard_from, word_is}
@@ -32,7 +32,7 @@ all_mapped P f (x ∷ xs) all = (all.0, all_mapped P f xs all.1)
 
 -- ---- sizes that are too large
 
-not_fit : (s : Schema) (n : ℕ) → FirstTooLarge s n → Fit s.dims s.vars → ⊥
+pub not_fit : (s : Schema) (n : ℕ) → FirstTooLarge s n → Fit s.dims s.vars → ⊥
 not_fit s n first fit = first.here (fit_take s.dims s.vars (n + 1) fit)
 
 pub size_fails : {T : Type 0} (P : T → Type 0) (s : Schema) (records : ℕ) (e : SizeError) (r : Result T PlanFault) → IsErrAnd r (λ f. f ≡ plan_fault e) → IsSizes s (Err e) → MatchResult r P (PlanFails s records)
@@ -82,12 +82,14 @@ places_legal s n (x ∷ vars) words begins = (
   places_legal s (suc n) vars words.1 begins.1,
 )
 
+pub legal_places : (s : Schema) (records : ℕ) → Sound s → FitsVersion s records → OffsetsFit s → Legal s (standard_places s)
+legal_places s records sound fits offsets = record {
+  sound = sound;
+  number = length-standard_from s 0 s.vars;
+  placed = places_legal s 0 s.vars fits.words offsets;
+}
+
 pub standard_legal : (s : Schema) (records : ℕ) (places : List VarPlace) → Sound s → FitsVersion s records → IsStandard s places → AllByRecursion (λ p. p.begin < offset_limit s.version) (places_of places) → Legal s (places_of places)
 standard_legal s records places sound fits standard begins =
-    let offsets : AllByRecursion (λ p. p.begin < offset_limit s.version) (standard_places s) = subst (AllByRecursion (λ p. p.begin < offset_limit s.version)) standard.places_are begins in
-    subst (Legal s) (sym standard.places_are)
-    (record {
-      sound = sound;
-      number = length-standard_from s 0 s.vars;
-      placed = places_legal s 0 s.vars fits.words offsets;
-    })
+    let offsets : OffsetsFit s = subst (AllByRecursion (λ p. p.begin < offset_limit s.version)) standard.places_are begins in
+    subst (Legal s) (sym standard.places_are) (legal_places s records sound fits offsets)

@@ -1,20 +1,15 @@
 -- What the rules of a placed file say of the numbers of a selection.
-use Rattle.std.proofs.Common.{◌≡◌, ℕ, zero, suc, ◌+◌, ◌-◌, ◌*◌, ◌<◌, ◌≤◌, Bool, true, false, cond, List, [], ◌∷◌, length, get_or, drop, refl, sym, ap, subst, ◌∙◌, arith}
-use Rattle.std.specs.Prelude.{filter}
+use Rattle.std.proofs.Common.{◌≡◌, ℕ, zero, suc, ◌+◌, ◌-◌, ◌*◌, ◌<◌, ◌≤◌, Bool, true, false, cond, List, [], ◌∷◌, length, get_or, drop, sym, ap, subst, ◌∙◌, arith}
 use Rattle.std.specs.List.{AllByRecursion}
 use Rattle.std.proofs.Math.Nat.{mul_assoc}
 use Rattle.std.proofs.lemmas.Nat.{mul-le}
 use Rattle.std.proofs.lemmas.Bool.{eq-eqb, ne_eqb}
-use Rattle.std.proofs.lemmas.List.{get_or-map, length-map}
 use Rattle.ncc_values.specs.XType.{size_of}
-use Rattle.ncc_layout.specs.declared.extent.Extent.{Extent}
 use Rattle.ncc_layout.specs.declared.placed_var.PlacedVar.{PlacedVar}
 use Rattle.ncc_layout.specs.declared.placed_file.Placed.{Placed}
 use Rattle.ncc_layout.specs.Sizes.{product}
-use Rattle.ncc_layout.specs.Extents.{end, records_of}
-use Rattle.ncc_layout.specs.Rules.{ByKind, EndsBy, InWindow, LastWithin, Within}
-use Rattle.ncc_layout.specs.Elements.{var_at, no_var, Inside, IsShaped, HasShape, Own}
-use Rattle.ncc_layout.specs.Placed.{header_length_of, file_length_of, record_size_of_file, records_of_file, vars_of, extents_of_file, KeepsRules}
+use Rattle.ncc_layout.specs.Elements.{var_at, no_var, Inside, Own}
+use Rattle.ncc_layout.specs.Placed.{header_length_of, file_length_of, record_size_of_file, vars_of, KeepsRules}
 use Rattle.ncc_layout.proofs.ShapesInFile.{has_first, shape_in_file}
 use Rattle.ncc_slab.specs.declared.slab.Slab.{Slab}
 use Rattle.ncc_slab.specs.Refusals.{along, Fits}
@@ -22,7 +17,8 @@ use Rattle.ncc_slab.specs.Axes.{dot, inner_units, units, units_of, axes_of, time
 use Rattle.ncc_slab.proofs.Counts.{count_below, products_below}
 use Rattle.ncc_slab.proofs.Offsets.{offset_is}
 use Rattle.ncc_slab.proofs.OneAxis.{start_fits}
-use Rattle.ncc_slab.proofs.Whole.{size_positive, element_ends, any_default}
+use Rattle.ncc_slab.proofs.Whole.{element_ends, any_default}
+use Rattle.ncc_values.proofs.ElementsLemmas.{size_of-some}
 
 -- ---- the last element
 
@@ -117,7 +113,7 @@ module _ (p : Placed) (keeps : KeepsRules p) (own : Own (header_length_of p) (fi
   pub count_in_file : product s.count ≤ file_length_of p
   count_in_file =
       let fewer = products_below v.shape s.start s.count s.stride some.fits.starts some.fits.counts some.fits.strides some.fits.each in
-      omega (arith, fewer, shape_in_file p keeps n some.there, mul-le (product v.shape) 1 (product v.shape) (size_of v.xtype) (omega arith) (size_positive v.xtype))
+      omega (arith, fewer, shape_in_file p keeps n some.there, mul-le (product v.shape) 1 (product v.shape) (size_of v.xtype) (omega arith) (size_of-some v.xtype))
 
   -- the same of a fixed variable
   pub fixed_last : v.extent.is_record ≡ false → v.extent.begin + dot (inner_units (size_of v.xtype) v.shape) (last_of s.start s.count s.stride) + size_of v.xtype ≤ file_length_of p

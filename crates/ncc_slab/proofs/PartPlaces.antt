@@ -27,7 +27,7 @@ use Rattle.ncc_slab.proofs.Fitting.{if_none}
 use Rattle.ncc_slab.proofs.Joined.{same_bytes, each_whole, room_some}
 use Rattle.ncc_slab.proofs.Numbers.{numbers_are_there}
 use Rattle.ncc_slab.proofs.ValueParts.{length_whole}
-use Rattle.ncc_slab.proofs.Whole.{size_positive}
+use Rattle.ncc_values.proofs.ElementsLemmas.{size_of-some}
 
 -- ---- the places of a part
 
@@ -127,5 +127,5 @@ count_below_file p keeps n s none =
       arith,
       selects_at_most_all x.shape s parts.1,
       shape_in_file p keeps n there,
-      mul-le (product x.shape) 1 (product x.shape) (size_of x.xtype) (omega arith) (size_positive x.xtype),
+      mul-le (product x.shape) 1 (product x.shape) (size_of x.xtype) (omega arith) (size_of-some x.xtype),
     )

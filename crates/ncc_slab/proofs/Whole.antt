@@ -4,8 +4,7 @@ use Rattle.std.specs.List.{AllByRecursion}
 use Rattle.std.proofs.lemmas.List.{length-take, length-drop}
 use Rattle.std.proofs.lemmas.Bool.{ltb-true}
 use Rattle.ncc_values.specs.XType.{size_of}
-use Rattle.ncc_values.specs.declared.xtype.XType.{XType}
-use Rattle.ncc_values.specs.declared.xtype.XType.TheVariants.{Byte, Char, Short, Int, Float, Double, UByte, UShort, UInt, Int64, UInt64}
+use Rattle.ncc_values.proofs.ElementsLemmas.{size_of-some}
 use Rattle.ncc_layout.specs.declared.placed_var.PlacedVar.{PlacedVar}
 use Rattle.ncc_layout.specs.Elements.{var_at, no_var, place_of, Inside, Element, Own}
 use Rattle.ncc_slab.specs.declared.slab.Slab.{Slab}
@@ -17,27 +16,14 @@ use Rattle.ncc_slab.specs.Refusals.{shape_fault, slab_fault}
 use Rattle.ncc_slab.specs.Laws.{AreWhole}
 use Rattle.ncc_slab.proofs.Fitting.{fits_from, fitting_inside, if_none, pick}
 
-pub size_positive : (t : XType) → 0 < size_of t
-size_positive Byte = omega arith
-size_positive Char = omega arith
-size_positive Short = omega arith
-size_positive Int = omega arith
-size_positive Float = omega arith
-size_positive Double = omega arith
-size_positive UByte = omega arith
-size_positive UShort = omega arith
-size_positive UInt = omega arith
-size_positive Int64 = omega arith
-size_positive UInt64 = omega arith
-
 length_at : (file : List ℕ) (place n : ℕ) → place + n ≤ length file → length (take n (drop place file)) ≡ n
 length_at file place n le = omega (arith, length-take n (drop place file), length-drop place file, le)
 
 pub element_ends : (header file record_size : ℕ) (vars : List PlacedVar) → Own header file record_size vars → (e : Element vars) → place_of record_size e.var e.index + size_of e.var.xtype ≤ file
 element_ends header file record_size vars own e =
     let place = place_of record_size e.var e.index in
-    let last = own.inside e (place + (size_of e.var.xtype - 1)) (omega (arith, size_positive e.var.xtype), omega (arith, size_positive e.var.xtype)) in
-    omega (arith, last.1, size_positive e.var.xtype)
+    let last = own.inside e (place + (size_of e.var.xtype - 1)) (omega (arith, size_of-some e.var.xtype), omega (arith, size_of-some e.var.xtype)) in
+    omega (arith, last.1, size_of-some e.var.xtype)
 
 pub any_default : {A : Type 0} (xs : List A) (n : ℕ) (d e : A) → n < length xs → get_or xs n d ≡ get_or xs n e
 any_default [] n d e lt = absurd (omega (arith, lt))

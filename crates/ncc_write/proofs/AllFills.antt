@@ -1,5 +1,5 @@
 -- Filling slab after slab.
-use Rattle.std.proofs.Common.{◌≡◌, ℕ, ◌+◌, ◌-◌, ◌<◌, ◌≤◌, Bool, true, false, List, [], ◌∷◌, ◌++◌, length, take, drop, Option, Some, Result, Ok, Err, refl, sym, ap, ap₂, subst, ◌∙◌, append_assoc, arith, length-append, length-drop}
+use Rattle.std.proofs.Common.{◌≡◌, ℕ, ◌-◌, ◌<◌, ◌≤◌, Bool, true, false, List, [], ◌∷◌, ◌++◌, length, take, drop, Option, Some, refl, sym, ap, subst, ◌∙◌, append_assoc, arith, length-drop}
 use Rattle.std.specs.Prelude.{◌/◌, ltb, sum_by}
 use Rattle.std.proofs.lemmas.Bool.{ltb-true, ltb-false}
 use Rattle.std.proofs.lemmas.List.{append-nil, take_all, take-append-drop}
@@ -9,11 +9,11 @@ use Rattle.ncc_values.specs.XType.{size_of}
 use Rattle.ncc_values.specs.declared.xtype.XType.{XType}
 use Rattle.ncc_schema.specs.declared.schema.Schema.{Schema}
 use Rattle.ncc_layout.specs.Sizes.{slab}
-use Rattle.ncc_build.specs.Dataset.{Slab, slabs_of, IsDataset}
+use Rattle.ncc_build.specs.Dataset.{Slab, slabs_of}
 use Rattle.ncc_build.specs.Fill.{fills}
-use Rattle.ncc_write.specs.Positions.{IsAt, slab_at}
+use Rattle.ncc_write.specs.Positions.{slab_at}
 use Rattle.ncc_write.specs.Writer.{Stands, Stops}
-use Rattle.ncc_write.specs.Writing.{Standing, Next, Went, IsFront, IsFrontOfFiles, IsWhole, data_length, filled_in, next_of, with_fills, with_more}
+use Rattle.ncc_write.specs.Writing.{Standing, Next, IsFront, IsFrontOfFiles, IsWhole, data_length, filled_in, next_of, with_fills, with_more}
 use Rattle.ncc_write.specs.declared.writer.FileWriter.{FileWriter}
 use Rattle.ncc_write.proofs.Filling.{fills_bytes, filled_at_end, filling_goes_on}
 use Rattle.ncc_write.proofs.Fronts.{front_behind, front_of_front}

@@ -1,57 +1,26 @@
 -- Which slab comes next once one is full.
-use Rattle.std.proofs.Common.{◌≡◌, ℕ, zero, suc, ◌+◌, ◌-◌, ◌*◌, ◌<◌, Bool, true, false, cond, not, List, [], ◌∷◌, ◌++◌, map, length, drop, get_or, Some, refl, sym, ap, subst, ◌∙◌, arith, length-append}
-use Rattle.std.specs.Prelude.{filter, ltb, ◌/◌, ◌%◌, ◌==◌, if◌then◌else◌}
+use Rattle.std.proofs.Common.{◌≡◌, ℕ, zero, suc, ◌+◌, ◌-◌, ◌*◌, ◌<◌, Bool, true, false, cond, not, List, [], ◌∷◌, ◌++◌, length, drop, Some, refl, sym, ap, subst, ◌∙◌, arith, length-append}
+use Rattle.std.specs.Prelude.{filter, ltb, ◌/◌, ◌%◌, if◌then◌else◌}
 use Rattle.std.specs.List.{AllByRecursion, flat_map, range_with_len}
-use Rattle.std.proofs.lemmas.Bool.{ltb-true, ltb-false, lt-ltb, not-true, eqb-false}
+use Rattle.std.proofs.lemmas.Bool.{ltb-true, ltb-false, lt-ltb, not-true}
 use Rattle.std.proofs.lemmas.List.{drop-drop}
-use Rattle.std.proofs.lemmas.List.Elements.{All-from_recursion, recursion_from_All, All-filter, All-append}
-use Rattle.std.proofs.lemmas.Nat.{mul-le}
+use Rattle.std.proofs.lemmas.List.Elements.{All-from_recursion, recursion_from_All, All-append}
 use Rattle.ncc_values.specs.XType.{size_of}
 use Rattle.ncc_values.specs.declared.version.Version.{Version}
 use Rattle.ncc_values.specs.declared.xtype.XType.{XType}
-use Rattle.ncc_values.proofs.ElementsLemmas.{size_of-some}
-use Rattle.ncc_schema.specs.declared.schema.Dim.{Dim}
 use Rattle.ncc_schema.specs.declared.schema.Schema.{Schema}
 use Rattle.ncc_schema.specs.declared.schema.Var.{Var}
-use Rattle.ncc_schema.specs.Schema.{lengths, is_record, starts_with_record, is_record_var, IsFixed, LegalDims, LegalVar, Sound}
+use Rattle.ncc_schema.specs.Schema.{is_record_var, LegalVar, Sound}
 use Rattle.ncc_layout.specs.Plans.{known}
-use Rattle.ncc_layout.specs.Sizes.{product, length_of, inner, slab}
+use Rattle.ncc_layout.specs.Sizes.{slab}
+use Rattle.ncc_layout.proofs.Membership.{all_filter}
+use Rattle.ncc_layout.proofs.Positive.{slab_positive}
 use Rattle.ncc_build.specs.Dataset.{Slab, elements, slabs_from, fixed_slabs, record_slabs, slabs_of}
 use Rattle.ncc_write.specs.Writing.{Next, next_in, next_of, part_in, IsWhole, first_of, fixed_from, record_from, slabs_behind}
 use Rattle.ncc_write.proofs.Ending.{choice, here, next_behind}
 use Rattle.ncc_write.proofs.Growing.{by_size, part_by, filled}
 
 -- ---- no slab is empty
-
-some_length : (n : ℕ) → (n ≡ 0 → ⊥) → 0 < n
-some_length zero h = absurd (h refl)
-some_length (suc n) h = omega arith
-
-one_positive : (dims : List Dim) (d : ℕ) → (get_or (lengths dims) d 1 == 0) ≡ false → d < length dims
-    → 0 < length_of dims d
-one_positive [] d h below = absurd (omega (arith, below))
-one_positive (x ∷ dims) zero h below = some_length x.length (eqb-false x.length 0 h)
-one_positive (x ∷ dims) (suc d) h below = one_positive dims d h (omega (arith, below))
-
-product_positive : (dims : List Dim) (ids : List ℕ) → AllByRecursion (IsFixed dims) ids
-    → 0 < product (map (length_of dims) ids)
-product_positive dims [] all = omega arith
-product_positive dims (d ∷ ids) all = mul-le 1 1 (length_of dims d) (product (map (length_of dims) ids))
-    (one_positive dims d all.0.1 all.0.0) (product_positive dims ids all.1)
-
-first_fixed : (dims : List Dim) (d : ℕ) (ids : List ℕ) (b : Bool) → is_record dims d ≡ b → LegalDims dims (d ∷ ids)
-    → 0 < product (map (length_of dims) (if b then ids else d ∷ ids))
-first_fixed dims d ids true e legal = product_positive dims ids legal.1
-first_fixed dims d ids false e legal = product_positive dims (d ∷ ids) ((legal.0, e), legal.1)
-
-inner_positive : (dims : List Dim) (ids : List ℕ) → LegalDims dims ids
-    → 0 < product (map (length_of dims) (if starts_with_record dims ids then drop 1 ids else ids))
-inner_positive dims [] legal = omega arith
-inner_positive dims (d ∷ ids) legal = first_fixed dims d ids (is_record dims d) refl legal
-
-slab_positive : (dims : List Dim) (x : Var) → LegalDims dims x.dims → 0 < slab dims x
-slab_positive dims x legal = mul-le 1 1 (product (inner dims x)) (size_of x.xtype) (inner_positive dims x.dims legal)
-    (size_of-some x.xtype)
 
 abbrev pub HasBytes : Schema → Slab → Type 0
 HasBytes s b = 0 < slab s.dims b.var
@@ -60,11 +29,6 @@ all_from : (s : Schema) (v : Version) (r n : ℕ) (vars : List Var) → AllByRec
     → AllByRecursion (HasBytes s) (slabs_from r n vars)
 all_from s v r n [] all = tt
 all_from s v r n (x ∷ vars) all = (slab_positive s.dims x all.0.dimids, all_from s v r (suc n) vars all.1)
-
-all_kept : (s : Schema) (p : Slab → Bool) (slabs : List Slab) → AllByRecursion (HasBytes s) slabs
-    → AllByRecursion (HasBytes s) (filter p slabs)
-all_kept s p slabs all = recursion_from_All (HasBytes s) (filter p slabs)
-    (All-filter p (HasBytes s) slabs (All-from_recursion (HasBytes s) slabs all))
 
 all_both : (s : Schema) (a b : List Slab) → AllByRecursion (HasBytes s) a → AllByRecursion (HasBytes s) b
     → AllByRecursion (HasBytes s) (a ++ b)
@@ -76,13 +40,13 @@ all_records : (s : Schema) (start n : ℕ) → Sound s → AllByRecursion (HasBy
 all_records s start zero sound = tt
 all_records s start (suc n) sound =
     all_both s (record_slabs s start) (flat_map (record_slabs s) (range_with_len (start + 1) n))
-    (all_kept s (λ b. is_record_var s.dims b.var) (slabs_from start 0 s.vars)
+    (all_filter (HasBytes s) (λ b. is_record_var s.dims b.var) (slabs_from start 0 s.vars)
     (all_from s s.version start 0 s.vars sound.vars)) (all_records s (start + 1) n sound)
 
 pub none_empty : (s : Schema) → Sound s → AllByRecursion (HasBytes s) (slabs_of s)
 none_empty s sound =
     all_both s (fixed_slabs s) (flat_map (record_slabs s) (range_with_len 0 (known s.count)))
-    (all_kept s (λ b. not (is_record_var s.dims b.var)) (slabs_from 0 0 s.vars)
+    (all_filter (HasBytes s) (λ b. not (is_record_var s.dims b.var)) (slabs_from 0 0 s.vars)
     (all_from s s.version 0 0 s.vars sound.vars)) (all_records s 0 (known s.count) sound)
 
 -- ---- each slab with those behind it

@@ -3,20 +3,21 @@ use Rattle.std.proofs.Common.{◌≡◌, ℕ, zero, suc, ◌+◌, ◌-◌, ◌*�
 use Rattle.std.specs.Prelude.{filter, ltb, ◌/◌, ◌%◌, if◌then◌else◌}
 use Rattle.std.specs.List.{AllByRecursion, flat_map, range_with_len}
 use Rattle.std.proofs.Math.Nat.{add-mul, div-add-mod, mod-lt}
-use Rattle.std.proofs.lemmas.Bool.{lt-ltb, le-ltb, ltb-true, ltb-false}
+use Rattle.std.proofs.lemmas.Bool.{ltb-true, ltb-false}
 use Rattle.std.proofs.lemmas.List.{get_or-append-add, get_or_append_left, get_or-map, length-append, length-map, map-append}
 use Rattle.std.proofs.lemmas.Nat.{mul-le}
 use Rattle.ncc_schema.specs.declared.schema.Schema.{Schema}
 use Rattle.ncc_schema.specs.declared.schema.Var.{Var}
 use Rattle.ncc_schema.specs.Schema.{is_record_var}
 use Rattle.ncc_layout.specs.Plans.{known}
-use Rattle.ncc_build.specs.Dataset.{Slab, slabs_from, fixed_slabs, record_slabs, slabs_of}
+use Rattle.ncc_build.specs.Dataset.{Slab, slabs_from, fixed_slabs, record_slabs}
 use Rattle.ncc_write.specs.declared.course.Course.{Course}
 use Rattle.ncc_write.specs.declared.turn.Turn.{Turn}
 use Rattle.ncc_write.specs.Positions.{no_slab, slab_at}
-use Rattle.ncc_write.specs.Turns.{IsCourse, no_turn, turn_for, turn_number, turn_at, record_at}
-use Rattle.ncc_write.proofs.Positions.{all_at}
-use Rattle.ncc_write.proofs.Rounds.{all_kept, length_rounds, number_of_slabs, round_length}
+use Rattle.ncc_write.specs.Turns.{IsCourse, no_turn, turn_for, turn_at, record_at}
+use Rattle.ncc_layout.proofs.Membership.{all_filter}
+use Rattle.ncc_layout.proofs.ShapesInFile.{all_at}
+use Rattle.ncc_write.proofs.Rounds.{number_of_slabs, round_length}
 
 -- ---- one record as another
 
@@ -67,7 +68,7 @@ fixed_turn s k less =
     let behind = flat_map (record_slabs s) (range_with_len 0 (known s.count)) in
     let here : slab_at s k ≡ get_or (fixed_slabs s) k no_slab = get_or_append_left (fixed_slabs s) behind no_slab k less in
     let room : k < length (fixed_slabs s ++ record_slabs s 0) = omega (arith, less, length-append (fixed_slabs s) (record_slabs s 0)) in
-    let all = all_kept (λ b. b.in_record ≡ 0) (λ b. not (is_record_var s.dims b.var)) (slabs_from 0 0 s.vars) (all_in_record 0 0 s.vars) in
+    let all = all_filter (λ b. b.in_record ≡ 0) (λ b. not (is_record_var s.dims b.var)) (slabs_from 0 0 s.vars) (all_in_record 0 0 s.vars) in
     record {
       turn = get_or-map (turn_for s) (fixed_slabs s ++ record_slabs s 0) k no_slab no_turn room
           ∙ ap (turn_for s) (get_or_append_left (fixed_slabs s) (record_slabs s 0) no_slab k less ∙ sym here);
@@ -83,7 +84,7 @@ round_turn s i m less room =
     let here : slab_at s (length (fixed_slabs s) + (i * size + m)) ≡ get_or (record_slabs s i) m no_slab =
     get_or-append-add (fixed_slabs s) behind (i * size + m) no_slab ∙ rounds_at s 0 (known s.count) i m less room ∙ ap (λ (r : ℕ). get_or (record_slabs s r) m no_slab) none in
     let there : m < length (record_slabs s i) = omega (arith, room, round_length s i, round_length s 0) in
-    let all = all_kept (λ b. b.in_record ≡ i) (λ b. is_record_var s.dims b.var) (slabs_from i 0 s.vars) (all_in_record i 0 s.vars) in
+    let all = all_filter (λ b. b.in_record ≡ i) (λ b. is_record_var s.dims b.var) (slabs_from i 0 s.vars) (all_in_record i 0 s.vars) in
     record {
       turn = ap (λ (l : List Turn). get_or l (length (fixed_slabs s) + m) no_turn) (map-append (turn_for s) (fixed_slabs s) (record_slabs s 0))
           ∙ ap (λ (k : ℕ). get_or (map (turn_for s) (fixed_slabs s) ++ map (turn_for s) (record_slabs s 0)) (k + m) no_turn) (sym (length-map (fixed_slabs s) (turn_for s)))

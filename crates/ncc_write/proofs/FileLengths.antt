@@ -1,5 +1,5 @@
 -- How long a file is.
-use Rattle.std.proofs.Common.{◌≡◌, ℕ, suc, ◌+◌, ◌*◌, Bool, true, false, cond, not, List, [], ◌∷◌, ◌++◌, map, length, refl, sym, ap, ap₂, ◌∙◌, arith, length-append}
+use Rattle.std.proofs.Common.{◌≡◌, ℕ, ◌+◌, ◌*◌, Bool, true, false, cond, not, List, [], ◌∷◌, ◌++◌, map, length, refl, sym, ap, ap₂, ◌∙◌, arith, length-append}
 use Rattle.std.specs.Prelude.{filter, sum_by, ◌==◌, ◌&&◌}
 use Rattle.std.specs.List.{AllByRecursion, flat_map}
 use Rattle.std.proofs.lemmas.Bool.{eqb-true, ne_eqb, not-true}
@@ -14,22 +14,19 @@ use Rattle.ncc_schema.specs.Schema.{is_record_var}
 use Rattle.ncc_schema.specs.Names.{no_place, header_length, unplaced}
 use Rattle.ncc_schema.proofs.Sizes.{length-canon}
 use Rattle.ncc_layout.specs.Sizes.{up, slab, rounded, record_vars, record_sum, record_bytes, record_size_of}
-use Rattle.ncc_layout.specs.Standard.{standard_from, standard_places, fixed_sum, file_length}
+use Rattle.ncc_layout.specs.Standard.{standard_places, fixed_sum, file_length}
 use Rattle.ncc_layout.specs.Plans.{known}
 use Rattle.ncc_build.specs.Dataset.{fixed_vars, Dataset, AreSlabsOf, IsDataset}
 use Rattle.ncc_build.specs.File.{padding_in, padding_bytes, header_of, file_of}
+use Rattle.ncc_layout.proofs.StandardPlaces.{length-standard_from}
 use Rattle.ncc_write.proofs.Slabs.{length_slab}
 use Rattle.ncc_write.proofs.Parts.{with_padding, in_turn, one_record, fixed_part, records_part, file_parts}
 use Rattle.ncc_write.proofs.Paddings.{padding_by, length_padding}
 
 -- ---- the header
 
-pub length_standard : (s : Schema) (n : ℕ) (vars : List Var) → length (standard_from s n vars) ≡ length vars
-length_standard s n [] = refl
-length_standard s n (x ∷ vars) = ap suc (length_standard s (suc n) vars)
-
 pub length_header : (s : Schema) → length (header_of s) ≡ header_length s
-length_header s = length-canon s (standard_places s) (length_standard s 0 s.vars)
+length_header s = length-canon s (standard_places s) (length-standard_from s 0 s.vars)
     ∙ sym (length-canon s (unplaced s.vars) (length-map s.vars (λ x. no_place)))
 
 -- ---- slabs one behind the other

@@ -1,5 +1,5 @@
 -- The attribute that gives a fill value, and the value.
-use Rattle.std.proofs.Common.{◌≡◌, ℕ, suc, ◌+◌, ◌*◌, ◌<◌, Bool, true, false, cond, ◌&&◌, eqb, List, [], ◌∷◌, length, get_or, take, drop, Option, Some, refl, sym, ap, ◌∙◌, add-one, drop-cons, arith}
+use Rattle.std.proofs.Common.{◌≡◌, ℕ, suc, ◌+◌, ◌*◌, ◌<◌, Bool, true, false, cond, ◌&&◌, eqb, List, ◌∷◌, length, get_or, take, drop, Some, refl, sym, ap, ◌∙◌, add-one, drop-cons, arith}
 use Rattle.std.specs.Prelude.{◌==◌}
 use Rattle.std.specs.Cmp.Lexicographic.{pointwise}
 use Rattle.std.proofs.lemmas.Bool.{eq-eqb}
@@ -11,13 +11,8 @@ use Rattle.ncc_values.specs.declared.values.Values.{Values}
 use Rattle.ncc_values.specs.declared.xtype.XType.{XType}
 use Rattle.ncc_values.proofs.ValuesLemmas.{length-bytes_of}
 use Rattle.ncc_schema.specs.declared.schema.Attr.{Attr}
-use Rattle.ncc_build.specs.Fill.{same, same_type, named, fill_by}
-
-same_is : (xs ys : List ℕ) → pointwise eqb xs ys ≡ same xs ys
-same_is [] [] = refl
-same_is [] (y ∷ ys) = refl
-same_is (x ∷ xs) [] = refl
-same_is (x ∷ xs) (y ∷ ys) = ap (λ (b : Bool). eqb x y && b) (same_is xs ys)
+use Rattle.ncc_build.specs.Fill.{same_type, named, fill_by}
+use Rattle.ncc_build.proofs.Tables.{same_is}
 
 next_item : {A : Type 0} (xs : List A) (i : ℕ) (x d : A) → i < length xs → x ≡ get_or xs i d → drop i xs ≡ x ∷ drop (i + 1) xs
 next_item {A = A} xs i x d h e = rw (add-one, drop-cons xs i d) (ap (λ (y : A). y ∷ drop (suc i) xs) (sym e))

@@ -19,7 +19,7 @@ use Rattle.ncc_build.specs.Dataset.{fixed_vars, Dataset, IsDataset}
 use Rattle.ncc_build.specs.File.{file_of}
 use Rattle.ncc_write.specs.Holds.{bytes_at, no_slab, before, vars_of, value_at, stored_at, HoldsValues}
 use Rattle.ncc_write.proofs.Slabs.{length_slab}
-use Rattle.ncc_write.proofs.FileLengths.{length_standard}
+use Rattle.ncc_layout.proofs.StandardPlaces.{length-standard_from}
 use Rattle.ncc_write.proofs.Pieces.{split_at, read_in}
 use Rattle.ncc_write.proofs.SlabPlaces.{Placed, fixed_placed, record_placed}
 use Rattle.ncc_write.proofs.Indices.{row_below, var_placed, standard_split}
@@ -109,7 +109,7 @@ module _ (d : Dataset) (is : IsDataset d) (front : List Var) (x : Var) (after : 
       (suc (0 + n)) after = ap (standard_from s 0) joined ∙ standard_split s 0 front x after in
       ap₂ (λ (vars : List Var) (l : List Place). var_at (placed_from s.dims (known s.count) 0 vars l) n) joined places
       ∙ var_placed s.dims (known s.count) 0 front x after (standard_from s 0 front) (standard_place s (0 + n) x)
-      (standard_from s (suc (0 + n)) after) (sym (length_standard s 0 front))
+      (standard_from s (suc (0 + n)) after) (sym (length-standard_from s 0 front))
       ∙ ap (λ (m : ℕ). placed_var s.dims (known s.count) m x (standard_place s m x)) none
 
   pub kept : Kept (var_at (vars_of d (standard_places s)) n)

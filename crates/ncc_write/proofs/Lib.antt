@@ -34,3 +34,4 @@ mod Passing
 mod Completing
 mod Behind
 mod Filling
+mod Pages

@@ -1,25 +1,23 @@
 -- From one position to the next.
-use Rattle.std.proofs.Common.{◌≡◌, ℕ, zero, suc, ◌+◌, ◌-◌, ◌*◌, ◌<◌, ◌≤◌, not, List, [], ◌∷◌, ◌++◌, length, take, drop, get_or, Option, Some, None, refl, sym, ap, subst, ◌∙◌, arith}
-use Rattle.std.specs.Prelude.{Bool, ltb, sum_by, ◌/◌}
-use Rattle.std.specs.List.{AllByRecursion, flat_map, range_with_len}
+use Rattle.std.proofs.Common.{◌≡◌, ℕ, zero, suc, ◌+◌, ◌-◌, ◌*◌, ◌<◌, ◌≤◌, List, [], ◌∷◌, length, take, get_or, Some, None, refl, sym, ap, ◌∙◌, arith}
+use Rattle.std.specs.Prelude.{Bool, sum_by, ◌/◌}
 use Rattle.std.proofs.Math.Nat.{add-mul}
-use Rattle.std.proofs.lemmas.Bool.{lt-ltb, le-ltb}
+use Rattle.std.proofs.lemmas.Bool.{lt-ltb}
 use Rattle.std.proofs.lemmas.List.{take_all, take_more}
 use Rattle.std.proofs.lemmas.List.Sums.{sum_by-append, sum_by-cons}
 use Rattle.std.proofs.lemmas.Nat.{mul-le}
 use Rattle.ncc_values.specs.XType.{size_of}
 use Rattle.ncc_values.specs.declared.xtype.XType.{XType}
 use Rattle.ncc_schema.specs.declared.schema.Schema.{Schema}
-use Rattle.ncc_schema.specs.declared.schema.Var.{Var}
-use Rattle.ncc_schema.specs.Schema.{is_record_var, Sound}
-use Rattle.ncc_layout.specs.Plans.{known}
+use Rattle.ncc_schema.specs.Schema.{Sound}
 use Rattle.ncc_layout.specs.Sizes.{slab}
-use Rattle.ncc_build.specs.Dataset.{Slab, elements, slabs_from, fixed_slabs, record_slabs, slabs_of}
+use Rattle.ncc_build.specs.Dataset.{Slab, elements, slabs_of}
 use Rattle.ncc_write.specs.Positions.{IsAt, no_slab, slab_at, end_of}
-use Rattle.ncc_write.specs.Writing.{Next, next_in, next_of, data_length}
+use Rattle.ncc_write.specs.Writing.{next_in, next_of, data_length}
+use Rattle.ncc_write.proofs.Behind.{HasBytes, none_empty}
 use Rattle.ncc_write.proofs.Ending.{choice, here, next_behind, ends_when_filled}
 use Rattle.ncc_write.proofs.Growing.{by_size}
-use Rattle.ncc_write.proofs.Rounds.{all_kept, have_bytes}
+use Rattle.ncc_layout.proofs.ShapesInFile.{all_at}
 
 -- ---- sums of sizes
 
@@ -41,11 +39,11 @@ LeftIs w = (e n left : ℕ) → n + left * w ≡ e * w → (e * w - n) / w ≡ l
 left_is : (t : XType) → LeftIs (size_of t)
 left_is t = by_size LeftIs (λ e n left is. omega (arith, is)) (λ e n left is. omega (arith, is)) (λ e n left is. omega (arith, is)) (λ e n left is. omega (arith, is)) t
 
-abbrev HasBytes : ℕ → Type 0
-HasBytes w = (left : ℕ) → 0 < left → 0 < left * w
+abbrev HasSome : ℕ → Type 0
+HasSome w = (left : ℕ) → 0 < left → 0 < left * w
 
-has_bytes : (t : XType) → HasBytes (size_of t)
-has_bytes t = by_size HasBytes (λ left some. omega (arith, some)) (λ left some. omega (arith, some)) (λ left some. omega (arith, some)) (λ left some. omega (arith, some)) t
+has_some : (t : XType) → HasSome (size_of t)
+has_some t = by_size HasSome (λ left some. omega (arith, some)) (λ left some. omega (arith, some)) (λ left some. omega (arith, some)) (λ left some. omega (arith, some)) t
 
 abbrev NextAt : Schema → List Slab → (number : ℕ) → Type 0
 NextAt s slabs k = (left n : ℕ) → k < length slabs → 0 < left → left ≤ elements s.dims (get_or slabs k no_slab).var
@@ -56,7 +54,7 @@ first_next : (s : Schema) (b : Slab) (slabs : List Slab) → NextAt s (b ∷ sla
 first_next s b slabs left n less some most is =
     let t = b.var.xtype in
     let end : n + left * size_of t ≡ elements s.dims b.var * size_of t = omega (arith, is, sum_by-cons (size_in s) b []) in
-    let room : n < slab s.dims b.var = omega (arith, end, has_bytes t left some) in
+    let room : n < slab s.dims b.var = omega (arith, end, has_some t left some) in
     ap (λ (f : Bool). choice f (here s b n) (next_in s slabs (n - slab s.dims b.var))) (lt-ltb n (slab s.dims b.var) room)
     ∙ ap (λ (m : ℕ). Some (record { slab = b; left = m })) (left_is t (elements s.dims b.var) n left end)
 
@@ -87,43 +85,14 @@ module _ (s : Schema) (taken : List ℕ) (k left : ℕ) (at : IsAt s (length tak
 
 -- ---- each slab has an element
 
-all_from : (P : Var → Type 0) (r n : ℕ) (vars : List Var) → AllByRecursion P vars → AllByRecursion (λ b. P b.var) (slabs_from r n vars)
-all_from P r n [] all = tt
-all_from P r n (x ∷ vars) all = (all.0, all_from P r (suc n) vars all.1)
-
-all_both : {A : Type 0} (P : A → Type 0) (xs ys : List A) → AllByRecursion P xs → AllByRecursion P ys → AllByRecursion P (xs ++ ys)
-all_both P [] ys a b = b
-all_both P (x ∷ xs) ys a b = (a.0, all_both P xs ys a.1 b)
-
-pub all_at : {A : Type 0} (P : A → Type 0) (xs : List A) (n : ℕ) (d : A) → n < length xs → AllByRecursion P xs → P (get_or xs n d)
-all_at P [] n d lt all = absurd (omega (arith, lt))
-all_at P (x ∷ xs) zero d lt all = all.0
-all_at P (x ∷ xs) (suc n) d lt all = all_at P xs n d (omega (arith, lt)) all.1
-
-abbrev HasSlab : Schema → Slab → Type 0
-HasSlab s b = 0 < slab s.dims b.var
-
-module _ (s : Schema) (sound : Sound s) where
-  in_variables : (r : ℕ) → AllByRecursion (HasSlab s) (slabs_from r 0 s.vars)
-  in_variables r = all_from (λ x. 0 < slab s.dims x) r 0 s.vars (have_bytes s sound)
-
-  in_rounds : (start n : ℕ) → AllByRecursion (HasSlab s) (flat_map (record_slabs s) (range_with_len start n))
-  in_rounds start zero = tt
-  in_rounds start (suc n) =
-      all_both (HasSlab s) (record_slabs s start) (flat_map (record_slabs s) (range_with_len (start + 1) n))
-      (all_kept (HasSlab s) (λ b. is_record_var s.dims b.var) (slabs_from start 0 s.vars) (in_variables start)) (in_rounds (start + 1) n)
-
-  in_all : AllByRecursion (HasSlab s) (slabs_of s)
-  in_all =
-      all_both (HasSlab s) (fixed_slabs s) (flat_map (record_slabs s) (range_with_len 0 (known s.count)))
-      (all_kept (HasSlab s) (λ b. not (is_record_var s.dims b.var)) (slabs_from 0 0 s.vars) (in_variables 0)) (in_rounds 0 (known s.count))
-
-  pub has_elements : (k : ℕ) → k < length (slabs_of s) → 0 < elements s.dims (slab_at s k).var
-  has_elements k less = some (elements s.dims (slab_at s k).var) (size_of (slab_at s k).var.xtype) (all_at (HasSlab s) (slabs_of s) k no_slab less in_all)
-    where
-      some : (e w : ℕ) → 0 < e * w → 0 < e
-      some zero w h = absurd (omega (arith, h))
-      some (suc e) w h = omega arith
+pub has_elements : (s : Schema) → Sound s → (k : ℕ) → k < length (slabs_of s) → 0 < elements s.dims (slab_at s k).var
+has_elements s sound k less =
+    some (elements s.dims (slab_at s k).var) (size_of (slab_at s k).var.xtype)
+    (all_at (HasBytes s) (slabs_of s) k no_slab less (none_empty s sound))
+  where
+    some : (e w : ℕ) → 0 < e * w → 0 < e
+    some zero w h = absurd (omega (arith, h))
+    some (suc e) w h = omega arith
 
 -- ---- from one position to the next
 

@@ -1,11 +1,9 @@
 -- Hyperslabs of a file that was completed.
-use Rattle.std.proofs.Common.{◌≡◌, ℕ, suc, ◌<◌, ◌≤◌, Bool, true, false, List, [], ◌∷◌, ◌++◌, map, length, Option, Some, None, Ok, refl, sym, ap, ap₂, subst, ◌∙◌, arith}
+use Rattle.std.proofs.Common.{◌≡◌, ℕ, suc, ◌<◌, ◌≤◌, Bool, true, false, List, [], ◌∷◌, ◌++◌, length, Some, None, Ok, refl, sym, ap, ap₂, subst, ◌∙◌, arith}
 use Rattle.std.specs.Prelude.{ltb, ◌↔◌, if◌then◌else◌}
 use Rattle.std.specs.List.{AllByRecursion, flat_map}
 use Rattle.std.proofs.lemmas.Bool.{ltb-true, lt-ltb}
 use Rattle.ncc_values.specs.Values.{values_of}
-use Rattle.ncc_values.specs.declared.seq.Seq.{Seq}
-use Rattle.ncc_values.specs.declared.values.Values.{Values}
 use Rattle.ncc_schema.specs.declared.schema.Count.{Count}
 use Rattle.ncc_schema.specs.declared.schema.Count.TheVariants.{Known, Streaming}
 use Rattle.ncc_schema.specs.declared.schema.Dim.{Dim}
@@ -23,21 +21,18 @@ use Rattle.ncc_layout.specs.Sizes.{record_size_of}
 use Rattle.ncc_layout.specs.Standard.{standard_places}
 use Rattle.ncc_layout.specs.declared.placed_file.Placed.{Placed}
 use Rattle.ncc_layout.specs.declared.placed_var.PlacedVar.{PlacedVar}
-use Rattle.ncc_check.specs.Checks.{Checks, Opens, Refuses}
+use Rattle.ncc_check.specs.Checks.{Checks, Opens}
 use Rattle.ncc_check.specs.Faults.{Fails}
-use Rattle.ncc_check.specs.Notes.{AreNotes}
 use Rattle.ncc_check.specs.Passes.{Passes}
 use Rattle.ncc_check.specs.declared.fault.FileFault.{FileFault}
-use Rattle.ncc_check.specs.declared.note.Note.{Note}
 use Rattle.ncc_check.specs.declared.report.Report.{Report}
 use Rattle.ncc_slab.specs.Laws.{SelectedIsInside, RefusedUnlessItFits}
 use Rattle.ncc_slab.specs.Refusals.{shape_fault, slab_fault, FitsIn}
 use Rattle.ncc_slab.specs.Selected.{Selected, element_bytes}
 use Rattle.ncc_slab.specs.Selection.{indices_of}
-use Rattle.ncc_slab.specs.declared.fault.SlabFault.{SlabFault}
 use Rattle.ncc_slab.specs.declared.fault.SlabFault.TheVariants.{NoVariable}
 use Rattle.ncc_slab.specs.declared.slab.Slab.{Slab}
-use Rattle.ncc_build.specs.Dataset.{Dataset, IsDataset}
+use Rattle.ncc_build.specs.Dataset.{Dataset}
 use Rattle.ncc_write.specs.Headline.{PassesAndReads, ReadsBack, written_values}
 use Rattle.ncc_write.specs.Holds.{HoldsValues, vars_of as dataset_vars, value_at}
 use Rattle.ncc_write.specs.Laws.{IsCompleted, PassesUnnoted}
@@ -103,30 +98,30 @@ pub record Laws : Type 0 where
 
 module _ (laws : Laws) (s : Schema) (taken file : List ℕ) (limit : ℕ) (done : IsCompleted s taken file) (passes : PassesUnnoted file limit s) where
   abbrev h : Header
-  h = passes.header
+  h = passes.passes_as.header
 
   -- the report without a note
   abbrev report : Report
   report = record { version = h.schema.version; records = record_count h.schema (places_of h.places) (length file); variables = length h.schema.vars; notes = [] }
 
   right : Checks file limit (Ok report)
-  right = (h, passes.passes, record { version_is = refl; records_are = refl; variables_are = refl; notes_are = passes.unnoted })
+  right = (h, passes.passes_as.passes, record { version_is = refl; records_are = refl; variables_are = refl; notes_are = passes.unnoted })
 
   module _ (t : Schema) (p : Placed) (opened : Opens file limit t p) where
     same : opened.header ≡ h
-    same = laws.one_header file limit opened.header h opened.passes.begins passes.passes.begins
+    same = laws.one_header file limit opened.header h opened.passes.begins passes.passes_as.passes.begins
 
     schema_is : t ≡ s
-    schema_is = opened.schema_is ∙ ap (λ (k : Header). k.schema) same ∙ passes.schema_is
+    schema_is = opened.schema_is ∙ ap (λ (k : Header). k.schema) same ∙ passes.passes_as.schema_is
 
     size_is : record_size_of_file p ≡ record_size_of s
-    size_is = opened.placed_is.size_is ∙ ap (λ (k : Header). record_size_of k.schema) same ∙ ap record_size_of passes.schema_is
+    size_is = opened.placed_is.size_is ∙ ap (λ (k : Header). record_size_of k.schema) same ∙ ap record_size_of passes.passes_as.schema_is
 
     vars_are : vars_of p ≡ placed_vars s (standard_places s) (length file)
     vars_are =
         opened.placed_is.vars_are
         ∙ ap (λ (k : Header). placed_vars k.schema (places_of k.places) (length file)) same
-        ∙ ap₂ (λ (u : Schema) (q : List Place). placed_vars u q (length file)) passes.schema_is passes.places_are
+        ∙ ap₂ (λ (u : Schema) (q : List Place). placed_vars u q (length file)) passes.passes_as.schema_is passes.passes_as.places_are
 
     with_known : placed_vars s (standard_places s) (length file) ≡ dataset_vars (dataset_of s taken) (standard_places s)
     with_known = ap (placed_with s (standard_places s)) (count_is (record_size_of s) (length file) (extents_of s (standard_places s)) s.count done.dataset.counted)
@@ -142,13 +137,13 @@ module _ (laws : Laws) (s : Schema) (taken file : List ℕ) (limit : ℕ) (done 
     unnoted = λ r checked.
         let same : r ≡ report = laws.one_report file limit r report checked right in
         record {
-          version = ap (λ (q : Report). q.version) same ∙ ap (λ (u : Schema). u.version) passes.schema_is;
-          records = ap (λ (q : Report). q.records) same ∙ ap₂ (λ (u : Schema) (q : List Place). record_count u q (length file)) passes.schema_is passes.places_are
+          version = ap (λ (q : Report). q.version) same ∙ ap (λ (u : Schema). u.version) passes.passes_as.schema_is;
+          records = ap (λ (q : Report). q.records) same ∙ ap₂ (λ (u : Schema) (q : List Place). record_count u q (length file)) passes.passes_as.schema_is passes.passes_as.places_are
               ∙ count_is (record_size_of s) (length file) (extents_of s (standard_places s)) s.count done.dataset.counted;
-          variables = ap (λ (q : Report). q.variables) same ∙ ap (λ (u : Schema). length u.vars) passes.schema_is;
+          variables = ap (λ (q : Report). q.variables) same ∙ ap (λ (u : Schema). length u.vars) passes.passes_as.schema_is;
           notes = ap (λ (q : Report). q.notes) same;
         };
-    no_fault = λ f fails. laws.no_fault file limit f (h, passes.passes) fails;
+    no_fault = λ f fails. laws.no_fault file limit f (h, passes.passes_as.passes) fails;
     schema = λ t p opened. schema_is t p opened;
     reads = λ t p opened. back t p opened;
   }

@@ -1,22 +1,21 @@
 -- The slabs of a schema, round after round.
-use Rattle.std.proofs.Common.{◌≡◌, ℕ, zero, suc, ◌+◌, ◌-◌, ◌*◌, ◌<◌, ◌≤◌, Bool, true, false, cond, not, ◌&&◌, List, [], ◌∷◌, ◌++◌, map, length, take, drop, get_or, refl, sym, ap, ap₂, subst, ◌∙◌, arith, add-one, drop-cons}
+use Rattle.std.proofs.Common.{◌≡◌, ℕ, zero, suc, ◌+◌, ◌*◌, ◌<◌, ◌≤◌, Bool, true, false, cond, not, List, [], ◌∷◌, map, length, refl, sym, ap, ◌∙◌, arith}
 use Rattle.std.specs.Prelude.{filter}
 use Rattle.std.specs.List.{AllByRecursion, flat_map, range_with_len}
-use Rattle.std.specs.Prelude.{sum_by, ◌==◌, ◌^◌}
+use Rattle.std.specs.Prelude.{sum_by, ◌^◌}
 use Rattle.std.proofs.lemmas.List.{length-append, length-map}
 use Rattle.std.proofs.lemmas.List.Sums.{sum_by-cons}
 use Rattle.std.proofs.lemmas.Nat.{mul-le}
-use Rattle.ncc_values.specs.XType.{size_of}
 use Rattle.ncc_values.specs.declared.version.Version.{Version}
-use Rattle.ncc_values.specs.declared.xtype.XType.{XType}
-use Rattle.ncc_values.specs.declared.xtype.XType.TheVariants.{Byte, Char, Short, Int, Float, Double, UByte, UShort, UInt, Int64, UInt64}
 use Rattle.ncc_schema.specs.declared.schema.Dim.{Dim}
 use Rattle.ncc_schema.specs.declared.schema.Schema.{Schema}
 use Rattle.ncc_schema.specs.declared.schema.Var.{Var}
-use Rattle.ncc_schema.specs.Schema.{is_record, is_record_var, starts_with_record, lengths, IsFixed, LegalDims, LegalVar, Sound}
-use Rattle.ncc_layout.specs.Sizes.{inner, length_of, product, slab, rounded, up, record_vars, record_bytes, record_slabs as slab_sizes, record_size_of}
+use Rattle.ncc_schema.specs.Schema.{is_record_var, LegalVar, Sound}
+use Rattle.ncc_layout.specs.Sizes.{slab, rounded, up, record_vars, record_bytes, record_size_of}
 use Rattle.ncc_layout.specs.Standard.{fixed_sum, FitsVersion}
 use Rattle.ncc_layout.specs.Plans.{known}
+use Rattle.ncc_layout.proofs.Membership.{all_filter}
+use Rattle.ncc_layout.proofs.Positive.{slab_positive}
 use Rattle.ncc_build.specs.Dataset.{Slab, slabs_from, fixed_vars, fixed_slabs, record_slabs, slabs_of}
 use Rattle.ncc_write.specs.Turns.{slabs_of_kind}
 use Rattle.ncc_write.proofs.Slabs.{vars_of_fixed, vars_of_record}
@@ -51,49 +50,6 @@ pub number_of_slabs : (s : Schema) → length (slabs_of s) ≡ length (fixed_sla
 number_of_slabs s =
     length-append (fixed_slabs s) (flat_map (record_slabs s) (range_with_len 0 (known s.count))) ∙ ap (λ (n : ℕ). length (fixed_slabs s) + n) (length_rounds s 0 (known s.count))
 
--- ---- each slab has a byte
-
-size_positive : (t : XType) → 0 < size_of t
-size_positive Byte = omega arith
-size_positive Char = omega arith
-size_positive Short = omega arith
-size_positive Int = omega arith
-size_positive Float = omega arith
-size_positive Double = omega arith
-size_positive UByte = omega arith
-size_positive UShort = omega arith
-size_positive UInt = omega arith
-size_positive Int64 = omega arith
-size_positive UInt64 = omega arith
-
-not_zero : (n : ℕ) → (n == 0) ≡ false → 0 < n
-not_zero zero is = absurd (cc is)
-not_zero (suc n) is = omega arith
-
-any_default : (xs : List ℕ) (n d e : ℕ) → n < length xs → get_or xs n d ≡ get_or xs n e
-any_default [] n d e lt = absurd (omega (arith, lt))
-any_default (x ∷ xs) zero d e lt = refl
-any_default (x ∷ xs) (suc n) d e lt = any_default xs n d e (omega (arith, lt))
-
-product_positive : (dims : List Dim) (ns : List ℕ) → AllByRecursion (IsFixed dims) ns → 0 < product (map (length_of dims) ns)
-product_positive dims [] all = omega arith
-product_positive dims (n ∷ ns) all =
-    let here : 0 < length_of dims n = omega (arith, not_zero (get_or (lengths dims) n 1) all.0.1, any_default (lengths dims) n 0 1 (omega (arith, all.0.0, length-map dims (λ (d : Dim). d.length)))) in
-    omega (arith, mul-le 1 1 (length_of dims n) (product (map (length_of dims) ns)) here (product_positive dims ns all.1))
-
-by_first : (dims : List Dim) (n : ℕ) (ns : List ℕ) (b : Bool) → is_record dims n ≡ b → n < length dims → AllByRecursion (IsFixed dims) ns → AllByRecursion (IsFixed dims) (cond b ns (n ∷ ns))
-by_first dims n ns true is less all = all
-by_first dims n ns false is less all = ((less, is), all)
-
-inner_fixed : (dims : List Dim) (ns : List ℕ) → LegalDims dims ns → AllByRecursion (IsFixed dims) (cond (starts_with_record dims ns) (drop 1 ns) ns)
-inner_fixed dims [] legal = tt
-inner_fixed dims (n ∷ ns) legal = by_first dims n ns (is_record dims n) refl legal.0 legal.1
-
-pub slab_positive : (v : Version) (dims : List Dim) (x : Var) → LegalVar v dims x → 0 < slab dims x
-slab_positive v dims x legal =
-    let some = product_positive dims (cond (is_record_var dims x) (drop 1 x.dims) x.dims) (inner_fixed dims x.dims legal.dimids) in
-    omega (arith, mul-le 1 1 (product (inner dims x)) (size_of x.xtype) some (size_positive x.xtype))
-
 -- ---- they are numbers of 64 bits
 
 sum_kept : {A : Type 0} (f : A → ℕ) (x : A) (xs : List A) (b : Bool) → 0 < f x → length xs ≤ sum_by f xs → length (cond b (x ∷ xs) xs) ≤ sum_by f (cond b (x ∷ xs) xs)
@@ -103,14 +59,6 @@ sum_kept f x xs false some rest = rest
 sum_above : {A : Type 0} (f : A → ℕ) (p : A → Bool) (xs : List A) → AllByRecursion (λ x. 0 < f x) xs → length (filter p xs) ≤ sum_by f (filter p xs)
 sum_above f p [] all = omega arith
 sum_above f p (x ∷ xs) all = sum_kept f x (filter p xs) (p x) all.0 (sum_above f p xs all.1)
-
-pub all_kept : {A : Type 0} (P : A → Type 0) (p : A → Bool) (xs : List A) → AllByRecursion P xs → AllByRecursion P (filter p xs)
-all_kept P p [] all = tt
-all_kept P p (x ∷ xs) all = one (p x) (all_kept P p xs all.1)
-  where
-    one : (b : Bool) → AllByRecursion P (filter p xs) → AllByRecursion P (cond b (x ∷ filter p xs) (filter p xs))
-    one true rest = (all.0, rest)
-    one false rest = rest
 
 all_legal : (Q : Var → Type 0) (v : Version) (dims : List Dim) → ((x : Var) → LegalVar v dims x → Q x) → (vars : List Var) → AllByRecursion (LegalVar v dims) vars → AllByRecursion Q vars
 all_legal Q v dims f [] all = tt
@@ -130,12 +78,12 @@ all_sizes dims [] all = tt
 all_sizes dims (x ∷ vars) all = (all.0, all_sizes dims vars all.1)
 
 pub have_bytes : (s : Schema) → Sound s → AllByRecursion (λ x. 0 < slab s.dims x) s.vars
-have_bytes s sound = all_legal (λ x. 0 < slab s.dims x) s.version s.dims (slab_positive s.version s.dims) s.vars sound.vars
+have_bytes s sound = all_legal (λ x. 0 < slab s.dims x) s.version s.dims (λ x legal. slab_positive s.dims x legal.dimids) s.vars sound.vars
 
 module _ (s : Schema) (n : ℕ) (sound : Sound s) (fits : FitsVersion s n) where
   fixed_below : length (fixed_slabs s) ≤ fixed_sum s.dims s.vars
   fixed_below =
-      let each : AllByRecursion (λ x. 0 < rounded s.dims x) s.vars = all_legal (λ x. 0 < rounded s.dims x) s.version s.dims (λ x legal. omega (arith, slab_positive s.version s.dims x legal)) s.vars sound.vars in
+      let each : AllByRecursion (λ x. 0 < rounded s.dims x) s.vars = all_legal (λ x. 0 < rounded s.dims x) s.version s.dims (λ x legal. omega (arith, slab_positive s.dims x legal.dimids)) s.vars sound.vars in
       omega (arith, fixed_length s, sum_above (rounded s.dims) (λ x. not (is_record_var s.dims x)) s.vars each)
 
   record_below : length (record_slabs s 0) ≤ record_size_of s
@@ -144,7 +92,7 @@ module _ (s : Schema) (n : ℕ) (sound : Sound s) (fits : FitsVersion s n) where
       omega (
         arith,
         round_length s 0,
-        record_above (map (slab s.dims) vars) (all_sizes s.dims vars (all_kept (λ x. 0 < slab s.dims x) (is_record_var s.dims) s.vars (have_bytes s sound))),
+        record_above (map (slab s.dims) vars) (all_sizes s.dims vars (all_filter (λ x. 0 < slab s.dims x) (is_record_var s.dims) s.vars (have_bytes s sound))),
         length-map vars (slab s.dims),
       )
 

@@ -1,5 +1,5 @@
 -- What `check`, `open`, `read_slab` and `finish` say together.
-use Rattle.std.specs.Prelude.{◌≡◌, ℕ, ◌<◌, ◌≤◌, ◌↔◌, None, Result, Ok, Err, List, [], map, length}
+use Rattle.std.specs.Prelude.{◌≡◌, ℕ, ◌<◌, ◌↔◌, None, Ok, List, [], map, length}
 use Rattle.std.specs.List.{AllByRecursion, flat_map}
 use Rattle.ncc_values.specs.Values.{values_of}
 use Rattle.ncc_values.specs.declared.values.Values.{Values}
@@ -41,7 +41,8 @@ written_values d x n s = values_of x.xtype (flat_map (value_at d x n) (indices_o
 -- every hyperslab that isn't refused reads as it was written
 abbrev pub ReadsBack : Dataset → (file : List ℕ) → Placed → Type 0
 ReadsBack d file p = (n : ℕ) (s : Slab) (values : Values) → slab_fault (vars_of p) n s ≡ None
-    → Selected file (record_size_of_file p) (var_at (vars_of p) n) s values → values ≡ written_values d (var_at (vars_of p) n) n s
+    → Selected file (record_size_of_file p) (var_at (vars_of p) n) s values
+    → values ≡ written_values d (var_at (vars_of p) n) n s
 
 -- the report of a file of this schema in which nothing is noted
 pub record IsUnnoted (s : Schema) (r : Report) : Type 0 where

@@ -21,13 +21,17 @@ use Rattle.ncc_write.specs.Writing.{Next, first_of, next_of, IsWhole, slabs_behi
 
 -- ---- files
 
--- the bytes pass without a note, and their header is that of the schema, with the standard placement
-pub record PassesUnnoted (file : List ℕ) (limit : ℕ) (s : Schema) : Type 0 where
+-- the bytes pass, and their header is that of the schema, with the standard placement
+pub record PassesAs (file : List ℕ) (limit : ℕ) (s : Schema) : Type 0 where
   pub header : Header
   pub passes : PassesWith file limit header
   pub schema_is : header.schema ≡ s
   pub places_are : places_of header.places ≡ standard_places s
-  pub unnoted : AreNotes header []
+
+-- and nothing is noted of it
+pub record PassesUnnoted (file : List ℕ) (limit : ℕ) (s : Schema) : Type 0 where
+  pub passes_as : PassesAs file limit s
+  pub unnoted : AreNotes passes_as.header []
 
 -- a builder's schema with these values: the version can tell it
 pub record IsFinished (d : Dataset) : Type 0 where
@@ -36,7 +40,12 @@ pub record IsFinished (d : Dataset) : Type 0 where
   pub count : known d.schema.count < count_limit d.schema.version
   pub writable : IsWritable d.schema
 
--- the file of a dataset passes without a note, with its schema
+-- the file of a dataset passes with its schema, where the version can tell its sizes and begins
+abbrev pub FileIsPlaced : Type 0
+FileIsPlaced = (d : Dataset) (limit : ℕ) → IsDataset d → IsWritable d.schema → length (header_of d.schema) ≤ limit
+    → PassesAs (file_of d) limit d.schema
+
+-- and without a note, where a builder gave the schema
 abbrev pub FilePasses : Type 0
 FilePasses = (d : Dataset) (limit : ℕ) → IsFinished d → length (header_of d.schema) ≤ limit
     → PassesUnnoted (file_of d) limit d.schema
@@ -130,4 +139,5 @@ TakingAllCompletes = (s : Schema) (taken : List ℕ) → IsBuilt s → IsKnown s
 -- a canonical header whose count field is written again is that of the schema with that count
 abbrev pub CountIsRewritten : Type 0
 CountIsRewritten = (s : Schema) (places : List Place) (n : ℕ) → canon (with_count s n) places
-    ≡ take 4 (canon s places) ++ big_endian (count_width_of s.version) n ++ drop (4 + count_width_of s.version) (canon s places)
+    ≡ take 4 (canon s places) ++ big_endian (count_width_of s.version) n
+    ++ drop (4 + count_width_of s.version) (canon s places)

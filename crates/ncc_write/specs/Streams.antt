@@ -5,6 +5,8 @@ use Rattle.ncc_schema.specs.declared.failed.Failed.{Failed}
 
 -- some bytes more were put behind those that wait: what went out, and what waits now, are all of them; after a failure
 -- a front of them went out
-abbrev pub Streams : (old new : Option (List ℕ)) → (waits waiting : List ℕ) → (more : List ℕ) → Result (Unit {0}) Failed → Type 0
+abbrev pub Streams : (old new : Option (List ℕ)) → (waits waiting : List ℕ) → (more : List ℕ)
+    → Result (Unit {0}) Failed → Type 0
 Streams old new waits waiting more (Ok x) = (out : List ℕ) × Puts old new out × (waits ++ more ≡ out ++ waiting)
-Streams old new waits waiting more (Err e) = (out : List ℕ) × (rest : List ℕ) × Puts old new out × (waits ++ more ≡ out ++ rest)
+Streams old new waits waiting more (Err e) =
+    (out : List ℕ) × (rest : List ℕ) × Puts old new out × (waits ++ more ≡ out ++ rest)

@@ -1,11 +1,12 @@
 -- What a writer's fields say of where it stands.
-use Rattle.std.specs.Prelude.{◌≡◌, ℕ, ◌+◌, false, List, ◌++◌, Option, Some, None, length, Result, Ok, Err}
+use Rattle.std.specs.Prelude.{◌≡◌, ℕ, ◌+◌, ◌<◌, false, List, ◌++◌, Option, length, Result, Ok, Err}
 use Rattle.ncc_values.specs.Numbers.{IsBytes}
 use Rattle.ncc_schema.specs.declared.failed.Failed.{Failed}
 use Rattle.ncc_schema.specs.declared.schema.Schema.{Schema}
 use Rattle.ncc_build.specs.Builds.{schema_of}
+use Rattle.ncc_build.specs.File.{header_of}
 use Rattle.ncc_write.specs.declared.writer.FileWriter.{FileWriter}
-use Rattle.ncc_write.specs.Outlet.{sink_of, waiting}
+use Rattle.ncc_write.specs.Outlet.{Paged, sink_of, waiting}
 use Rattle.ncc_write.specs.Positions.{IsAt, end_of}
 use Rattle.ncc_write.specs.Writing.{Standing, Went, IsOut, IsFrontOfFiles, IsWhole, written}
 
@@ -15,8 +16,13 @@ sink_in x = sink_of x.outlet
 abbrev pub schema_in : {W : Type 0} → FileWriter W → Schema
 schema_in x = schema_of x.built
 
--- The writer stands there: it has this schema; the bytes taken end where its next value goes; and what went out since
--- the start, of which the sink had these bytes then and has those now, shows which were taken.
+-- so many bytes are written, and whole pages of them are out
+abbrev pub PagesAreOut : {W : Type 0} → FileWriter W → Schema → (put : ℕ) → Type 0
+PagesAreOut x s put = Paged (length (header_of s)) put x.outlet
+
+-- The writer stands there: it has this schema; the bytes taken end where its next value goes; what went out since the
+-- start, of which the sink had these bytes then and has those now, shows which were taken; and while a value is
+-- expected, whole pages are out.
 pub record Stands {W : Type 0} (start put : Option (List ℕ)) (x : FileWriter W) (w : Standing) : Type 0 where
   pub schema : schema_in x ≡ w.schema
   pub failed : x.failed ≡ w.failed
@@ -24,6 +30,7 @@ pub record Stands {W : Type 0} (start put : Option (List ℕ)) (x : FileWriter W
   pub at : w.failed ≡ false → IsAt w.schema (length w.taken) x.slab x.left
   pub whole : w.failed ≡ false → IsWhole w.schema w.taken
   pub out : Went start put (IsOut w (waiting x.outlet))
+  pub pages : w.failed ≡ false → x.slab < x.course.slabs → PagesAreOut x w.schema (length (written w.schema w.taken))
 
 -- ---- on the way
 
@@ -33,12 +40,14 @@ pub record Stops {W : Type 0} (start put : Option (List ℕ)) (x : FileWriter W)
   pub bytes : IsBytes w.taken
   pub out : Went start put (IsFrontOfFiles w.schema w.taken)
 
-abbrev pub StandsOrStops : {W : Type 0} → (start put : Option (List ℕ)) → FileWriter W → Standing → Result (Unit {0}) Failed → Type 0
+abbrev pub StandsOrStops : {W : Type 0} → (start put : Option (List ℕ)) → FileWriter W → Standing
+    → Result (Unit {0}) Failed → Type 0
 StandsOrStops start put x w (Ok u) = Stands start put x w
 StandsOrStops start put x w (Err e) = Stops start put x w
 
 -- the slab has all its elements, and these bytes of its padding aren't put yet
-pub record Ends {W : Type 0} (missing : List ℕ) (start put : Option (List ℕ)) (x : FileWriter W) (w : Standing) : Type 0 where
+pub record Ends {W : Type 0} (missing : List ℕ) (start put : Option (List ℕ)) (x : FileWriter W)
+    (w : Standing) : Type 0 where
   pub schema : schema_in x ≡ w.schema
   pub failed : x.failed ≡ false
   pub stands : w.failed ≡ false
@@ -46,3 +55,4 @@ pub record Ends {W : Type 0} (missing : List ℕ) (start put : Option (List ℕ)
   pub end : length w.taken ≡ end_of w.schema (x.slab + 1)
   pub whole : IsWhole w.schema w.taken
   pub out : Went start put (λ out. out ++ waiting x.outlet ++ missing ≡ written w.schema w.taken)
+  pub pages : (put : ℕ) → put + length missing ≡ length (written w.schema w.taken) → PagesAreOut x w.schema put

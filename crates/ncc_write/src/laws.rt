@@ -8,7 +8,7 @@ ghost use Rattle.ncc_schema.specs.declared.schema.Var.{Var};
 ghost use Rattle.ncc_build.specs.Fill.{fills};
 ghost use Rattle.ncc_build.specs.File.{padding_in, padding_bytes, header_of};
 ghost use Rattle.ncc_write.specs.Writing.{IsWhole, written};
-ghost use Rattle.ncc_write.specs.Laws.{FilePasses, FileHolds, FileLength, DatasetTold, OneDataset, CountIsRewritten};
+ghost use Rattle.ncc_write.specs.Laws.{FileIsPlaced, FilePasses, FileHolds, FileLength, DatasetTold, OneDataset, CountIsRewritten};
 ghost use Rattle.ncc_write.specs.Laws.{WrittenInFull, BytesAreData, CompleteWhenTaken, WrittenStays};
 ghost use Rattle.ncc_write.specs.Laws.{OutIsInFiles, TakingGrows, NextIsBehind};
 ghost use Rattle.ncc_write.specs.Laws.{FillingGoesOn, FillingEnds, TakingAllCompletes};
@@ -96,10 +96,11 @@ pub fn one_dataset()
     ensures { OneDataset }
 {}
 
-/// The file of a dataset of a schema that was built passes the check without a note, with that schema
-/// and the standard placement.
+/// The file of a dataset passes the check, with its schema and the standard placement, where the version can tell all
+/// sizes and begins; and without a note, where a builder gave the schema.
 pub fn file_passes()
-    ensures { FilePasses }
+    ensures placed { FileIsPlaced }
+    ensures unnoted { FilePasses }
 {
     canonical_header();
     canonical_is_unmarked();
@@ -115,13 +116,7 @@ pub fn file_passes()
 pub fn taking_all_completes()
     ensures { TakingAllCompletes }
 {
-    canonical_header();
-    canonical_is_unmarked();
-    header_is_begun();
-    one_header();
-    standard_places_keep_all_rules();
-    standard_places_are_in_turn();
-    standard_places_are_aligned();
+    file_passes();
 }
 
 /// Where the count field of a canonical header, behind its first four bytes, is written again, the header is that of

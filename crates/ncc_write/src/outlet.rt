@@ -1,6 +1,6 @@
 //! A sink behind a buffer.
 
-ghost use Rattle.std.specs.Prelude.{◌≡◌, ◌<◌, ◌≤◌, ◌+◌, ◌*◌, ◌%◌, [], length, take, drop, replicate, OnOk};
+ghost use Rattle.std.specs.Prelude.{◌≡◌, ◌<◌, ◌≤◌, ◌+◌, ◌*◌, ◌%◌, ℕ, [], length, take, drop, replicate, OnOk};
 ghost use Rattle.std.specs.List.{concat};
 ghost use Rattle.ncc_values.specs.Failures.{Counts};
 ghost use Rattle.ncc_values.specs.Values.{bytes_of, count_of, type_of};
@@ -30,13 +30,14 @@ pub(crate) struct Outlet<W> {
 }
 
 impl<W: Sink> Outlet<W> {
-    ghost use Rattle.ncc_write.specs.Outlet.{sink_of, waiting};
+    ghost use Rattle.ncc_write.specs.Outlet.{Paged, sink_of, waiting};
 
     /// Over a sink to which so many bytes went out. The buffer has 65,544 bytes.
     pub(crate) fn over(sink: W, buffer: Vec<u8>, sent: u64) -> Outlet<W>
         requires { length buffer.items ≡ 65544 }
         ensures sink { sink_of result ≡ sink }
         ensures waiting { waiting result ≡ [] }
+        ensures pages { Paged sent sent result }
     {
         Outlet {
             sink,
@@ -51,6 +52,8 @@ impl<W: Sink> Outlet<W> {
         requires { end < self.old.full + 8 }
         ensures streams { Streams (W.put (sink_of self.old)) (W.put (sink_of self.new))
             (take end self.old.buffer.items) (waiting self.new) [] result }
+        ensures pages { (first n m : ℕ) → Paged first n self.old → self.old.filled + m ≡ end
+            → OnOk result (Paged first (n + m) self.new) }
         ensures count { Counts (W.failures (sink_of self.old)) (W.failures (sink_of self.new)) result }
     {
         if end < self.full {
@@ -68,8 +71,12 @@ impl<W: Sink> Outlet<W> {
     fn put_some(&mut self, values: &Values, first: usize, count: usize) -> Result<(), Failed>
         requires there { first + count ≤ count_of values.now }
         requires near { self.old.filled + count * size_of (type_of values.now) < self.old.full + 8 }
-        ensures streams { Streams (W.put (sink_of self.old)) (W.put (sink_of self.new)) (waiting self.old) (waiting self.new)
-            (take (count * size_of (type_of values.now)) (drop (first * size_of (type_of values.now)) (bytes_of values.now))) result }
+        ensures streams { Streams (W.put (sink_of self.old)) (W.put (sink_of self.new))
+            (waiting self.old) (waiting self.new)
+            (take (count * size_of (type_of values.now))
+            (drop (first * size_of (type_of values.now)) (bytes_of values.now))) result }
+        ensures pages { (front n : ℕ) → Paged front n self.old
+            → OnOk result (Paged front (n + count * size_of (type_of values.now)) self.new) }
         ensures count { Counts (W.failures (sink_of self.old)) (W.failures (sink_of self.new)) result }
     {
         let end = put_at(&mut self.buffer, self.filled, values, first, count);
@@ -87,8 +94,11 @@ impl<W: Sink> Outlet<W> {
 
     /// Puts all values behind what waits.
     pub(crate) fn put_values(&mut self, values: &Values) -> Result<(), Failed>
-        ensures streams { Streams (W.put (sink_of self.old)) (W.put (sink_of self.new)) (waiting self.old) (waiting self.new)
+        ensures streams { Streams (W.put (sink_of self.old)) (W.put (sink_of self.new))
+            (waiting self.old) (waiting self.new)
             (bytes_of values.now) result }
+        ensures pages { (first n : ℕ) → Paged first n self.old
+            → OnOk result (Paged first (n + length (bytes_of values.now)) self.new) }
         ensures count { Counts (W.failures (sink_of self.old)) (W.failures (sink_of self.new)) result }
     {
         let size = values.xtype().size();
@@ -104,8 +114,11 @@ impl<W: Sink> Outlet<W> {
     /// Puts the bytes of a fill value behind what waits, `count` times, so that they end at most one behind a page.
     fn fill_some(&mut self, fill: &[u8], count: usize) -> Result<(), Failed>
         requires { self.old.filled + count * length fill.now < self.old.full + 8 }
-        ensures streams { Streams (W.put (sink_of self.old)) (W.put (sink_of self.new)) (waiting self.old) (waiting self.new)
+        ensures streams { Streams (W.put (sink_of self.old)) (W.put (sink_of self.new))
+            (waiting self.old) (waiting self.new)
             (concat (replicate count fill.now)) result }
+        ensures pages { (first n : ℕ) → Paged first n self.old
+            → OnOk result (Paged first (n + count * length fill.now) self.new) }
         ensures count { Counts (W.failures (sink_of self.old)) (W.failures (sink_of self.new)) result }
     {
         let end = fill_at(&mut self.buffer, self.filled, fill, count);
@@ -116,8 +129,11 @@ impl<W: Sink> Outlet<W> {
     pub(crate) fn put_fills(&mut self, fill: &[u8], count: u64) -> Result<(), Failed>
         requires some { 0 < length fill.now }
         requires short { length fill.now ≤ 8 }
-        ensures streams { Streams (W.put (sink_of self.old)) (W.put (sink_of self.new)) (waiting self.old) (waiting self.new)
+        ensures streams { Streams (W.put (sink_of self.old)) (W.put (sink_of self.new))
+            (waiting self.old) (waiting self.new)
             (concat (replicate count fill.now)) result }
+        ensures pages { (first n : ℕ) → Paged first n self.old
+            → OnOk result (Paged first (n + length (concat (replicate count fill.now))) self.new) }
         ensures count { Counts (W.failures (sink_of self.old)) (W.failures (sink_of self.new)) result }
     {
         let mut left = count;
@@ -132,7 +148,8 @@ impl<W: Sink> Outlet<W> {
 
     /// Puts out all that waits.
     pub(crate) fn flush(&mut self) -> Result<(), Failed>
-        ensures streams { Streams (W.put (sink_of self.old)) (W.put (sink_of self.new)) (waiting self.old) (waiting self.new)
+        ensures streams { Streams (W.put (sink_of self.old)) (W.put (sink_of self.new))
+            (waiting self.old) (waiting self.new)
             [] result }
         ensures empty { OnOk result (waiting self.new ≡ []) }
         ensures count { Counts (W.failures (sink_of self.old)) (W.failures (sink_of self.new)) result }

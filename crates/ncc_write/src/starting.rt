@@ -42,10 +42,12 @@ pub(crate) fn course_of(alloc: Global, built: &Built) -> Result<Course, AllocErr
 {
     built_is_writable(built);
     let schema = built.schema();
-    match sizes(alloc, schema) {
-        Ok(sizes) => Course::new(alloc, schema, &sizes, records_of(schema.count)),
-        Err(_) => Err(AllocError),
-    }
+    let sizes = match sizes(alloc, schema) {
+        Ok(sizes) => sizes,
+        Err(SizeError::TooLarge(_)) => unreachable!(),
+        Err(SizeError::Memory) => return Err(AllocError),
+    };
+    Course::new(alloc, schema, &sizes, records_of(schema.count))
 }
 
 /// What a writer has before anything goes out.

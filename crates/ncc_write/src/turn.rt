@@ -54,7 +54,8 @@ pub(crate) fn turn_of(schema: &Schema, number: usize, bytes: u64, lone: bool) ->
     requires there { number < length schema.now.vars }
     requires bytes { bytes ≡ slab schema.now.dims (get_or schema.now.vars number no_var) }
     requires lone { lone ≡ is_lone schema.now (get_or schema.now.vars number no_var) }
-    ensures { result ≡ turn_for schema.now (record { var = get_or schema.now.vars number no_var; number = number; in_record = 0 }) }
+    ensures { let var = get_or schema.now.vars number no_var in
+        result ≡ turn_for schema.now (record { var = var; number = number; in_record = 0 }) }
 {
     let var = &schema.vars.as_slice()[number];
     let size = var.xtype.size();

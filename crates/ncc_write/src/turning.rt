@@ -34,7 +34,8 @@ pub(crate) fn add_turns(
     requires sound { Sound schema.now }
     requires slabs { slabs.now ≡ map (slab schema.now.dims) schema.now.vars }
     requires lone { lone ≡ records && (length (record_vars schema.now.dims schema.now.vars) == 1) }
-    ensures { OnOk result (turns.new.items ≡ turns.old.items ++ map (turn_for schema.now) (slabs_of_kind schema.now records)) }
+    ensures { OnOk result (turns.new.items
+        ≡ turns.old.items ++ map (turn_for schema.now) (slabs_of_kind schema.now records)) }
 {
     let vars = schema.vars.as_slice();
     for number in 0..vars.len() {

@@ -28,7 +28,8 @@ use ncc_slab::laws::{
 /// `read_slab` answers `Selected`, or refuses by `slab_fault`; and where a writer is finished `IsCompleted` holds of
 /// what went out.
 pub fn headline()
-    ensures passes { (bytes : List ℕ) (limit : ℕ) (r : Report) → Checks bytes limit (Ok r) → HasOwnElements bytes limit }
+    ensures passes { (bytes : List ℕ) (limit : ℕ) (r : Report) → Checks bytes limit (Ok r)
+        → HasOwnElements bytes limit }
     ensures reads { (bytes : List ℕ) (limit : ℕ) (s : Schema) (p : Placed) → Opens bytes limit s p
         → (n : ℕ) (slab : Slab) → ReadsThere bytes p n slab }
     ensures completed { (s : Schema) (taken file : List ℕ) (limit : ℕ) → ∥ IsCompleted s taken file ∥₁

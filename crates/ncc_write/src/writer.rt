@@ -82,7 +82,8 @@ impl<W: Sink> FileWriter<W> {
     /// The variable, the record and how many elements are left of the slab that the next value is of; nothing where
     /// all values are there, or the sink failed. A fixed variable is in record 0.
     pub fn expects(&self) -> Option<(usize, u64, u64)>
-        ensures { (start : Option (List ℕ)) (w : Standing) → Stands start (W.put (sink_in self.now)) self.now w → result ≡ expected w }
+        ensures { (start : Option (List ℕ)) (w : Standing) → Stands start (W.put (sink_in self.now)) self.now w
+            → result ≡ expected w }
     {
         if self.failed {
             return None;
@@ -121,7 +122,8 @@ impl<W: Sink> FileWriter<W> {
         ensures next { OnOk result (self.new.slab ≡ self.old.slab + 1) }
         ensures slabs { self.new.course.slabs ≡ self.old.course.slabs }
         ensures closes { (start : Option (List ℕ)) (w : Standing)
-            → Ends (padding_bytes w.schema (slab_at w.schema self.old.slab).var) start (W.put (sink_in self.old)) self.old w
+            → Ends (padding_bytes w.schema (slab_at w.schema self.old.slab).var)
+            start (W.put (sink_in self.old)) self.old w
             → StandsOrStops start (W.put (sink_in self.new)) self.new w result }
         ensures count { Counts (W.failures (sink_in self.old)) (W.failures (sink_in self.new)) result }
     {
@@ -136,7 +138,8 @@ impl<W: Sink> FileWriter<W> {
         requires room { count_of values.now ≤ self.old.left }
         requires typed { type_of values.now ≡ (turn_at self.old.course self.old.slab).xtype }
         ensures takes { (start : Option (List ℕ)) (w : Standing) → Stands start (W.put (sink_in self.old)) self.old w
-            → w.failed ≡ false → StandsOrStops start (W.put (sink_in self.new)) self.new (with_values w values.now) result }
+            → w.failed ≡ false
+            → StandsOrStops start (W.put (sink_in self.new)) self.new (with_values w values.now) result }
         ensures count { Counts (W.failures (sink_in self.old)) (W.failures (sink_in self.new)) result }
     {
         self.outlet.put_values(values)?;
@@ -154,7 +157,8 @@ impl<W: Sink> FileWriter<W> {
         ensures answer { (start : Option (List ℕ)) (w : Standing) → Stands start (W.put (sink_in self.old)) self.old w
             → IsAnswer (λ e. e) (refuses_put w values.now) result }
         ensures stands { (start : Option (List ℕ)) (w : Standing) → Stands start (W.put (sink_in self.old)) self.old w
-            → (new : Standing) × Stands start (W.put (sink_in self.new)) self.new new × StandsAfter w (with_values w values.now) new result }
+            → (new : Standing) × Stands start (W.put (sink_in self.new)) self.new new
+            × StandsAfter w (with_values w values.now) new result }
         ensures unchanged { IfErr result (λ e. (e ≡ Device → ⊥) → self.new ≡ self.old) }
         ensures count { CountsFailure (W.failures (sink_in self.old)) (W.failures (sink_in self.new)) result }
     {
@@ -213,7 +217,8 @@ impl<W: Sink> FileWriter<W> {
         ensures answer { (start : Option (List ℕ)) (w : Standing) → Stands start (W.put (sink_in self.old)) self.old w
             → IsAnswer (λ e. e) (refuses_fill w) result }
         ensures stands { (start : Option (List ℕ)) (w : Standing) → Stands start (W.put (sink_in self.old)) self.old w
-            → (new : Standing) × Stands start (W.put (sink_in self.new)) self.new new × StandsAfter w (with_fills w) new result }
+            → (new : Standing) × Stands start (W.put (sink_in self.new)) self.new new
+            × StandsAfter w (with_fills w) new result }
         ensures complete { (start : Option (List ℕ)) (w : Standing) → Stands start (W.put (sink_in self.old)) self.old w
             → w.failed ≡ false → next_of w.schema w.taken ≡ None → IsOk result × (self.new ≡ self.old) }
         ensures unchanged { IfErr result (λ e. (e ≡ Device → ⊥) → self.new ≡ self.old) }

@@ -8,7 +8,8 @@ use Rattle.ncc_layout.specs.declared.placed_var.PlacedVar.{PlacedVar}
 use Rattle.ncc_layout.specs.declared.placed_file.Placed.{Placed}
 use Rattle.ncc_layout.specs.Elements.{no_var, var_at, place_of, offset_in, Inside, LiesInFile}
 use Rattle.ncc_layout.specs.Placed.{vars_of}
-use Rattle.ncc_layout.proofs.Own.{size_positive, element_in_file}
+use Rattle.ncc_values.proofs.ElementsLemmas.{size_of-some}
+use Rattle.ncc_layout.proofs.Own.{element_in_file}
 use Rattle.ncc_layout.proofs.element.place.Goals as goal
 
 lies_in_file : (p : Placed) (vars : List PlacedVar) (n : ℕ) (x : PlacedVar) (index : List ℕ) → vars ≡ p.vars.items → n < length vars → x ≡ get_or vars n x → Inside x.shape index
@@ -18,7 +19,7 @@ lies_in_file p vars n x index same less is inside =
     ∥∥₁_elim p.laid (hlevel props) (λ laid. element_in_file p.header_length p.file_length p.record_size p.records p.vars.items laid x index there inside)
 
 place_fits : (p : Placed) (vars : List PlacedVar) (n : ℕ) (x : PlacedVar) (index : List ℕ) → vars ≡ p.vars.items → n < length vars → x ≡ get_or vars n x → Inside x.shape index → place_of p.record_size x index < 2 ^ 64
-place_fits p vars n x index same less is inside = omega (arith, (lies_in_file p vars n x index same less is inside).1, size_positive x.xtype, p.fits)
+place_fits p vars n x index same less is inside = omega (arith, (lies_in_file p vars n x index same less is inside).1, size_of-some x.xtype, p.fits)
 
 pub offset_in-requires-clause-fits : goal.offset_in-requires-clause-fits
 offset_in-requires-clause-fits c =

@@ -1,18 +1,18 @@
-use Rattle.std.proofs.Common.{◌≡◌, ◌++◌, ℕ, List, [], Option, Some, ap, ap₂, sym, subst, ◌∙◌}
+use Rattle.std.proofs.Common.{◌≡◌, ◌++◌, ℕ, List, [], Some, ap, ap₂, ◌∙◌}
 use Rattle.ncc_schema.specs.Header.{canon}
 use Rattle.ncc_schema.specs.Schema.{places_of}
 use Rattle.ncc_schema.specs.declared.schema.Schema.{Schema}
 use Rattle.ncc_schema.specs.declared.schema.VarPlace.{VarPlace}
 use Rattle.ncc_build.specs.Builds.{schema_of, places_of_built}
-use Rattle.ncc_write.proofs.BuiltFacts.{legal_of, header_is}
+use Rattle.ncc_build.proofs.SoundProps.{legal_of}
+use Rattle.ncc_write.proofs.BuiltFacts.{header_is}
 use Rattle.ncc_write.proofs.Paddings.{some_is}
 use Rattle.ncc_write.proofs.starting.header_bytes.Goals as goal
 
 pub encode-requires : goal.encode-requires
 encode-requires c =
-    let built = c.built_is_writable.ensures in
-    let legal = legal_of (schema_of c.args.built.now) (places_of_built c.args.built.now) built.built built.writable built.standard in
-    rw (c.schema.ensures, c.places.ensures) legal
+    let s = schema_of c.args.built.now in
+    rw (c.schema.ensures, c.places.ensures) (legal_of s (places_of (places_of_built c.args.built.now)) c.built_is_writable.ensures.legal)
 
 pub returns-in-Ok : goal.returns-in-Ok
 returns-in-Ok c =

@@ -1,7 +1,6 @@
-use Rattle.std.proofs.Common.{◌≡◌, Bool, List, ℕ, cond, Option, Some, true, eqb, sym, ap, ap₂, ◌∙◌}
+use Rattle.std.proofs.Common.{◌≡◌, eqb, sym, ap₂, ◌∙◌}
 use Rattle.std.specs.Cmp.Lexicographic.{pointwise}
-use Rattle.ncc_schema.specs.declared.schema.Attr.{Attr}
-use Rattle.ncc_build.specs.Fill.{fill_name, named}
+use Rattle.ncc_build.specs.Fill.{fill_name}
 use Rattle.ncc_write.proofs.FillValues.{named_next, chosen, others}
 use Rattle.ncc_write.proofs.turn.fill_attribute.Goals as goal
 

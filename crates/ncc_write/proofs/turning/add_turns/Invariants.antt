@@ -1,4 +1,4 @@
-use Rattle.std.proofs.Common.{◌≡◌, ◌++◌, map, take, drop}
+use Rattle.std.proofs.Common.{◌≡◌, ◌++◌, map, drop}
 use Rattle.std.specs.List.{AllByRecursion}
 use Rattle.ncc_schema.specs.Schema.{LegalVar}
 use Rattle.ncc_write.specs.Turns.{turn_for}

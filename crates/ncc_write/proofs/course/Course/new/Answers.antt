@@ -1,8 +1,6 @@
-use Rattle.ncc_write.proofs.Courses.{turn_is}
-use Rattle.std.proofs.Common.{◌≡◌, ◌+◌, ◌-◌, ◌*◌, ◌++◌, ◌<◌, ◌≤◌, ℕ, List, length, map, ap, ◌∙◌, sym, arith}
+use Rattle.std.proofs.Common.{◌≡◌, ◌+◌, ◌-◌, ◌*◌, ◌++◌, ℕ, List, length, map, ap, ◌∙◌, sym, arith}
 use Rattle.std.proofs.lemmas.List.{length-append, length-map, map-append}
-use Rattle.ncc_layout.specs.Plans.{known}
-use Rattle.ncc_build.specs.Dataset.{Slab, fixed_slabs, record_slabs}
+use Rattle.ncc_build.specs.Dataset.{fixed_slabs, record_slabs}
 use Rattle.ncc_write.specs.declared.turn.Turn.{Turn}
 use Rattle.ncc_write.specs.Turns.{turn_for}
 use Rattle.ncc_write.proofs.Rounds.{number_of_slabs, slabs_fit}

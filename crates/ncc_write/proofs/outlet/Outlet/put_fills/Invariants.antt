@@ -1,6 +1,6 @@
-use Rattle.std.proofs.Common.{◌≡◌, ◌≤◌, ◌-◌, Ok, replicate}
+use Rattle.std.proofs.Common.{◌≡◌, ℕ, ◌+◌, ◌*◌, ◌≤◌, ◌-◌, length, Ok, replicate}
 use Rattle.std.specs.List.{concat}
-use Rattle.ncc_write.specs.Outlet.{sink_of, waiting}
+use Rattle.ncc_write.specs.Outlet.{Paged, sink_of, waiting}
 use Rattle.ncc_write.specs.Streams.{Streams}
 use Rattle.ncc_write.proofs.outlet.Outlet.put_fills.Given as goal
 
@@ -8,6 +8,7 @@ abbrev pub invariant-loop-left : goal.invariant-loop-left
 invariant-loop-left g l = record {
   left : l.left ≤ l.count;
   streams : Streams (g.W.Sink.put (sink_of l.fn.self)) (g.W.Sink.put (sink_of l.self)) (waiting l.fn.self) (waiting l.self) (concat (replicate (l.count - l.left) l.fill)) (Ok tt);
+  pages : (first n : ℕ) → Paged first n l.fn.self → Paged first (n + (l.count - l.left) * length l.fill) l.self;
   count : g.W.Sink.failures (sink_of l.self) ≡ g.W.Sink.failures (sink_of l.fn.self);
 }
 

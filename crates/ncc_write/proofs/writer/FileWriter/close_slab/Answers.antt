@@ -1,12 +1,12 @@
-use Rattle.std.proofs.Common.{◌≡◌, ◌<◌, ◌+◌, ◌++◌, ℕ, List, [], length, ap, sym, subst, ◌∙◌, replicate, Ok, Err}
+use Rattle.std.proofs.Common.{◌≡◌, ◌+◌, ◌++◌, ℕ, List, [], length, ap, sym, subst, ◌∙◌, length-append, arith, replicate, Ok, Err}
 use Rattle.std.proofs.lemmas.List.{append-nil}
 use Rattle.std.specs.List.{concat}
-use Rattle.ncc_build.specs.File.{padding_bytes}
+use Rattle.ncc_build.specs.File.{header_of, padding_bytes}
 use Rattle.ncc_schema.specs.declared.schema.Schema.{Schema}
-use Rattle.ncc_write.specs.Outlet.{sink_of, waiting}
+use Rattle.ncc_write.specs.Outlet.{Paged, sink_of, waiting}
 use Rattle.ncc_write.specs.Positions.{slab_at}
 use Rattle.ncc_write.specs.Streams.{Streams}
-use Rattle.ncc_write.specs.Turns.{IsCourse, turn_for}
+use Rattle.ncc_write.specs.Turns.{IsCourse}
 use Rattle.ncc_write.specs.Writing.{written}
 use Rattle.ncc_write.proofs.Courses.{turn_is}
 use Rattle.ncc_write.proofs.Going.{front_in_files, front_went, holds_more, missing_there, some_missing, padding_is, stops_at}
@@ -50,4 +50,11 @@ returns-clause-closes g c = λ start w e.
       whole = e.whole;
       out = some_missing start _ (waiting c.put_fills.new.self) (written s w.taken) (there.0 ++ pad) there.2
           (holds_more start (g.W.Sink.put (sink_of x.outlet)) (g.W.Sink.put (sink_of c.put_fills.new.self)) (waiting x.outlet) (waiting c.put_fills.new.self) there.0 pad there.1 streams);
+      pages = λ put sum.
+          let long : length (concat (replicate c.turn.result.0.padding c.fill.result.now)) ≡ length pad =
+          ap length (ap (λ (f : List ℕ). concat (replicate c.turn.result.0.padding f)) c.fill.ensures.fill ∙ padding_is s b c.turn.result.0 turn) in
+          let whole : length there.0 + length pad ≡ length (written s w.taken) = sym (ap length there.2 ∙ length-append there.0 pad) in
+          let end : length there.0 + length (concat (replicate c.turn.result.0.padding c.fill.result.now)) ≡ put = omega (arith, long, whole, sum) in
+          subst (λ (k : ℕ). Paged (length (header_of s)) k c.put_fills.new.self) end
+          (c.in_ok-put_fills.ensures.pages _ _ (e.pages (length there.0) whole));
     })

@@ -1,4 +1,4 @@
-use Rattle.std.proofs.Common.{◌≡◌, ◌<◌, ℕ, Bool, false, Option, Some, None, ap, ap₂, sym, subst, ◌∙◌, arith}
+use Rattle.std.proofs.Common.{◌≡◌, ◌<◌, ℕ, false, Some, None, ap, ap₂, sym, subst, ◌∙◌, arith}
 use Rattle.ncc_schema.specs.declared.schema.Schema.{Schema}
 use Rattle.ncc_write.specs.declared.turn.Turn.{Turn}
 use Rattle.ncc_write.specs.Positions.{slab_at}

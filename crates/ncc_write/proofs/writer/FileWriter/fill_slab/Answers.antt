@@ -1,10 +1,9 @@
-use Rattle.std.proofs.Common.{◌≡◌, ◌<◌, ◌≤◌, ◌+◌, ◌*◌, ◌++◌, ℕ, List, [], length, replicate, Ok, Err, refl, ap, sym, subst, ◌∙◌, arith}
+use Rattle.std.proofs.Common.{◌≡◌, ◌+◌, ◌++◌, ℕ, List, length, replicate, Ok, Err, ap, sym, subst, ◌∙◌, arith}
 use Rattle.std.specs.List.{concat}
 use Rattle.ncc_schema.specs.declared.schema.Schema.{Schema}
 use Rattle.ncc_build.specs.Fill.{fills}
-use Rattle.ncc_build.specs.File.{padding_bytes}
-use Rattle.ncc_values.specs.XType.{size_of}
-use Rattle.ncc_write.specs.Outlet.{sink_of, waiting}
+use Rattle.ncc_build.specs.File.{header_of, padding_bytes}
+use Rattle.ncc_write.specs.Outlet.{Paged, sink_of, waiting}
 use Rattle.ncc_write.specs.Positions.{slab_at}
 use Rattle.ncc_write.specs.Streams.{Streams}
 use Rattle.ncc_write.specs.Turns.{IsCourse}
@@ -12,6 +11,7 @@ use Rattle.ncc_write.specs.Writing.{with_more, written}
 use Rattle.ncc_write.proofs.Courses.{turn_is}
 use Rattle.ncc_write.proofs.Filling.{fills_bytes}
 use Rattle.ncc_write.proofs.Paddings.{length_fills}
+use Rattle.ncc_write.proofs.Pages.{paged_before}
 use Rattle.ncc_write.proofs.Going.{bytes_both, fills_are, front_in_files, front_went, grown_front, grown_full, holds_more, missing_is, out_is, stops_at, taking}
 use Rattle.ncc_write.proofs.writer.FileWriter.fill_slab.Goals as goal
 
@@ -57,4 +57,11 @@ returns-clause-fills g c = λ start w at stands.
       out = missing_is start _ (waiting c.put_fills.new.self) (written s w.taken ++ bytes) (padding_bytes s b.var) (written s (w.taken ++ bytes))
           (sym (t.grows.written_is ∙ grown_full s (record { slab = b; left = x.left }) (written s w.taken) bytes x.left (omega arith)))
           (holds_more start (g.W.Sink.put (sink_of x.outlet)) (g.W.Sink.put (sink_of c.put_fills.new.self)) (waiting x.outlet) (waiting c.put_fills.new.self) (written s w.taken) bytes holds streams);
+      pages = λ put sum.
+          let full = t.grows.written_is ∙ grown_full s (record { slab = b; left = x.left }) (written s w.taken) bytes x.left (omega arith) in
+          let long : length (concat (replicate x.left c.fill.result.now)) ≡ length bytes =
+          ap length (ap (λ (f : List ℕ). concat (replicate x.left f)) c.fill.ensures.fill ∙ fills_are s b c.turn.result.0 x.left turn) in
+          paged_before (length (header_of s)) put c.put_fills.new.self (written s w.taken) bytes (padding_bytes s b.var) full sum
+          (subst (λ (k : ℕ). Paged (length (header_of s)) (length (written s w.taken) + k) c.put_fills.new.self) long
+          (c.in_ok-put_fills.ensures.pages _ _ (at.pages stands c.requires)));
     })

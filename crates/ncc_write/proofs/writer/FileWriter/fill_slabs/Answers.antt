@@ -1,5 +1,4 @@
 use Rattle.std.proofs.Common.{◌∙◌, arith}
-use Rattle.ncc_write.specs.Writer.{sink_in}
 use Rattle.ncc_write.proofs.AllFills.{fills_more, fills_stop, fills_end}
 use Rattle.ncc_write.proofs.Going.{stops_at}
 use Rattle.ncc_write.proofs.writer.FileWriter.fill_slabs.Goals as goal

@@ -1,16 +1,15 @@
-use Rattle.std.proofs.Common.{◌≡◌, ◌<◌, ◌≤◌, ℕ, ◌++◌, List, [], Bool, true, false, Option, Some, None, Ok, Err, length, refl, ap, sym, subst, ◌∙◌, arith}
+use Rattle.std.proofs.Common.{◌≡◌, ℕ, ◌++◌, List, [], false, length, refl, ap, sym, subst, ◌∙◌, arith}
 use Rattle.std.proofs.lemmas.List.{append-nil}
 use Rattle.ncc_schema.specs.Device.{Puts}
 use Rattle.ncc_build.specs.Dataset.{slabs_of}
 use Rattle.ncc_write.specs.Laws.{IsCompleted}
 use Rattle.ncc_schema.specs.declared.schema.Schema.{Schema}
-use Rattle.ncc_build.specs.declared.fault.WriteFault.{WriteFault}
 use Rattle.ncc_build.specs.declared.fault.WriteFault.TheVariants.{Unfinished}
 use Rattle.ncc_write.specs.Outlet.{waiting}
 use Rattle.ncc_write.specs.Positions.{slab_at}
 use Rattle.ncc_write.specs.Turns.{IsCourse}
-use Rattle.ncc_write.specs.Writer.{sink_in, schema_in}
-use Rattle.ncc_write.specs.Writing.{Next, IsExactly, written}
+use Rattle.ncc_write.specs.Writer.{schema_in}
+use Rattle.ncc_write.specs.Writing.{Next, written}
 use Rattle.ncc_write.proofs.Ends.{completed, all_taken}
 use Rattle.ncc_write.proofs.Going.{out_is}
 use Rattle.ncc_write.proofs.Positions.{next_done, next_open}

@@ -1,4 +1,4 @@
-use Rattle.std.proofs.Common.{◌≡◌, ◌<◌, ◌+◌, ◌++◌, [], length, ap, sym, ◌∙◌, arith}
+use Rattle.std.proofs.Common.{◌++◌, [], length, ap, sym, ◌∙◌, arith}
 use Rattle.std.proofs.lemmas.List.{append-nil}
 use Rattle.ncc_write.specs.Outlet.{sink_of, waiting}
 use Rattle.ncc_write.specs.Writing.{written}
@@ -15,6 +15,7 @@ returns-then-next-slabs-clause-opens g c = λ start w e.
       at = λ f. at_next _ w.schema x.course (length w.taken) x.slab c.turn.result.0.elements e.schema c.built_is_writable.ensures.built x.planned c.requires e.end (λ h. ap (λ t. t.elements) c.turn.ensures.turn);
       whole = λ f. e.whole;
       out = is_out w start _ (waiting x.outlet) e.stands (none_missing start _ (waiting x.outlet) (written w.schema w.taken) e.out);
+      pages = λ f less. e.pages (length (written w.schema w.taken)) (omega arith);
     }
 
 pub returns-in_err-flush-clause-opens : goal.returns-in_err-flush-clause-opens
@@ -43,4 +44,5 @@ returns-clause-opens g c = λ start w e.
       out = is_out w start _ (waiting c.flush.new.self) e.stands
           (as_bytes start _ (waiting c.flush.new.self) (bytes ++ []) bytes (append-nil bytes)
           (holds_more start (g.W.Sink.put (sink_of x.outlet)) (g.W.Sink.put (sink_of c.flush.new.self)) (waiting x.outlet) (waiting c.flush.new.self) bytes [] holds c.in_ok-flush.ensures.streams));
+      pages = λ f less. absurd (omega (arith, less, c.if-next-slabs.false, c.slabs.ensures));
     }

@@ -1,8 +1,6 @@
-use Rattle.std.proofs.Common.{◌≡◌, ◌<◌, ◌≤◌, ℕ, List, Bool, true, false, length, Option, Some, Ok, Err, refl, ap, sym, subst, ◌∙◌, arith, rules}
+use Rattle.std.proofs.Common.{◌≡◌, ◌<◌, ◌≤◌, false, refl, ap, sym, subst, ◌∙◌, arith, rules}
 use Rattle.ncc_schema.specs.declared.schema.Schema.{Schema}
 use Rattle.ncc_values.specs.Values.{count_of, type_of}
-use Rattle.ncc_values.specs.declared.xtype.XType.{XType}
-use Rattle.ncc_build.specs.Dataset.{slabs_of}
 use Rattle.ncc_write.specs.Positions.{slab_at}
 use Rattle.ncc_write.specs.Turns.{IsCourse}
 use Rattle.ncc_write.specs.Writing.{Next, with_values, as_failed}
@@ -59,7 +57,7 @@ returns-in-Ok-clause-answer g c = λ start w at.
 pub returns-in-Ok-clause-stands : goal.returns-in-Ok-clause-stands
 returns-in-Ok-clause-stands g c = λ start w at.
     let stands : w.failed ≡ false = sym at.failed ∙ c.if-self.false in
-    (with_values w c.args.values.now, c.in-Ok.ensures.takes start w (record { schema = at.schema; failed = at.failed; bytes = at.bytes; at = at.at; whole = at.whole; out = at.out }) stands, refl)
+    (with_values w c.args.values.now, c.in-Ok.ensures.takes start w (record { schema = at.schema; failed = at.failed; bytes = at.bytes; at = at.at; whole = at.whole; out = at.out; pages = at.pages }) stands, refl)
 
 pub returns-in-Err-clause-answer : goal.returns-in-Err-clause-answer
 returns-in-Err-clause-answer g c = λ start w at.
@@ -77,5 +75,5 @@ returns-in-Err-clause-answer g c = λ start w at.
 pub returns-in-Err-clause-stands : goal.returns-in-Err-clause-stands
 returns-in-Err-clause-stands g c = λ start w at.
     let stands : w.failed ≡ false = sym at.failed ∙ c.if-self.false in
-    let stops = c.in-Err.ensures.takes start w (record { schema = at.schema; failed = at.failed; bytes = at.bytes; at = at.at; whole = at.whole; out = at.out }) stands in
-    (as_failed (with_values w c.args.values.now), record { schema = stops.schema; failed = refl; bytes = stops.bytes; at = λ f. absurd (cc f); whole = λ f. absurd (cc f); out = stops.out }, refl)
+    let stops = c.in-Err.ensures.takes start w (record { schema = at.schema; failed = at.failed; bytes = at.bytes; at = at.at; whole = at.whole; out = at.out; pages = at.pages }) stands in
+    (as_failed (with_values w c.args.values.now), record { schema = stops.schema; failed = refl; bytes = stops.bytes; at = λ f. absurd (cc f); whole = λ f. absurd (cc f); out = stops.out; pages = λ f. absurd (cc f) }, refl)

@@ -1,12 +1,10 @@
-use Rattle.std.proofs.Common.{◌≡◌, ◌<◌, ◌++◌, ℕ, List, [], Bool, false, length, refl, ap, sym, subst, ◌∙◌, arith, rules}
+use Rattle.std.proofs.Common.{◌≡◌, ◌<◌, ◌++◌, ℕ, List, length, refl, ap, sym, subst, ◌∙◌, arith, rules}
 use Rattle.std.proofs.lemmas.List.{append-nil}
 use Rattle.ncc_schema.specs.Device.{Puts}
 use Rattle.ncc_build.specs.Builds.{schema_of}
-use Rattle.ncc_build.specs.Dataset.{slabs_of}
 use Rattle.ncc_build.specs.File.{header_of}
-use Rattle.ncc_write.specs.Outlet.{waiting}
+use Rattle.ncc_write.specs.Outlet.{Paged}
 use Rattle.ncc_write.specs.Turns.{IsCourse}
-use Rattle.ncc_write.specs.Writing.{written}
 use Rattle.ncc_write.specs.declared.turn.Turn.{Turn}
 use Rattle.ncc_write.proofs.Courses.{turn_is}
 use Rattle.ncc_write.proofs.Going.{have_elements}
@@ -33,4 +31,8 @@ returns-clause-stands g c =
         rw c.over.ensures.sink puts,
         ap (λ (l : List ℕ). header_of s ++ l) c.over.ensures.waiting ∙ append-nil (header_of s) ∙ sym (written_first s),
       );
+      pages = λ f less.
+          let long : c.len.result ≡ length (header_of s) = c.len.ensures ∙ c.in-Ok.parts.header.ok.0 ∙ ap length c.in-Ok.ensures.header in
+          subst (λ (k : ℕ). Paged (length (header_of s)) k c.over.result) (long ∙ ap length (sym (written_first s)))
+          (subst (λ (k : ℕ). Paged k c.len.result c.over.result) long c.over.ensures.pages);
     }

@@ -1,14 +1,15 @@
-use Rattle.std.proofs.Common.{◌≡◌, ◌<◌, ◌≤◌, ◌+◌, ◌-◌, ◌*◌, ◌++◌, ℕ, List, [], length, ap, sym, subst, ◌∙◌, arith}
+use Rattle.std.proofs.Common.{◌≡◌, ◌<◌, ◌+◌, ◌-◌, ◌*◌, ◌++◌, ℕ, length, ap, sym, subst, ◌∙◌, length-append, arith}
 use Rattle.ncc_schema.specs.declared.schema.Schema.{Schema}
 use Rattle.ncc_values.specs.Values.{bytes_of, count_of}
-use Rattle.ncc_write.specs.Outlet.{sink_of, waiting}
-use Rattle.ncc_build.specs.File.{padding_bytes}
+use Rattle.ncc_write.specs.Outlet.{Paged, sink_of, waiting}
+use Rattle.ncc_build.specs.File.{header_of, padding_bytes}
 use Rattle.ncc_values.specs.XType.{size_of}
 use Rattle.ncc_values.proofs.ValuesLemmas.{bytes-bytes_of}
 use Rattle.ncc_write.specs.Positions.{IsAt, slab_at}
 use Rattle.ncc_write.specs.Turns.{IsCourse}
 use Rattle.ncc_write.specs.Writing.{written, with_values}
 use Rattle.ncc_write.proofs.Going.{as_bytes, bytes_both, front_in_files, front_went, grown_front, holds_more, is_out, missing_is, out_is, stops_at, taking, grown_open, grown_full, values_long}
+use Rattle.ncc_write.proofs.Pages.{paged_before}
 use Rattle.ncc_write.proofs.Positions.{moves}
 use Rattle.ncc_write.proofs.writer.FileWriter.take.Goals as goal
 
@@ -51,6 +52,10 @@ returns-then-count-self-clause-takes g c = λ start w at stands.
       out = is_out (with_values w c.args.values.now) start _ (waiting c.put_values.new.self) stands
           (as_bytes start _ (waiting c.put_values.new.self) (written s w.taken ++ bytes) (written s (w.taken ++ bytes)) (sym (t.grows.written_is ∙ grown_open s (record { slab = slab_at s x.slab; left = x.left }) (written s w.taken) bytes k few))
           (holds_more start (g.W.Sink.put (sink_of x.outlet)) (g.W.Sink.put (sink_of c.put_values.new.self)) (waiting x.outlet) (waiting c.put_values.new.self) (written s w.taken) bytes holds c.in_ok-put_values.ensures.streams));
+      pages = λ f less.
+          let now = t.grows.written_is ∙ grown_open s (record { slab = slab_at s x.slab; left = x.left }) (written s w.taken) bytes k few in
+          subst (λ (n : ℕ). Paged (length (header_of s)) n c.put_values.new.self) (sym (ap length now ∙ length-append (written s w.taken) bytes))
+          (c.in_ok-put_values.ensures.pages _ _ (at.pages stands c.requires.there));
     }
 
 pub returns-clause-takes : goal.returns-clause-takes
@@ -74,4 +79,8 @@ returns-clause-takes g c = λ start w at stands.
       out = missing_is start _ (waiting c.put_values.new.self) (written s w.taken ++ bytes) (padding_bytes s (slab_at s x.slab).var) (written s (w.taken ++ bytes))
           (sym (t.grows.written_is ∙ grown_full s (record { slab = slab_at s x.slab; left = x.left }) (written s w.taken) bytes k (omega (arith, all))))
           (holds_more start (g.W.Sink.put (sink_of x.outlet)) (g.W.Sink.put (sink_of c.put_values.new.self)) (waiting x.outlet) (waiting c.put_values.new.self) (written s w.taken) bytes holds c.in_ok-put_values.ensures.streams);
+      pages = λ put sum.
+          let full = t.grows.written_is ∙ grown_full s (record { slab = slab_at s x.slab; left = x.left }) (written s w.taken) bytes k (omega (arith, all)) in
+          paged_before (length (header_of s)) put c.put_values.new.self (written s w.taken) bytes (padding_bytes s (slab_at s x.slab).var) full sum
+          (c.in_ok-put_values.ensures.pages _ _ (at.pages stands c.requires.there));
     })
