@@ -6,7 +6,7 @@ use ncc_schema::Sink;
 use ncc_slab::{Slab, SlabFault, read_slab};
 use ncc_store::Store;
 use ncc_values::{Values, Version, XType};
-use ncc_write::{FileWriter, SchemaBuilder, WriteFault};
+use ncc_write::{Built, FileWriter, SchemaBuilder, WriteFault};
 use std::alloc::Global;
 
 /// The dimensions, the attributes and the variables. A length of 0 makes the record dimension.
@@ -21,6 +21,13 @@ fn describe(alloc: Global, schema: &mut SchemaBuilder) -> Result<(), WriteFault>
     schema.attr(temperature, b"_FillValue", shorts(alloc, &[-999])?)
 }
 
+/// The schema, with two records.
+fn built(alloc: Global, version: Version) -> Result<Built, WriteFault> {
+    let mut schema = SchemaBuilder::new(alloc, version);
+    describe(alloc, &mut schema)?;
+    schema.build(2).map_err(|(_, fault)| fault)
+}
+
 /// All heights, the first two temperatures, and fill values for the others.
 fn put<W: Sink>(alloc: Global, writer: &mut FileWriter<W>) -> Result<(), WriteFault> {
     writer.put(&ints(alloc, &[1, 2, 3, 4, 5, 6])?)?;
@@ -28,11 +35,9 @@ fn put<W: Sink>(alloc: Global, writer: &mut FileWriter<W>) -> Result<(), WriteFa
     writer.fill_rest()
 }
 
-/// Writes the file, with two records, into a sink.
+/// Writes the file into a sink.
 pub fn write<W: Sink + Drop>(alloc: Global, version: Version, sink: W) -> Result<W, WriteFault> {
-    let mut schema = SchemaBuilder::new(alloc, version);
-    describe(alloc, &mut schema)?;
-    let built = schema.build(2).map_err(|(_, fault)| fault)?;
+    let built = built(alloc, version)?;
     let mut writer = FileWriter::start(alloc, built, sink).map_err(|(_, fault)| fault)?;
     put(alloc, &mut writer)?;
     writer.finish().map_err(|(_, fault)| fault)
