@@ -37,6 +37,13 @@ pub fn counts(
     ))
 }
 
+/// The vsize and the begin of the last variable that is built.
+pub fn last_place(outcome: Result<Built, (SchemaBuilder, WriteFault)>) -> Option<(u64, u64)> {
+    let built = outcome.ok()?;
+    let place = built.places().last()?;
+    Some((place.vsize, place.begin))
+}
+
 /// An attribute of a variable, if that is there.
 pub fn attr(
     builder: &mut SchemaBuilder,

@@ -57,6 +57,43 @@ fn begins(rt: HostRuntime) -> Result<(), Fail> {
 }
 
 #[test]
+fn begins_behind_great_records(rt: HostRuntime) -> Result<(), Fail> {
+    let mut builder = SchemaBuilder::new(rt.alloc(), Version::V5);
+    assert!(rt; builder.dim(b"t", 0) == Ok(0));
+    assert!(rt; builder.dim(b"x", 1 << 62) == Ok(1));
+    assert!(rt; builder.var(b"f", XType::Byte, &[1]) == Ok(0));
+    assert!(rt; builder.var(b"a", XType::Byte, &[0, 1]) == Ok(1));
+    assert!(rt; builder.var(b"b", XType::Byte, &[0]) == Ok(2));
+    assert!(rt; refusal(builder.build(0)) == (Some(WriteFault::OffsetForVersion), false));
+    Ok(())
+}
+
+/// One variable over one dimension of this length.
+fn one_over(
+    alloc: Global,
+    version: Version,
+    length: u64,
+    xtype: XType,
+) -> Result<SchemaBuilder, WriteFault> {
+    let mut builder = SchemaBuilder::new(alloc, version);
+    builder.dim(b"x", length)?;
+    builder.var(b"v", xtype, &[0])?;
+    Ok(builder)
+}
+
+#[test]
+fn greatest_sizes(rt: HostRuntime) -> Result<(), Fail> {
+    let alloc = rt.alloc();
+    let first = one_over(alloc, Version::V1, 2147483646, XType::Short).expect(&rt, "one");
+    assert!(rt; last_place(first.build(0)) == Some((4294967292, 80)));
+    let fifth = one_over(alloc, Version::V5, 536870912, XType::Double).expect(&rt, "one");
+    assert!(rt; last_place(fifth.build(0)) == Some((4294967296, 128)));
+    let second = one_over(alloc, Version::V2, 536870912, XType::Double).expect(&rt, "one");
+    assert!(rt; refusal(second.build(0)) == (Some(WriteFault::SizeForVersion), false));
+    Ok(())
+}
+
+#[test]
 fn sizes(rt: HostRuntime) -> Result<(), Fail> {
     let mut builder = SchemaBuilder::new(rt.alloc(), Version::V1);
     assert!(rt; builder.dim(b"x", 2147483647) == Ok(0));
