@@ -6,3 +6,4 @@ mod many;
 mod memory;
 mod names;
 mod plans;
+mod steps;

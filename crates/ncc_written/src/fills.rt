@@ -10,75 +10,126 @@ use std::alloc::{AllocError, Global};
 use std::process::Abort;
 use std::test::*;
 
-/// The header of short v(x), with x of length 3 and an attribute _FillValue, up to the type of that.
-const HEADER: [u32; 21] = [
-    0x43444601, 0, 0x0a, 1, 1, 0x78000000, 3, 0, 0, 0x0b, 1, 1, 0x76000000, 1, 0, 0x0c, 1, 10,
-    0x5f46696c, 0x6c56616c, 0x75650000,
+/// The header of a variable v(x), with x of length 3 and an attribute, up to that.
+const HEADER: [u32; 17] = [
+    0x43444601, 0, 0x0a, 1, 1, 0x78000000, 3, 0, 0, 0x0b, 1, 1, 0x76000000, 1, 0, 0x0c, 1,
 ];
 
-/// Adds the attribute _FillValue to the first variable.
-fn add_fill(
-    alloc: Global,
-    builder: &mut SchemaBuilder,
+/// A variable's attribute by name, type and bytes, its first two values, and the words of the file from the
+/// attribute's name on.
+#[derive(Clone, Copy)]
+struct Row {
+    plan: Plan,
+    name: &'static [u8],
     xtype: XType,
-    bytes: &[u8],
-) -> Result<(), WriteFault> {
+    bytes: &'static [u8],
+    first: Step,
+    words: &'static [u32],
+}
+
+const FILL: &[u8] = b"_FillValue";
+
+const TWO: Step = Put(XType::Short, &[0, 1, 0, 2]);
+
+/// It is a short.
+const FITS: Row = Row {
+    plan: SHORTS,
+    name: FILL,
+    xtype: XType::Short,
+    bytes: &[0, 7],
+    first: TWO,
+    words: &[
+        10, 0x5f46696c, 0x6c56616c, 0x75650000, 3, 1, 0x00070000, 3, 8, 0x6c, 0x00010002,
+        0x00070007,
+    ],
+};
+
+const OF_ANOTHER_TYPE: Row = Row {
+    plan: SHORTS,
+    name: FILL,
+    xtype: XType::Int,
+    bytes: &[0, 0, 0, 7],
+    first: TWO,
+    words: &[
+        10, 0x5f46696c, 0x6c56616c, 0x75650000, 4, 1, 7, 3, 8, 0x6c, 0x00010002, 0x80018001,
+    ],
+};
+
+/// A char is no byte.
+const OF_THE_SAME_SIZE: Row = Row {
+    plan: BYTES,
+    name: FILL,
+    xtype: XType::Char,
+    bytes: &[7],
+    first: Put(XType::Byte, &[1, 2]),
+    words: &[
+        10, 0x5f46696c, 0x6c56616c, 0x75650000, 2, 1, 0x07000000, 1, 4, 0x6c, 0x01028181,
+    ],
+};
+
+const TWO_VALUES: Row = Row {
+    plan: SHORTS,
+    name: FILL,
+    xtype: XType::Short,
+    bytes: &[0, 7, 0, 9],
+    first: TWO,
+    words: &[
+        10, 0x5f46696c, 0x6c56616c, 0x75650000, 3, 2, 0x00070009, 3, 8, 0x6c, 0x00010002,
+        0x80018001,
+    ],
+};
+
+const OF_ANOTHER_NAME: Row = Row {
+    plan: SHORTS,
+    name: b"_FillValue2",
+    xtype: XType::Short,
+    bytes: &[0, 7],
+    first: TWO,
+    words: &[
+        11, 0x5f46696c, 0x6c56616c, 0x75653200, 3, 1, 0x00070000, 3, 8, 0x6c, 0x00010002,
+        0x80018001,
+    ],
+};
+
+const ROWS: [Row; 5] = [
+    FITS,
+    OF_ANOTHER_TYPE,
+    OF_THE_SAME_SIZE,
+    TWO_VALUES,
+    OF_ANOTHER_NAME,
+];
+
+/// Adds the attribute to the first variable.
+fn add_fill(alloc: Global, builder: &mut SchemaBuilder, row: &Row) -> Result<(), WriteFault> {
     if builder.schema().vars.is_empty() {
         return Err(WriteFault::BadDimId);
     }
-    let values = values_of(alloc, xtype, bytes)?;
-    builder.attr(0, b"_FillValue", values)
+    let values = values_of(alloc, row.xtype, row.bytes)?;
+    builder.attr(0, row.name, values)
 }
 
-/// Adds short v(x) with that attribute.
-fn add_filled(
-    alloc: Global,
-    builder: &mut SchemaBuilder,
-    xtype: XType,
-    bytes: &[u8],
-) -> Result<(), WriteFault> {
-    add_all(builder, &SHORTS)?;
-    add_fill(alloc, builder, xtype, bytes)
+/// Adds the variable with its attribute.
+fn add_filled(alloc: Global, builder: &mut SchemaBuilder, row: &Row) -> Result<(), WriteFault> {
+    add_all(builder, &row.plan)?;
+    add_fill(alloc, builder, row)
 }
 
 /// Their schema.
-fn built_with(alloc: Global, xtype: XType, bytes: &[u8]) -> Option<Built> {
-    let mut builder = SchemaBuilder::new(alloc, SHORTS.version);
-    if add_filled(alloc, &mut builder, xtype, bytes).is_err() {
+fn built_with(alloc: Global, row: &Row) -> Option<Built> {
+    let mut builder = SchemaBuilder::new(alloc, row.plan.version);
+    if add_filled(alloc, &mut builder, row).is_err() {
         return None;
     }
     built_by(builder, 0).ok()
 }
 
 /// The file of 1, 2 and a fill value, padded.
-fn filled<R: Abort + AllocGlobal>(rt: &R, xtype: XType, bytes: &[u8]) -> Option<Vec<u8>> {
-    let built = built_with(rt.alloc(), xtype, bytes)?;
+fn filled<R: Abort + AllocGlobal>(rt: &R, row: &Row) -> Option<Vec<u8>> {
+    let built = built_with(rt.alloc(), row)?;
     let mut writer = started_with(rt.alloc(), built)?;
-    let steps = [(Put(XType::Short, &[0, 1, 0, 2]), Ok(())), (Fill, Ok(()))];
-    answers(rt, &mut writer, &steps);
+    answers(rt, &mut writer, &[(row.first, Ok(())), (Fill, Ok(()))]);
     finished(writer)
 }
-
-/// The type and the bytes of an attribute, and the words of the file from its type on.
-type Row = (XType, &'static [u8], [u32; 8]);
-
-const ROWS: [Row; 3] = [
-    (
-        XType::Short,
-        &[0, 7],
-        [3, 1, 0x00070000, 3, 8, 0x6c, 0x00010002, 0x00070007],
-    ),
-    (
-        XType::Int,
-        &[0, 0, 0, 7],
-        [4, 1, 7, 3, 8, 0x6c, 0x00010002, 0x80018001],
-    ),
-    (
-        XType::Short,
-        &[0, 7, 0, 9],
-        [3, 2, 0x00070009, 3, 8, 0x6c, 0x00010002, 0x80018001],
-    ),
-];
 
 /// The row's file.
 fn file_of(alloc: Global, words: &[u32]) -> Result<Vec<u8>, AllocError> {
@@ -90,11 +141,10 @@ fn file_of(alloc: Global, words: &[u32]) -> Result<Vec<u8>, AllocError> {
 }
 
 fn is_filled<R: Abort + AllocGlobal>(rt: &R, row: &Row) -> bool {
-    let file = filled(rt, row.0, row.1);
-    file.is_some() && file == file_of(rt.alloc(), &row.2).ok()
+    let file = filled(rt, row);
+    file.is_some() && file == file_of(rt.alloc(), row.words).ok()
 }
 
-/// The attribute fits, or it is of another type, or it has two values.
 #[test]
 fn fill_values(rt: HostRuntime) {
     for (number, row) in ROWS.iter().enumerate() {

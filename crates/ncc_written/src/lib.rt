@@ -6,6 +6,10 @@ mod expecting;
 #[cfg(test)]
 mod failing;
 #[cfg(test)]
+mod failing_once;
+#[cfg(test)]
+mod filled_pages;
+#[cfg(test)]
 mod fills;
 #[cfg(test)]
 mod helpers;

@@ -29,7 +29,15 @@ pub const SHORTS: Plan = Plan {
     records: 0,
 };
 
-/// The same in CDF-2, and in CDF-5.
+/// The variable byte v(x), with x of length 3.
+pub const BYTES: Plan = Plan {
+    version: Version::V1,
+    dims: &[(b'x', 3)],
+    vars: &[(b'v', XType::Byte, &[0])],
+    records: 0,
+};
+
+/// The shorts in CDF-2, and in CDF-5.
 pub const SHORTS_IN_CDF_2: Plan = Plan {
     version: Version::V2,
     dims: &[(b'x', 3)],
@@ -66,6 +74,22 @@ pub const UBYTES: Plan = Plan {
     dims: &[(b'x', 3)],
     vars: &[(b'v', XType::UByte, &[0])],
     records: 0,
+};
+
+/// The variable byte v(x), whose file has 65,536 bytes.
+pub const PAGE: Plan = Plan {
+    version: Version::V1,
+    dims: &[(b'x', 65_456)],
+    vars: &[(b'v', XType::Byte, &[0])],
+    records: 0,
+};
+
+/// The variable short v(t), of 100,000 records.
+pub const MANY_RECORDS: Plan = Plan {
+    version: Version::V1,
+    dims: &[(b't', 0)],
+    vars: &[(b'v', XType::Short, &[0])],
+    records: 100_000,
 };
 
 /// The variable int v(x), with x of length 100,000.

@@ -58,6 +58,7 @@ pub const FILLED: Row = Row {
     plan: SHORTS,
     steps: &[
         (Put(XType::Int, &[0, 0, 0, 1]), Err(WriteFault::WrongType)),
+        (Put(XType::Int, &[0; 16]), Err(WriteFault::WrongType)),
         (Put(XType::Short, &[0, 1, 0, 2]), Ok(())),
         (Put(XType::Int, &[]), Err(WriteFault::WrongType)),
         (
@@ -107,6 +108,7 @@ pub const IN_TURN: Row = Row {
     name: "records of two variables",
     plan: RECORDS_OF_TWO,
     steps: &[
+        (Put(XType::Char, &[5]), Err(WriteFault::WrongType)),
         (Put(XType::Byte, &[5]), Ok(())),
         (Put(XType::Byte, &[6]), Err(WriteFault::WrongType)),
         (Put(XType::Short, &[0, 7]), Ok(())),

@@ -2,7 +2,6 @@
 
 ghost use Rattle.std.specs.Prelude.{◌<◌};
 
-use super::helpers::counts;
 use crate::{SchemaBuilder, WriteFault};
 use ncc_values::{Version, XType};
 use std::alloc::Global;
@@ -38,6 +37,7 @@ fn many_variables(rt: HostRuntime) -> Result<(), Fail> {
     let mut builder = many(rt.alloc()).expect(&rt, "many");
     let twice = builder.var(b"aaaaa", XType::Byte, &[]);
     assert!(rt; twice == Err(WriteFault::DuplicateName));
-    assert!(rt; counts(builder.build(0)).is_some_and(|c| c.2 == 100_000));
+    assert!(rt; builder.schema().vars.len() == 100_000);
+    assert!(rt; builder.build(0).is_ok());
     Ok(())
 }

@@ -1,70 +1,99 @@
-//! Names: the rule, their length, and no two the same in one list.
+//! Names: the rule, their length, and no two the same in one list; and that they are judged first.
 
-use super::helpers::*;
-use crate::{SchemaBuilder, WriteFault};
+use super::steps::Step::{Attr, Dim, Global, Var};
+use super::steps::*;
+use crate::WriteFault::*;
 use ncc_values::{Version, XType};
 use std::test::*;
 
-#[test]
-fn the_rule(rt: HostRuntime) -> Result<(), Fail> {
-    let alloc = rt.alloc();
-    let mut builder = SchemaBuilder::new(alloc, Version::V1);
-    let bad = Err(WriteFault::BadName);
-    assert!(rt; builder.dim(b"a ", 1) == bad);
-    assert!(rt; builder.dim(b"a/b", 1) == bad);
-    assert!(rt; builder.dim(b"", 1) == bad);
-    assert!(rt; builder.dim(&[0x65, 0xcc, 0x81], 1) == bad);
-    assert!(rt; builder.dim(&[0xc3, 0xa9], 1) == Ok(0));
-    assert!(rt; builder.var(b"a ", XType::Int, &[]) == bad);
-    assert!(rt; builder.global(b"a/b", shorts(alloc, &[1])?) == Err(WriteFault::BadName));
-    assert!(rt; counts(builder.build(0)) == Some((1, 0, 0, 0)));
-    Ok(())
-}
+const THE_RULE: Row = Row {
+    name: "the rule",
+    version: Version::V1,
+    steps: &[
+        (Dim(b"a ", 1), Err(BadName)),
+        (Dim(b"a/b", 1), Err(BadName)),
+        (Dim(b"", 1), Err(BadName)),
+        (Dim(&[0x65, 0xcc, 0x81], 1), Err(BadName)),
+        (Dim(&[0xc3, 0xa9], 1), Ok(0)),
+        (Var(b"a ", XType::Int, &[]), Err(BadName)),
+        (Global(b"a/b", XType::Short), Err(BadName)),
+    ],
+    records: 0,
+    end: Ok((1, 0, 0, None)),
+};
+
+const LONG_NAMES: Row = Row {
+    name: "long names",
+    version: Version::V2,
+    steps: &[
+        (Dim(&[b'n'; 257], 1), Err(BadName)),
+        (Dim(&[b'n'; 256], 1), Ok(0)),
+        (Dim(&[b'n'; 256], 1), Err(DuplicateName)),
+        (Dim(&[b'n'; 255], 1), Ok(1)),
+    ],
+    records: 0,
+    end: Ok((2, 0, 0, None)),
+};
+
+const ONE_NAME_IN_EACH_LIST: Row = Row {
+    name: "one name in each list",
+    version: Version::V1,
+    steps: &[
+        (Dim(b"n", 3), Ok(0)),
+        (Global(b"n", XType::Short), Ok(0)),
+        (Dim(b"n", 0), Err(DuplicateName)),
+        (Global(b"n", XType::Short), Err(DuplicateName)),
+        (Var(b"m", XType::Int, &[]), Ok(0)),
+        (Global(b"m", XType::Short), Ok(0)),
+    ],
+    records: 0,
+    end: Ok((1, 2, 1, Some((4, 108)))),
+};
+
+const NAMES_OF_ATTRIBUTES: Row = Row {
+    name: "names of attributes",
+    version: Version::V1,
+    steps: &[
+        (Var(b"n", XType::Int, &[]), Ok(0)),
+        (Attr(0, b"n", XType::Short), Ok(0)),
+        (Attr(0, b"n", XType::Short), Err(DuplicateName)),
+        (Var(b"n", XType::Short, &[]), Err(DuplicateName)),
+        (Var(b"m", XType::Short, &[]), Ok(1)),
+        (Attr(1, b"n", XType::Short), Ok(0)),
+        (Attr(1, b"m", XType::Short), Ok(0)),
+    ],
+    records: 0,
+    end: Ok((0, 0, 2, Some((4, 148)))),
+};
+
+const NAMES_FIRST: Row = Row {
+    name: "names first",
+    version: Version::V1,
+    steps: &[
+        (Var(b"v", XType::Int, &[]), Ok(0)),
+        (Var(b"v", XType::Int, &[9]), Err(DuplicateName)),
+        (Var(b"a/b", XType::Int, &[9]), Err(BadName)),
+        (Var(b"v", XType::UByte, &[]), Err(DuplicateName)),
+        (Var(b"w", XType::UByte, &[9]), Err(BadDimId)),
+        (Global(b"a", XType::Short), Ok(0)),
+        (Global(b"a", XType::UByte), Err(DuplicateName)),
+        (Global(b"a/b", XType::UByte), Err(BadName)),
+    ],
+    records: 0,
+    end: Ok((0, 1, 1, Some((4, 80)))),
+};
+
+const ROWS: [Row; 5] = [
+    THE_RULE,
+    LONG_NAMES,
+    ONE_NAME_IN_EACH_LIST,
+    NAMES_OF_ATTRIBUTES,
+    NAMES_FIRST,
+];
 
 #[test]
-fn long_names(rt: HostRuntime) -> Result<(), Fail> {
-    let alloc = rt.alloc();
-    let mut builder = SchemaBuilder::new(alloc, Version::V2);
-    let name = [b'n'; 257];
-    assert!(rt; builder.dim(&name, 1) == Err(WriteFault::BadName));
-    assert!(rt; builder.dim(&name[..256], 1) == Ok(0));
-    assert!(rt; builder.dim(&name[..256], 1) == Err(WriteFault::DuplicateName));
-    assert!(rt; builder.dim(&name[..255], 1) == Ok(1));
-    assert!(rt; counts(builder.build(0)) == Some((2, 0, 0, 0)));
-    Ok(())
-}
-
-#[test]
-fn one_name_in_each_list(rt: HostRuntime) -> Result<(), Fail> {
-    let alloc = rt.alloc();
-    let mut builder = SchemaBuilder::new(alloc, Version::V1);
-    let twice = Err(WriteFault::DuplicateName);
-    assert!(rt; builder.dim(b"n", 3) == Ok(0));
-    assert!(rt; builder.global(b"n", shorts(alloc, &[1, 2])?) == Ok(()));
-    assert!(rt; builder.dim(b"n", 0) == Err(WriteFault::DuplicateName));
-    assert!(rt; builder.global(b"n", shorts(alloc, &[1])?) == twice);
-    assert!(rt; builder.var(b"m", XType::Int, &[]) == Ok(0));
-    assert!(rt; builder.global(b"m", shorts(alloc, &[])?) == Ok(()));
-    assert!(rt; counts(builder.build(0)) == Some((1, 2, 1, 112)));
-    Ok(())
-}
-
-#[test]
-fn names_of_attributes(rt: HostRuntime) -> Result<(), Fail> {
-    let alloc = rt.alloc();
-    let mut builder = SchemaBuilder::new(alloc, Version::V1);
-    let twice = Err(WriteFault::DuplicateName);
-    let first = builder.var(b"n", XType::Int, &[]).expect(&rt, "a variable");
-    assert!(rt; first == 0);
-    assert!(rt; attr(&mut builder, first, b"n", shorts(alloc, &[1, 2])?) == Ok(()));
-    assert!(rt; attr(&mut builder, first, b"n", shorts(alloc, &[1])?) == twice);
-    assert!(rt; builder.var(b"n", XType::Short, &[]) == Err(WriteFault::DuplicateName));
-    let second = builder
-        .var(b"m", XType::Short, &[])
-        .expect(&rt, "a variable");
-    assert!(rt; second == 1);
-    assert!(rt; attr(&mut builder, second, b"n", shorts(alloc, &[1])?) == Ok(()));
-    assert!(rt; attr(&mut builder, second, b"m", shorts(alloc, &[1])?) == Ok(()));
-    assert!(rt; counts(builder.build(0)).is_some());
-    Ok(())
+fn names(rt: HostRuntime) {
+    for row in &ROWS {
+        assert!(rt; is_so(rt.alloc(), row), "{}", row.name);
+    }
 }
