@@ -152,7 +152,7 @@ impl<W: Sink> FileWriter<W> {
     }
 
     /// Takes the next values, any number up to what is left of the slab. Refused values change nothing. After a
-    /// `Device` a beginning of the file went out, and every later call is refused as `Failed`.
+    /// `Device` a beginning of the file went out, and every later `put`, `fill_rest` and `finish` is `Failed`.
     pub fn put(&mut self, values: &Values) -> Result<(), WriteFault>
         ensures answer { (start : Option (List ℕ)) (w : Standing) → Stands start (W.put (sink_in self.old)) self.old w
             → IsAnswer (λ e. e) (refuses_put w values.now) result }
@@ -212,7 +212,7 @@ impl<W: Sink> FileWriter<W> {
 
     /// Puts fill values for all that is still expected: of each variable its first attribute `_FillValue` where that
     /// is one value of its type, else the default of the type. After a `Device` a beginning of the file went out,
-    /// and every later call is refused as `Failed`.
+    /// and every later `put`, `fill_rest` and `finish` is `Failed`.
     pub fn fill_rest(&mut self) -> Result<(), WriteFault>
         ensures answer { (start : Option (List ℕ)) (w : Standing) → Stands start (W.put (sink_in self.old)) self.old w
             → IsAnswer (λ e. e) (refuses_fill w) result }
