@@ -1,5 +1,5 @@
 -- Whole pages go out.
-use Rattle.std.proofs.Common.{◌≡◌, ℕ, zero, suc, ◌+◌, ◌-◌, ◌*◌, ◌<◌, ◌≤◌, replicate, List, ◌++◌, length, refl, sym, ap, subst, ◌∙◌, arith}
+use Rattle.std.proofs.Common.{◌≡◌, ℕ, zero, suc, ◌+◌, ◌-◌, ◌*◌, ◌<◌, ◌≤◌, replicate, List, ◌++◌, length, ap, subst, ◌∙◌, arith}
 use Rattle.std.specs.Prelude.{◌/◌, ◌%◌}
 use Rattle.std.specs.List.{concat}
 use Rattle.std.proofs.lemmas.List.{length-append}
@@ -8,41 +8,20 @@ use Rattle.ncc_write.specs.declared.outlet.Outlet.{Outlet}
 
 -- nothing waits at first
 pub first_out : (n : ℕ) → IsPaged n n 0 (65536 - n % 65536)
-first_out n = record {
-  out = n;
-  least = omega arith;
-  waits = omega arith;
-  page = omega arith;
-  at_first = λ h. refl;
-  behind = λ h. omega (arith, h);
-}
+first_out n = record { waits = omega arith; page = omega arith }
 
 -- bytes more wait
 pub page_stays : (first n m filled full end : ℕ) → IsPaged first n filled full → filled + m ≡ end → end < full → IsPaged first (n + m) end full
 page_stays first n m filled full end p more room =
     let same : (n + m) / 65536 ≡ n / 65536 = omega (arith, p.waits, p.page, more, room) in
-    record {
-      out = p.out;
-      least = omega (arith, p.least);
-      waits = omega (arith, p.waits, more);
-      page = p.page ∙ ap (λ (k : ℕ). (k + 1) * 65536) (sym same);
-      at_first = λ h. p.at_first (omega (arith, h, same));
-      behind = λ h. p.behind (omega (arith, h, same)) ∙ ap (λ (k : ℕ). k * 65536) (sym same);
-    }
+    record { waits = omega (arith, p.waits, more, same); page = omega (arith, p.page, same) }
 
 -- a page goes out
 pub page_goes : (first n m filled full end : ℕ) → IsPaged first n filled full → filled + m ≡ end → full ≤ end → end < full + 8
     → IsPaged first (n + m) (end - full) 65536
 page_goes first n m filled full end p more all near =
     let next : (n + m) / 65536 ≡ n / 65536 + 1 = omega (arith, p.waits, p.page, more, all, near) in
-    record {
-      out = (n / 65536 + 1) * 65536;
-      least = omega (arith, p.least);
-      waits = omega (arith, p.waits, p.page, more, all);
-      page = omega (arith, next);
-      at_first = λ h. absurd (omega (arith, h, next, p.least));
-      behind = λ h. ap (λ (k : ℕ). k * 65536) (sym next);
-    }
+    record { waits = omega (arith, p.waits, p.page, more, all, next); page = omega (arith, p.waits, next) }
 
 -- ---- fill values
 

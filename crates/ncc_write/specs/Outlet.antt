@@ -1,14 +1,10 @@
 -- A sink behind a buffer.
-use Rattle.std.specs.Prelude.{◌≡◌, ℕ, ◌+◌, ◌*◌, ◌/◌, ◌≤◌, List, take}
+use Rattle.std.specs.Prelude.{◌≡◌, ℕ, ◌+◌, ◌*◌, ◌/◌, max, List, take}
 use Rattle.ncc_write.specs.declared.outlet.Outlet.{Outlet}
 
 -- the bytes that go out at once
 abbrev pub page_size : ℕ
 page_size = 65536
-
--- a page, and room for a value that ends behind it
-abbrev pub buffer_size : ℕ
-buffer_size = 65544
 
 abbrev pub sink_of : {W : Type 0} → Outlet W → W
 sink_of o = o.sink
@@ -17,15 +13,15 @@ sink_of o = o.sink
 abbrev pub waiting : {W : Type 0} → Outlet W → List ℕ
 waiting o = take o.filled o.buffer.items
 
--- of the bytes that were put since the start, the first ones at once, so many are out: the first ones, until a page
--- ends behind them, and then all whole pages; the others wait, and go out where the page is full
-pub record IsPaged (first put filled full : ℕ) : Type 0 where
-  pub out : ℕ
-  pub least : first ≤ put
-  pub waits : out + filled ≡ put
-  pub page : out + full ≡ (put / page_size + 1) * page_size
-  pub at_first : put / page_size * page_size ≤ first → out ≡ first
-  pub behind : first ≤ put / page_size * page_size → out ≡ put / page_size * page_size
+-- of so many bytes that were given since the start, the first ones at once, those that are out: the first ones, or all
+-- whole pages where that is more
+abbrev pub out_of : (first given : ℕ) → ℕ
+out_of first given = max first (given / page_size * page_size)
 
-abbrev pub Paged : {W : Type 0} → (first put : ℕ) → Outlet W → Type 0
-Paged first put o = IsPaged first put o.filled o.full
+-- the others wait, and go out where they fill the page
+pub record IsPaged (first given filled full : ℕ) : Type 0 where
+  pub waits : out_of first given + filled ≡ given
+  pub page : out_of first given + full ≡ (given / page_size + 1) * page_size
+
+abbrev pub Paged : {W : Type 0} → (first given : ℕ) → Outlet W → Type 0
+Paged first given o = IsPaged first given o.filled o.full

@@ -17,8 +17,8 @@ abbrev pub schema_in : {W : Type 0} → FileWriter W → Schema
 schema_in x = schema_of x.built
 
 -- so many bytes are written, and whole pages of them are out
-abbrev pub PagesAreOut : {W : Type 0} → FileWriter W → Schema → (put : ℕ) → Type 0
-PagesAreOut x s put = Paged (length (header_of s)) put x.outlet
+abbrev pub PagesAreOut : {W : Type 0} → FileWriter W → Schema → (given : ℕ) → Type 0
+PagesAreOut x s given = Paged (length (header_of s)) given x.outlet
 
 -- The writer stands there: it has this schema; the bytes taken end where its next value goes; what went out since the
 -- start, of which the sink had these bytes then and has those now, shows which were taken; and while a value is
@@ -55,4 +55,4 @@ pub record Ends {W : Type 0} (missing : List ℕ) (start put : Option (List ℕ)
   pub end : length w.taken ≡ end_of w.schema (x.slab + 1)
   pub whole : IsWhole w.schema w.taken
   pub out : Went start put (λ out. out ++ waiting x.outlet ++ missing ≡ written w.schema w.taken)
-  pub pages : (put : ℕ) → put + length missing ≡ length (written w.schema w.taken) → PagesAreOut x w.schema put
+  pub pages : (given : ℕ) → given + length missing ≡ length (written w.schema w.taken) → PagesAreOut x w.schema given
