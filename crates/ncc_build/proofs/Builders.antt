@@ -14,10 +14,9 @@ use Rattle.ncc_schema.specs.declared.schema.Var.{Var}
 use Rattle.ncc_schema.specs.declared.schema.Schema.{Schema}
 use Rattle.ncc_schema.specs.declared.schema.Count.{Count}
 use Rattle.ncc_schema.specs.declared.schema.Count.TheVariants.{Known}
-use Rattle.ncc_schema.specs.Schema.{count_limit, record_dims}
+use Rattle.ncc_schema.specs.Schema.{count_limit, record_dims, with_count}
 use Rattle.ncc_values.specs.declared.version.Version.{Version}
 use Rattle.ncc_build.specs.Building.{attr_names, var_names, attrs_of, is_among, IsBuilt, no_schema, refuses_attr, with_dim, with_global, with_var, with_attr, vars_with}
-use Rattle.ncc_layout.specs.Placed.{with_count}
 use Rattle.ncc_build.specs.Tables.{names_of_attrs, names_at, with_name}
 use Rattle.ncc_build.specs.Judging.{kind_refusals}
 use Rattle.ncc_build.proofs.Passing.{counts_fit, names_fit, name_passes}

@@ -14,8 +14,7 @@ use Rattle.ncc_schema.specs.declared.schema.Dim.{Dim}
 use Rattle.ncc_schema.specs.declared.schema.Attr.{Attr}
 use Rattle.ncc_schema.specs.declared.schema.Var.{Var}
 use Rattle.ncc_schema.specs.declared.schema.Schema.{Schema}
-use Rattle.ncc_schema.specs.Schema.{count_limit, record_dims, lengths, IsFixed, LegalDims, LegalDim, LegalAttr, LegalVar, IsTypedAttr, IsTypedVar}
-use Rattle.ncc_layout.specs.Placed.{with_count}
+use Rattle.ncc_schema.specs.Schema.{count_limit, record_dims, lengths, with_count, IsFixed, LegalDims, LegalDim, LegalAttr, LegalVar, IsTypedAttr, IsTypedVar}
 use Rattle.ncc_build.specs.Building.{dim_names, var_names, attr_names, AreNames, AreShort, IsBuilt, refuses_dim, refuses_global, refuses_attr_of, refuses_attr, refuses_var, with_dim, with_global, with_var, with_attr, var_with, vars_with}
 use Rattle.ncc_build.specs.Judging.{dim_refusals, dims_refusals, kind_refusals}
 use Rattle.ncc_build.proofs.Lists.{all_last, all_other}

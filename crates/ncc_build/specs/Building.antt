@@ -12,9 +12,8 @@ use Rattle.ncc_schema.specs.declared.schema.Dim.{Dim}
 use Rattle.ncc_schema.specs.declared.schema.Attr.{Attr}
 use Rattle.ncc_schema.specs.declared.schema.Var.{Var}
 use Rattle.ncc_schema.specs.declared.schema.Schema.{Schema}
-use Rattle.ncc_schema.specs.Schema.{count_limit, record_dims, is_record, Sound, IsTyped}
+use Rattle.ncc_schema.specs.Schema.{count_limit, record_dims, is_record, with_count, Sound, IsTyped}
 use Rattle.ncc_layout.specs.declared.plan_fault.PlanFault.TheVariants as plan
-use Rattle.ncc_layout.specs.Placed.{with_count}
 use Rattle.ncc_layout.specs.Plans.{PlanFails}
 use Rattle.ncc_build.specs.declared.fault.WriteFault.{WriteFault}
 use Rattle.ncc_build.specs.declared.fault.WriteFault.TheVariants.{BadName, DuplicateName, TwoRecordDims, BadDimId, RecordDimNotFirst, TypeForVersion, CountForVersion, OffsetForVersion, SizeForVersion, Memory}

@@ -2,9 +2,8 @@
 
 ghost use Rattle.std.specs.Prelude.{◌≡◌, ◌<◌, ◌↔◌, Bool, true, ltb, None, OnErr, IfErr, IfOk, OnOk, IsTrue, length};
 ghost use Rattle.ncc_values.specs.Name.{FitsAsName};
-ghost use Rattle.ncc_schema.specs.Schema.{record_dims};
+ghost use Rattle.ncc_schema.specs.Schema.{record_dims, with_count};
 ghost use Rattle.ncc_schema.specs.declared.schema.Count.TheVariants.{Known};
-ghost use Rattle.ncc_layout.specs.Placed.{with_count};
 ghost use Rattle.ncc_build.specs.Building.{IsBuilt, attr_names, dim_names, var_names, first_refusal, no_schema, refuses_dim, refuses_global, refuses_var, refuses_attr, with_dim, with_global, with_var, with_attr, IsJudged, BuildFailsOr};
 ghost use Rattle.ncc_build.specs.Judging.{dim_refusals, refusal_of};
 ghost use Rattle.ncc_build.specs.Tables.{names_of_attrs};

@@ -8,6 +8,7 @@ mod RulesOfVars
 mod Rules
 mod BeginFields
 mod HeaderLaws
+mod Recounting
 mod Unmarked
 mod CanonicalMarks
 mod ValuesGathered

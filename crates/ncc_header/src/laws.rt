@@ -1,17 +1,17 @@
 //! Laws of the grammar alone, each the contract of a function that does nothing.
 
-ghost use Rattle.std.specs.Prelude.{◌≡◌, ◌≢◌, ℕ, ◌≤◌, List, [], ◌++◌, length, ◌⊎◌};
+ghost use Rattle.std.specs.Prelude.{◌≡◌, ◌≢◌, ℕ, ◌<◌, ◌≤◌, List, [], ◌++◌, length, ◌⊎◌};
 ghost use Rattle.ncc_values.specs.Numbers.{IsBytes};
 ghost use Rattle.ncc_header.specs.declared.fault.Fault.{Fault};
 ghost use Rattle.ncc_header.specs.declared.fault.FaultKind.TheVariants.{EndsEarly};
 ghost use Rattle.ncc_schema.specs.declared.schema.Schema.{Schema};
 ghost use Rattle.ncc_schema.specs.declared.schema.Header.{Header};
-ghost use Rattle.ncc_schema.specs.Schema.{Place, places_of, Legal, IsTyped};
-ghost use Rattle.ncc_schema.specs.Header.{IsHeader, canon};
+ghost use Rattle.ncc_schema.specs.Schema.{streaming_mark, header_with_count, Place, places_of, Legal, IsTyped};
+ghost use Rattle.ncc_schema.specs.Header.{IsHeader, with_count_field, canon};
 ghost use Rattle.ncc_header.specs.Marks.{header_marks};
 ghost use Rattle.ncc_header.specs.Answers.{Begins, Stops};
 
-use ncc_schema::laws::canonical_header;
+use ncc_schema::laws::{canonical_header, count_field_is_rewritten};
 
 /// Of the fronts of one input one is a header at most, and of one schema and placement.
 pub fn one_header()
@@ -69,4 +69,17 @@ pub fn canonical_is_unmarked()
         → header_marks (canon s places) ≡ [] }
 {
     canonical_header();
+}
+
+/// Where the count field is written again, with a number below the streaming mark, the header that the input
+/// begins with has that count, and else is the same: with its places, marks and begin offsets. The input is as
+/// long as before.
+pub fn rewritten_count_is_begun()
+    ensures begun { (input : List ℕ) (limit : ℕ) (h : Header) (n : ℕ) → Begins input limit h
+        → n < streaming_mark h.schema.version
+        → Begins (with_count_field h.schema.version n input) limit (header_with_count h n) }
+    ensures long { (input : List ℕ) (limit : ℕ) (h : Header) (n : ℕ) → Begins input limit h
+        → length (with_count_field h.schema.version n input) ≡ length input }
+{
+    count_field_is_rewritten();
 }

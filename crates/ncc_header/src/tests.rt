@@ -29,4 +29,5 @@ fn laws_are_there() {
     laws::canonical_is_unmarked();
     laws::header_is_begun();
     laws::length_is_canonical();
+    laws::rewritten_count_is_begun();
 }

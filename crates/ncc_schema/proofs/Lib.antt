@@ -1,4 +1,5 @@
 mod Canonical
+pub mod CountField
 pub mod CanonicalLength
 pub mod Sizes
 mod NamesThere

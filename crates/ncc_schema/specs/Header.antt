@@ -1,5 +1,5 @@
 -- What bytes spell a schema and a placement as a header: the grammar, one definition a rule, and the canonical spelling.
-use Rattle.std.specs.Prelude.{◌≡◌, ℕ, zero, suc, ◌*◌, ◌⊎◌, List, [], ◌∷◌, ◌++◌, length, replicate, zip}
+use Rattle.std.specs.Prelude.{◌≡◌, ℕ, zero, suc, ◌*◌, ◌⊎◌, ◌+◌, List, [], ◌∷◌, ◌++◌, length, take, drop, replicate, zip}
 use Rattle.std.specs.List.{flat_map}
 use Rattle.ncc_values.specs.Numbers.{IsBytes, big_endian}
 use Rattle.ncc_values.specs.Padding.{padding_of}
@@ -116,6 +116,10 @@ pub record IsHeader (s : Schema) (places : List Place) (b : List ℕ) : Type 0 w
   pub legal : Legal s places
   pub typed : IsTyped s
   pub spelled : header s places b
+
+-- bytes whose count field, behind the first four, is written again
+abbrev pub with_count_field : Version → (records : ℕ) → List ℕ → List ℕ
+with_count_field v n b = take 4 b ++ big_endian (count_width_of v) n ++ drop (4 + count_width_of v) b
 
 -- ---- the canonical spelling: zero padding, and zero tags for empty lists
 

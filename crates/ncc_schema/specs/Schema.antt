@@ -15,6 +15,7 @@ use Rattle.ncc_schema.specs.declared.schema.Attr.{Attr}
 use Rattle.ncc_schema.specs.declared.schema.Var.{Var}
 use Rattle.ncc_schema.specs.declared.schema.VarPlace.{VarPlace}
 use Rattle.ncc_schema.specs.declared.schema.Schema.{Schema}
+use Rattle.ncc_schema.specs.declared.schema.Header.{Header}
 
 -- ---- limits
 
@@ -41,6 +42,16 @@ abbrev pub streaming_mark : Version → ℕ
 streaming_mark V1 = 2 ^ 32 - 1
 streaming_mark V2 = 2 ^ 32 - 1
 streaming_mark V5 = 2 ^ 64 - 1
+
+-- ---- the number of records
+
+-- the same schema with another count of records
+abbrev pub with_count : Schema → ℕ → Schema
+with_count s n = record { version = s.version; count = Known n; dims = s.dims; gatts = s.gatts; vars = s.vars }
+
+-- the same header of a file, but for the count of records
+abbrev pub header_with_count : Header → ℕ → Header
+header_with_count h n = record { schema = with_count h.schema n; places = h.places; length = h.length; marks = h.marks }
 
 -- ---- placements
 

@@ -11,7 +11,6 @@ mod AllFills
 mod Ends
 mod BuiltFacts
 mod ReadBack
-mod CountField
 mod Laying
 mod Telling
 mod Taking

@@ -5,9 +5,8 @@ use Rattle.ncc_values.specs.Version.{count_width_of}
 use Rattle.ncc_values.specs.XType.{size_of}
 use Rattle.ncc_schema.specs.declared.schema.Header.{Header}
 use Rattle.ncc_schema.specs.declared.schema.Schema.{Schema}
-use Rattle.ncc_schema.specs.Schema.{Place, places_of, count_limit, Sound, IsTyped}
+use Rattle.ncc_schema.specs.Schema.{Place, places_of, count_limit, with_count, Sound, IsTyped}
 use Rattle.ncc_schema.specs.Header.{canon}
-use Rattle.ncc_layout.specs.Placed.{with_count}
 use Rattle.ncc_layout.specs.Standard.{standard_places, file_length}
 use Rattle.ncc_layout.specs.Plans.{IsKnown, known}
 use Rattle.ncc_check.specs.Passes.{PassesWith}
