@@ -10,7 +10,7 @@ mod Summing
 mod Sharing
 mod Indexing
 mod TestsOfRules
-mod LeastBegins
+pub mod LeastBegins
 mod FirstFaults
 mod Laying
 mod OneFault
@@ -19,6 +19,8 @@ mod RecordWindows
 mod StandardRules
 mod Lengthening
 mod OneMore
+pub mod OneMoreRoom
+mod BeforeEnd
 pub mod StandardPlaces
 pub mod VersionFits
 pub mod ShapesInFile

@@ -5,14 +5,14 @@ use Rattle.ncc_schema.specs.declared.schema.Count.TheVariants.{Known}
 use Rattle.ncc_schema.specs.declared.schema.Dim.{Dim}
 use Rattle.ncc_schema.specs.declared.schema.Var.{Var}
 use Rattle.ncc_schema.specs.declared.schema.Schema.{Schema}
-use Rattle.ncc_schema.specs.Schema.{Place, is_record_var}
+use Rattle.ncc_schema.specs.Schema.{Place, is_record_var, with_count}
 use Rattle.ncc_layout.specs.declared.placed_var.PlacedVar.{PlacedVar}
 use Rattle.ncc_layout.specs.declared.placed_file.Placed.{Placed}
 use Rattle.ncc_layout.specs.Sizes.{inner, record_size_of}
 use Rattle.ncc_layout.specs.Extents.{extent_of, extents_of, counted, record_count}
 use Rattle.ncc_layout.specs.Rules.{Rules, IsPlaced}
 use Rattle.ncc_layout.specs.Elements.{placed_var, placed_from, lengthened, with_records}
-use Rattle.ncc_layout.specs.Placed.{Holds, HasOneMore, with_count}
+use Rattle.ncc_layout.specs.Placed.{Holds, HasOneMore}
 use Rattle.ncc_layout.proofs.Laying.{extents_same}
 
 lengthened_by : (b : Bool) (n m : ℕ) (ls : List ℕ) → lengthened m b (if b then n ∷ ls else ls) ≡ (if b then m ∷ ls else ls)

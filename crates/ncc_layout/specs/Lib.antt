@@ -7,3 +7,4 @@ pub mod Elements
 pub mod Placed
 pub mod Standard
 pub mod Plans
+pub mod Packed

@@ -1,7 +1,6 @@
 -- What a placed file holds.
 use Rattle.std.specs.Prelude.{◌≡◌, ℕ, ◌+◌, ◌<◌, List, map, length, get_or, Result, Ok, Err}
 use Rattle.std.specs.List.{AllByRecursion}
-use Rattle.ncc_schema.specs.declared.schema.Count.TheVariants.{Known}
 use Rattle.ncc_schema.specs.declared.schema.Schema.{Schema}
 use Rattle.ncc_schema.specs.declared.schema.VarPlace.{VarPlace}
 use Rattle.ncc_schema.specs.Schema.{Place, places_of}
@@ -72,10 +71,6 @@ pub record Holds (s : Schema) (places : List Place) (header length : ℕ) (p : P
   pub size_is : record_size_of_file p ≡ record_size_of s
   pub records_are : records_of_file p ≡ record_count s places length
   pub vars_are : vars_of p ≡ placed_vars s places length
-
--- the same schema with another count of records
-abbrev pub with_count : Schema → ℕ → Schema
-with_count s n = record { version = s.version; count = Known n; dims = s.dims; gatts = s.gatts; vars = s.vars }
 
 -- the same placed file with one record more, in a file of this length
 pub record HasOneMore (p : Placed) (file : ℕ) (q : Placed) : Type 0 where

@@ -5,7 +5,7 @@ ghost use Rattle.std.specs.List.{AllByRecursion};
 ghost use Rattle.ncc_values.specs.XType.{size_of};
 ghost use Rattle.ncc_schema.specs.declared.schema.Count.TheVariants.{Known};
 ghost use Rattle.ncc_schema.specs.declared.schema.Schema.{Schema};
-ghost use Rattle.ncc_schema.specs.Schema.{Place};
+ghost use Rattle.ncc_schema.specs.Schema.{Place, with_count};
 ghost use Rattle.ncc_layout.specs.declared.fault.LayoutFaultKind.{LayoutFaultKind};
 ghost use Rattle.ncc_schema.specs.Names.{header_length};
 ghost use Rattle.ncc_layout.specs.declared.extent.Extent.{Extent};
@@ -17,9 +17,11 @@ ghost use Rattle.ncc_layout.specs.Rules.{InWindow, InRecord, IsPlaced};
 ghost use Rattle.ncc_layout.specs.Faults.{FirstShared, InOrder, FirstInside, FirstFault};
 ghost use Rattle.ncc_layout.specs.Elements.{row_major, placed_vars, var_at, place_of, next_index, Inside, HasShape, LiesInSlab, Own};
 ghost use Rattle.ncc_layout.specs.Standard.{standard_places, file_length, FitsVersion, ArePacked, AreInTurn, AreAligned};
-ghost use Rattle.ncc_layout.specs.Placed.{header_length_of, file_length_of, record_size_of_file, vars_of, KeepsRules, Holds, HasRoom, HasOneMore, with_count};
+ghost use Rattle.ncc_layout.specs.Placed.{header_length_of, file_length_of, record_size_of_file, vars_of, KeepsRules, Holds, HasRoom, HasOneMore};
 
 use ncc_schema::laws::header_is_aligned;
+
+pub mod appending;
 
 /// Index lists inside a shape have different row-major numbers.
 pub fn indices_have_numbers_of_their_own()

@@ -7,6 +7,7 @@ mod fault;
 mod judging;
 pub mod laws;
 mod overlap;
+mod packing;
 mod placed_file;
 mod placed_var;
 mod placing;

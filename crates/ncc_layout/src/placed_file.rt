@@ -5,6 +5,7 @@ ghost use Rattle.std.specs.List.{AllByRecursion};
 ghost use Rattle.ncc_layout.specs.Extents.{records_of, least_begin, LeastBegin};
 ghost use Rattle.ncc_layout.specs.Elements.{AreLaid, AreSized, HasLengths, var_at, with_records};
 
+use crate::packing::are_packed;
 use crate::placed_var::PlacedVar;
 use crate::records::first_begin_of;
 use ncc_values::XType;
@@ -23,6 +24,8 @@ pub struct Placed {
 }
 
 impl Placed {
+    ghost use Rattle.std.specs.Prelude.{◌↔◌, ◌≤◌, IsTrue, MatchOption};
+    ghost use Rattle.ncc_layout.specs.Packed.{IsPacked, record_at};
     ghost use Rattle.ncc_layout.specs.Placed.{header_length_of, file_length_of, record_size_of_file, records_of_file, vars_of, extents_of_file, HasRoom, HasOneMore};
 
     /// The variables at these places.
@@ -84,6 +87,25 @@ impl Placed {
         ensures least { LeastBegin (records_of (extents_of_file self.now)) result }
     {
         first_begin_of(self.vars.as_slice())
+    }
+
+    /// Are the record variables packed, so that a record more goes behind the last? In their order each must begin
+    /// where the one before it ends with its padding, and the file lack no more than three bytes of the last record.
+    pub fn is_packed(&self) -> bool
+        ensures { IsTrue result ↔ IsPacked self.now }
+    {
+        let begin = self.records_begin().unwrap_or(0);
+        let size = self.records as u128 * self.record_size as u128;
+        are_packed(self.vars.as_slice(), begin)
+            && begin as u128 + size <= self.file_length as u128 + 3
+    }
+
+    /// The offset at which a record begins, where it is less than 2^64.
+    pub fn record_place(&self, number: u64) -> Option<u64>
+        ensures { MatchOption result (2 ^ 64 ≤ record_at self.now number) (λ place. place ≡ record_at self.now number) }
+    {
+        let begin = self.records_begin().unwrap_or(0);
+        begin.checked_add(number.checked_mul(self.record_size)?)
     }
 
     /// The variables, in their order.

@@ -1,5 +1,6 @@
 //! The laws can be called.
 
+use super::appending::*;
 use super::*;
 
 #[test]
@@ -21,4 +22,7 @@ fn laws_are_there() {
     standard_places_are_aligned();
     room_for_one_more();
     one_more_is_placed();
+    placed_in_longer();
+    placed_with_one_more();
+    elements_lie_before_the_end();
 }
