@@ -5,10 +5,19 @@ ghost use Rattle.ncc_values.specs.Failures.{Counts};
 ghost use Rattle.ncc_store.specs.Store.{Unmoved, KeepsImages};
 ghost use Rattle.ncc_layout.specs.Placed.{records_of_file, file_length_of};
 ghost use Rattle.ncc_check.specs.Checks.{StandsIn};
+ghost use Rattle.ncc_check.specs.Told.{tells_header};
 
-use ncc_header::Schema;
+use crate::append_error::AppendError;
+use crate::next_record::{next_record, put_count};
+use crate::staging::add_image;
+use ncc_header::laws::rewritten_count_is_begun;
+use ncc_header::{Count, Schema};
 use ncc_layout::Placed;
+use ncc_layout::laws::{one_more_is_placed, placed_file_keeps_all_rules};
 use ncc_store::{Device, Store};
+
+/// The offset of the count field: behind the magic bytes and the version.
+const COUNT_AT: u64 = 4;
 
 /// A file that passed, over the store that holds it.
 #[derive(Drop)]
@@ -18,11 +27,16 @@ pub struct NcFile<S: Store> {
     placed: Placed,
     must_reopen: bool,
     // A header that the bytes begin with, where they are told, has this schema, and its variables are at these places.
-    ghost stands: { ∥ StandsIn S.tells_bytes (S.bytes store) schema placed ∥₁ },
+    ghost stands: { ∥ StandsIn (tells_header S.tells_bytes must_reopen) (S.bytes store) schema placed ∥₁ },
     ghost long: { IsTrue S.tells_bytes → file_length_of placed ≤ length (S.bytes store) },
 }
 
 impl<S: Store> NcFile<S> {
+    ghost use Rattle.ncc_check.specs.Appending.{HasRecord, HasRecordOrNot, IsAppendable, TakesRecord, CountsDevice, with_record};
+    ghost use Rattle.ncc_check.specs.declared.append_error.AppendError.TheVariants as AppendError;
+    ghost use Rattle.ncc_layout.specs.Placed.{record_size_of_file};
+    ghost use Rattle.ncc_store.specs.Store.{LeavesOnly, Only};
+    ghost use Rattle.std.specs.Prelude.{true, Err, IfErr, OnErr};
     ghost use Rattle.ncc_check.specs.Files.{store_of, schema_of, placed_of, must_reopen};
 
     /// A file that passed.
@@ -78,6 +92,89 @@ impl<S: Store> NcFile<S> {
         ensures reach { S.reach (store_of self.new) ≤ max (S.reach (store_of self.old)) (place + length out.old) }
     {
         self.store.read_at(place, out)
+    }
+
+    /// Whether a record more can be added. It is refused as Reopen, NoRecordVariable, NotPacked, Streaming, CountFull
+    /// in this order.
+    pub fn appendable(&self) -> Result<(), AppendError>
+        ensures { IsAppendable (must_reopen self.now) (schema_of self.now) (placed_of self.now) result }
+    {
+        if self.must_reopen {
+            return Err(AppendError::Reopen);
+        }
+        if self.placed.records_begin().is_none() {
+            return Err(AppendError::NoRecordVariable);
+        }
+        if !self.placed.is_packed() {
+            return Err(AppendError::NotPacked);
+        }
+        if let Count::Streaming = self.schema.count {
+            return Err(AppendError::Streaming);
+        }
+        match next_record(self.schema.version, &self.placed) {
+            Some(_) => Ok(()),
+            None => Err(AppendError::CountFull),
+        }
+    }
+
+    /// Adds a record of these bytes, in two steps, each of at most three calls of the store: zeros for up to three bytes
+    /// that are missing, the record, and a sync; then the number of records, and a sync. After a failure of the device,
+    /// and after a stop at any moment, the old records stand or the new one too; then it answers Reopen for good, and
+    /// reads go on as before.
+    pub fn append_image(&mut self, image: &[u8]) -> Result<(), AppendError>
+        requires takes { TakesRecord (schema_of self.old) (placed_of self.old) }
+        requires image { length image.now ≡ record_size_of_file (placed_of self.old) }
+        ensures reopen { must_reopen self.old ≡ true → (result ≡ Err AppendError.Reopen) × (self.new ≡ self.old) }
+        ensures answer { must_reopen self.old ≡ false → IfErr result (λ e. e ≡ AppendError.Device) }
+        ensures added { OnOk result (HasRecord (schema_of self.old) (placed_of self.old)
+            (schema_of self.new) (placed_of self.new) × (must_reopen self.new ≡ false)) }
+        ensures bytes { IsTrue S.tells_bytes → OnOk result (S.bytes (store_of self.new)
+            ≡ with_record (S.bytes (store_of self.old)) (schema_of self.old) (placed_of self.old) image.now) }
+        ensures durable { OnOk result (Only (S.bytes (store_of self.new)) (S.images (store_of self.new))) }
+        ensures err { OnErr result ((schema_of self.new ≡ schema_of self.old) × (placed_of self.new ≡ placed_of self.old)
+            × (must_reopen self.new ≡ true)) }
+        ensures front { IsTrue S.tells_bytes → OnErr result (HasRecordOrNot (S.bytes (store_of self.old))
+            (schema_of self.old) (placed_of self.old) image.now (S.bytes (store_of self.new))) }
+        ensures any_moment { IsTrue S.tells_bytes → must_reopen self.old ≡ false
+            → Only (S.bytes (store_of self.old)) (S.images (store_of self.old))
+            → LeavesOnly S.moment S.images_since (store_of self.old) (store_of self.new)
+            (HasRecordOrNot (S.bytes (store_of self.old)) (schema_of self.old) (placed_of self.old) image.now) }
+        ensures count { CountsDevice (S.failures (store_of self.old)) (S.failures (store_of self.new)) result }
+        ensures calls { S.calls (store_of self.new) ≤ S.calls (store_of self.old) + 5 }
+        ensures reach { S.reach (store_of self.new) ≤ S.reach (store_of self.old) }
+    {
+        placed_file_keeps_all_rules();
+        one_more_is_placed();
+        rewritten_count_is_begun();
+        if self.must_reopen {
+            return Err(AppendError::Reopen);
+        }
+        let next = match next_record(self.schema.version, &self.placed) {
+            Some(next) => next,
+            None => unreachable!(),
+        };
+        let width = self.schema.version.count_width();
+        let mut count = [0; 8];
+        put_count(self.schema.version, next.count, &mut count[..width]);
+        let size = self.placed.file_length();
+        match add_image(
+            &mut self.store,
+            size,
+            next.place,
+            image,
+            COUNT_AT,
+            &count[..width],
+        ) {
+            Ok(()) => {
+                self.placed.one_more(next.length);
+                self.schema.count = Count::Known(next.count);
+                Ok(())
+            }
+            Err(_) => {
+                self.must_reopen = true;
+                Err(AppendError::Device)
+            }
+        }
     }
 
     /// The store, with all that was done to it.
