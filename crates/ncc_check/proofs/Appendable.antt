@@ -1,5 +1,5 @@
 -- What an open file with room for one record more keeps.
-use Rattle.std.proofs.Common.{◌≡◌, inl, inr, ℕ, ◌+◌, ◌*◌, ◌≤◌, max, Bool, List, ◌++◌, length, map, Option, Some, None, refl, sym, ap, subst, ◌∙◌, length-append, arith}
+use Rattle.std.proofs.Common.{◌≡◌, inl, inr, ℕ, ◌+◌, ◌≤◌, Bool, List, ◌++◌, length, map, Option, Some, None, refl, sym, ap, subst, ◌∙◌, length-append, arith}
 use Rattle.std.proofs.Math.Logic.{∥∥₁_elim}
 use Rattle.std.proofs.Props.{props}
 use Rattle.ncc_values.specs.BigEndian.{length-big_endian}
@@ -13,11 +13,11 @@ use Rattle.ncc_layout.specs.declared.placed_file.Placed.{Placed}
 use Rattle.ncc_layout.specs.Extents.{LeastBegin, least_begin, records_of}
 use Rattle.ncc_layout.specs.Packed.{begin_or_zero, record_at, records_at}
 use Rattle.ncc_layout.specs.Placed.{HasRoom, KeepsRules, extents_of_file, file_length_of, header_length_of, record_size_of_file, records_of_file}
-use Rattle.ncc_layout.specs.Rules.{PastHeader, Rules}
+use Rattle.ncc_layout.specs.Rules.{PastHeader}
 use Rattle.ncc_layout.proofs.LeastBegins.{first_begin_is, is_least}
 use Rattle.ncc_layout.proofs.Membership.{all_in, filter_in, in_from_contains, in_mapped}
 use Rattle.ncc_layout.proofs.OneMoreRoom.{with_one_more}
-use Rattle.ncc_check.specs.Appending.{HasNoRecordVariable, TakesRecord, length_with_record, next_record_at}
+use Rattle.ncc_check.specs.Appending.{HasNoRecordVariable, TakesRecord, next_record_at}
 use Rattle.ncc_check.specs.Checks.{StandsIn}
 
 -- ---- the records

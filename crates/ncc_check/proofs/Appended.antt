@@ -1,6 +1,6 @@
 -- The bytes of a file with a record more, and its header.
-use Rattle.std.proofs.Common.{◌≡◌, inl, inr, ℕ, ◌+◌, ◌-◌, ◌*◌, ◌<◌, ◌≤◌, min, max, Bool, true, false, List, ◌++◌, length, take, drop, replicate, Option, Some, None, refl, sym, ap, ap₂, subst, ◌∙◌, length-append, length-take, take-append-drop, arith}
-use Rattle.std.specs.Prelude.{ltb, if◌then◌else◌, IsTrue}
+use Rattle.std.proofs.Common.{◌≡◌, inl, inr, ℕ, ◌+◌, ◌-◌, ◌<◌, ◌≤◌, max, Bool, true, false, List, ◌++◌, length, take, drop, replicate, Some, None, refl, sym, ap, ◌∙◌, length-append, take-append-drop, arith}
+use Rattle.std.specs.Prelude.{ltb, if◌then◌else◌}
 use Rattle.std.proofs.lemmas.Bool.{ltb-true}
 use Rattle.std.proofs.lemmas.List.{length-replicate, take_at, take-take, take-append-le}
 use Rattle.ncc_values.specs.BigEndian.{length-big_endian}
@@ -18,7 +18,7 @@ use Rattle.ncc_layout.specs.Plans.{IsKnown}
 use Rattle.ncc_layout.specs.Standard.{next_count}
 use Rattle.ncc_store.specs.Store.{written}
 use Rattle.ncc_store.proofs.Pieces.{length-written, take-written}
-use Rattle.ncc_check.specs.Appending.{padded, staged, appended, count_field, Keeps, IsBeforeOrAfter}
+use Rattle.ncc_check.specs.Appending.{padded, staged, appended, count_field, IsBeforeOrAfter}
 
 -- ---- counts
 
@@ -38,17 +38,17 @@ below_mark v n m same = below_by v n m (ltb (n + 1) (streaming_mark v)) refl sam
 -- ---- lengths
 
 module _ (old : List ℕ) (place : ℕ) (image : List ℕ) where
-  padded_long : length (padded old place) ≡ max (length old) place
+  pub padded_long : length (padded old place) ≡ max (length old) place
   padded_long = omega (arith, length-append old (replicate (place - length old) 0), length-replicate {A = ℕ} (place - length old) 0)
 
-  staged_long : length (staged old place image) ≡ max (length old) (place + length image)
+  pub staged_long : length (staged old place image) ≡ max (length old) (place + length image)
   staged_long = omega (arith, padded_long, length-written place image (padded old place) (omega (arith, padded_long)))
 
   pub appended_long : (at : ℕ) (count : List ℕ) → at + length count ≤ length old → length (appended old place image at count) ≡ max (length old) (place + length image)
   appended_long at count inside = omega (arith, staged_long, length-written at count (staged old place image) (omega (arith, staged_long, inside)))
 
   -- a front of the old bytes before the image
-  staged_front : (n : ℕ) → n ≤ place → n ≤ length old → take n (staged old place image) ≡ take n old
+  pub staged_front : (n : ℕ) → n ≤ place → n ≤ length old → take n (staged old place image) ≡ take n old
   staged_front n before there =
       sym (take-take n place (staged old place image) before)
       ∙ ap (take n) (take-written place image (padded old place) (omega (arith, padded_long)))
@@ -62,7 +62,7 @@ no_shorter old place image at count new inside (inr is) = omega (arith, ap lengt
 -- ---- the header
 
 -- bytes with the same front begin with the same header
-same_begin : (old new : List ℕ) (limit : ℕ) (h : Header) → Begins old limit h → take h.length new ≡ take h.length old → Begins new limit h
+pub same_begin : (old new : List ℕ) (limit : ℕ) (h : Header) → Begins old limit h → take h.length new ≡ take h.length old → Begins new limit h
 same_begin old new limit h b same = record {
   front = b.front;
   rest = drop h.length new;
@@ -76,7 +76,7 @@ same_begin old new limit h b same = record {
   within = b.within;
 }
 
-begun_long : (old : List ℕ) (limit : ℕ) (h : Header) → Begins old limit h → h.length ≤ length old
+pub begun_long : (old : List ℕ) (limit : ℕ) (h : Header) → Begins old limit h → h.length ≤ length old
 begun_long old limit h b = omega (arith, b.long, ap length b.joined, length-append b.front b.rest)
 
 pub staged_begins : (old : List ℕ) (place : ℕ) (image : List ℕ) (limit : ℕ) (h : Header) → h.length ≤ place → Begins old limit h → Begins (staged old place image) limit h
