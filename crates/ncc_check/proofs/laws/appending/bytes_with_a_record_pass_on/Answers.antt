@@ -1,5 +1,5 @@
 use Rattle.ncc_layout.specs.declared.placed_file.Placed.{Placed}
-use Rattle.ncc_check.proofs.PassingOn.{Laws, long_with_record, new_opened, new_opens, new_pass}
+use Rattle.ncc_check.proofs.PassingRecord.{Laws, long_with_record, new_opened, new_opens, new_pass}
 use Rattle.ncc_check.proofs.laws.appending.bytes_with_a_record_pass_on.Goals as goal
 
 pub returns : goal.returns

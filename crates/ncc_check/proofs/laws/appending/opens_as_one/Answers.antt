@@ -1,4 +1,4 @@
-use Rattle.ncc_check.proofs.PassingOn.{as_one}
+use Rattle.ncc_check.proofs.Reopening.{as_one}
 use Rattle.ncc_check.proofs.laws.appending.opens_as_one.Goals as goal
 
 pub returns : goal.returns
