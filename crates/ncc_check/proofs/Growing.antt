@@ -1,5 +1,5 @@
 -- An open file that has one record more.
-use Rattle.std.proofs.Common.{◌≡◌, ℕ, ◌+◌, ◌*◌, ◌<◌, ◌≤◌, max, Bool, false, true, List, ◌++◌, length, take, drop, Some, refl, sym, ap, ap₂, subst, ◌∙◌, arith}
+use Rattle.std.proofs.Common.{◌≡◌, ℕ, ◌+◌, ◌*◌, ◌<◌, ◌≤◌, Bool, false, List, length, sym, ap, ap₂, subst, ◌∙◌, arith}
 use Rattle.std.specs.Prelude.{IsTrue}
 use Rattle.ncc_values.specs.Version.{count_width_of}
 use Rattle.ncc_values.specs.declared.version.Version.{Version}
@@ -11,8 +11,7 @@ use Rattle.ncc_schema.specs.Schema.{Place, header_with_count, places_of, streami
 use Rattle.ncc_header.specs.Answers.{Begins}
 use Rattle.ncc_layout.specs.declared.placed_file.Placed.{Placed}
 use Rattle.ncc_layout.specs.Extents.{extents_of}
-use Rattle.ncc_layout.specs.Packed.{record_at}
-use Rattle.ncc_layout.specs.Placed.{HasOneMore, Holds, KeepsRules, file_length_of, header_length_of, record_size_of_file, records_of_file}
+use Rattle.ncc_layout.specs.Placed.{HasOneMore, Holds, KeepsRules, file_length_of, record_size_of_file, records_of_file}
 use Rattle.ncc_layout.specs.Plans.{IsKnown}
 use Rattle.ncc_layout.specs.Sizes.{record_size_of}
 use Rattle.ncc_check.specs.Appending.{IsNext, TakesRecord, count_field, next_record_at, staged, with_record}

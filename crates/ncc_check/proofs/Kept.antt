@@ -1,9 +1,9 @@
 -- What stands while an image is written.
-use Rattle.std.proofs.Common.{◌≡◌, inl, inr, ⊎_elim, ℕ, ◌+◌, ◌-◌, ◌≤◌, min, max, List, ◌++◌, length, take, drop, replicate, refl, sym, ◌∙◌, ap, subst, arith, length-append, length-take, Result, Ok, Err, OnErr}
+use Rattle.std.proofs.Common.{ℕ, ◌-◌, ◌≤◌, min, List, length, take, replicate, sym, ◌∙◌, ap, subst, arith, length-append, Result, Ok, Err, OnErr}
 use Rattle.std.proofs.lemmas.List.{take-take, take-append-le}
 use Rattle.ncc_store.specs.Store.{written, FrontWritten, Unsynced}
 use Rattle.ncc_store.proofs.Pieces.{take-written, length-written}
-use Rattle.ncc_check.specs.Appending.{padded, staged, appended, Keeps, IsBeforeOrAfter, IsOldOrWritten}
+use Rattle.ncc_check.specs.Appending.{padded, Keeps}
 
 pub on_err : {T E : Type 0} {P : Type 0} (r : Result T E) → P → OnErr r P
 on_err (Ok x) p = tt

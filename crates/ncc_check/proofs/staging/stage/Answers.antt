@@ -1,4 +1,4 @@
-use Rattle.std.proofs.Common.{rules, arith, ℕ, ◌≡◌, ◌≤◌, ◌-◌, length, replicate, sym, ◌∙◌, ap, subst, length-append}
+use Rattle.std.proofs.Common.{arith, ℕ, ◌≤◌, ◌-◌, length, replicate, sym, ◌∙◌, subst, length-append}
 use Rattle.std.proofs.lemmas.List.{length-replicate}
 use Rattle.ncc_store.proofs.Moments.{goes_on, stays}
 use Rattle.ncc_check.specs.Appending.{padded, Keeps}

@@ -1,14 +1,13 @@
-use Rattle.std.proofs.Common.{◌≡◌, ◌≤◌, ◌+◌, ℕ, Bool, List, length, take, drop, ◌++◌, replicate, ap, ap₂, sym, subst, ◌∙◌, length-append, length-take, arith}
+use Rattle.std.proofs.Common.{◌≡◌, ◌≤◌, ◌+◌, ℕ, Bool, List, length, take, drop, ◌++◌, replicate, ap, ap₂, sym, subst, ◌∙◌, length-take, arith}
 use Rattle.std.proofs.Math.Logic.{∥∥₁_elim, ∥∥₁_map}
 use Rattle.std.proofs.Props.{props}
 use Rattle.std.proofs.lemmas.List.{take_at}
 use Rattle.std.specs.Prelude.{IsTrue}
-use Rattle.ncc_check.specs.Appending.{appended, count_field, next_record_at, with_record}
+use Rattle.ncc_check.specs.Appending.{appended, count_field, with_record}
 use Rattle.ncc_check.specs.Checks.{StandsIn}
 use Rattle.ncc_layout.specs.Placed.{file_length_of, records_of_file}
 use Rattle.ncc_check.proofs.Appended.{field_long, no_shorter}
 use Rattle.ncc_check.proofs.Growing.{Laws, long_enough, stands_with, told_by}
-use Rattle.ncc_values.specs.BigEndian.{length-big_endian}
 use Rattle.ncc_values.specs.Version.{count_width_of}
 use Rattle.ncc_check.specs.Told.{tells_header}
 use Rattle.ncc_store.specs.StoreLaws.{untold}
