@@ -2,6 +2,7 @@
 
 mod many;
 mod memory;
+mod packing;
 mod plans;
 mod schemas;
 mod sizes;
