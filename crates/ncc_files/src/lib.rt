@@ -49,6 +49,24 @@ pub const TWO_RECORD_VARIABLES: [u32; 33] = [
     1, 0x62000000, 1, 0, 0, 0, 3, 4, 0x78, 0x05818181, 0x00078001, 0x06818181, 0x00088001,
 ];
 
+/// The variable int v(t, x), with t the record dimension and x of length 3, and its one record 1 2 3.
+pub const INT_RECORDS: [u32; 27] = [
+    0x43444601, 1, 0x0a, 2, 1, 0x74000000, 0, 1, 0x78000000, 3, 0, 0, 0x0b, 1, 1, 0x76000000, 2, 0,
+    1, 0, 0, 4, 12, 96, 1, 2, 3,
+];
+
+/// The same in CDF-5.
+pub const INT_RECORDS_IN_CDF_5: [u32; 42] = [
+    0x43444605, 0, 1, 0x0a, 0, 2, 0, 1, 0x74000000, 0, 0, 0, 1, 0x78000000, 0, 3, 0, 0, 0, 0x0b, 0,
+    1, 0, 1, 0x76000000, 0, 2, 0, 0, 0, 1, 0, 0, 0, 4, 0, 12, 0, 156, 1, 2, 3,
+];
+
+/// The variable byte v(t) in CDF-5, of 2^63 - 129 records, without their values: a file of 2^63 - 1 bytes.
+pub const MOST_RECORDS_IN_CDF_5: [u32; 32] = [
+    0x43444605, 0x7fffffff, 0xffffff7f, 0x0a, 0, 1, 0, 1, 0x74000000, 0, 0, 0, 0, 0, 0x0b, 0, 1, 0,
+    1, 0x76000000, 0, 1, 0, 0, 0, 0, 0, 1, 0, 4, 0, 0x80,
+];
+
 /// The global attribute title, of the chars hello.
 pub const TITLED: [u32; 15] = [
     0x43444601, 0, 0, 0, 0x0c, 1, 5, 0x7469746c, 0x65000000, 2, 5, 0x68656c6c, 0x6f000000, 0, 0,
