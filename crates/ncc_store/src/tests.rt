@@ -6,9 +6,11 @@ ghost use Rattle.ncc_store.specs.Store.{written, Only, LeavesOnly};
 ghost use Rattle.ncc_store.specs.Growing.{Stands, IsOldOrWritten, IsOldOrGrown};
 
 use crate::{Device, FuseStore, LogStore, Store, laws};
-use std::alloc::Global;
+use std::alloc::{AllocError, Global};
 use std::process::Abort;
 use std::test::Fail;
+
+pub mod steps;
 
 /// Puts a few bytes and an image behind the bytes, and syncs.
 fn stage<S: Store>(store: &mut S, size: u64, few: &[u8], image: &[u8]) -> Result<(), Device>
@@ -77,52 +79,57 @@ fn grow<S: Store>(
 /// Twelve bytes with the count 1 at the place 4.
 const OLD: [u8; 12] = [67, 68, 70, 1, 0, 0, 0, 1, 5, 5, 5, 5];
 
-// The routine over a store that passes so many calls, which leaves these bytes behind the old ones.
-fn grows(
-    rt: &impl Abort,
+/// What is put behind them.
+const MORE: [u8; 12] = [7, 7, 8, 8, 8, 8, 8, 8, 8, 8, 8, 8];
+
+/// What the routine answers, and what it leaves, over a store that passes so many calls.
+fn grown(
     alloc: Global,
     passed: u64,
     front: usize,
-    answer: Result<(), Device>,
-    count: u8,
-    behind: &[u8],
-) -> Result<(), Fail> {
+) -> Result<(Result<(), Device>, u64, Vec<u8>), AllocError> {
     let inner = LogStore::new(alloc, OLD.to_vec(alloc)?);
     let mut store = FuseStore::with_front(inner, passed, front);
-    let found = grow(&mut store, 12, &[7, 7], &[8; 10], 4, &[0, 0, 0, 2]);
-    assert!(rt; found == answer);
-    assert_eq!(rt; store.left(), 0);
-    let bytes = store.into_inner().into_bytes();
-    let mut wanted = OLD.to_vec(alloc)?;
-    wanted[7] = count;
-    wanted.extend_from_slice(behind)?;
-    assert_eq!(rt;
-        bytes.as_slice(),
-        wanted.as_slice(),
-        "passed {passed}, front {front}"
-    );
-    Ok(())
+    let (few, image) = MORE.split_at(2);
+    let answer = grow(&mut store, 12, few, image, 4, &[0, 0, 0, 2]);
+    let left = store.left();
+    Ok((answer, left, store.into_inner().into_bytes()))
+}
+
+/// The old bytes with this count, and so many behind them.
+fn bytes_with(alloc: Global, count: u8, behind: usize) -> Result<Vec<u8>, AllocError> {
+    let mut bytes = OLD.to_vec(alloc)?;
+    bytes[7] = count;
+    let (front, _rest) = MORE.split_at(behind.min(12));
+    bytes.extend_from_slice(front)?;
+    Ok(bytes)
+}
+
+/// How many bytes are behind the old ones after so many calls: of the image, a front.
+fn behind_after(passed: u64, front: usize) -> usize {
+    if passed == 0 {
+        0
+    } else if passed == 1 {
+        2 + front.min(10)
+    } else {
+        12
+    }
 }
 
 #[test]
 fn grows_or_stands(rt: HostRuntime) -> Result<(), Fail> {
-    let alloc = rt.alloc();
-    let all = [7, 7, 8, 8, 8, 8, 8, 8, 8, 8, 8, 8];
     for front in 0..13 {
-        grows(&rt, alloc, 0, front, Err(Device), 1, &[])?;
-        grows(
-            &rt,
-            alloc,
-            1,
-            front,
-            Err(Device),
-            1,
-            &all[..2 + front.min(10)],
-        )?;
-        grows(&rt, alloc, 2, front, Err(Device), 1, &all)?;
-        grows(&rt, alloc, 3, front, Err(Device), 1, &all)?;
-        grows(&rt, alloc, 4, front, Err(Device), 2, &all)?;
-        grows(&rt, alloc, 5, front, Ok(()), 2, &all)?;
+        for passed in 0..6 {
+            let (answer, left, bytes) = grown(rt.alloc(), passed, front)?;
+            let count = if passed < 4 { 1 } else { 2 };
+            let wanted = bytes_with(rt.alloc(), count, behind_after(passed, front))?;
+            let answers = if passed < 5 { Err(Device) } else { Ok(()) };
+            assert!(rt;
+                answer == answers && left == 0,
+                "passed {passed}, front {front}"
+            );
+            assert!(rt; bytes == wanted, "passed {passed}, front {front}");
+        }
     }
     Ok(())
 }

@@ -1,27 +1,39 @@
 use super::FileStore;
 use crate::putting::put;
+use crate::tests::steps::Step::{FailedRead, Len, Read, Sync, Write};
+use crate::tests::steps::{Step, takes, takes_all};
 use crate::{Device, Store, SystemFile};
 use std::fs;
 use std::test::Fail;
+
+const WRITES: [Step; 4] = [
+    Len(Ok(3)),
+    Write(1, &[7], Ok(())),
+    Write(3, &[4, 5], Ok(())),
+    Sync(Ok(())),
+];
+
+const READS: [Step; 3] = [Len(Ok(5)), Read(0, &[1, 7, 3, 4, 5]), Read(3, &[4, 5])];
+
+/// Of a file of three bytes that was opened for reading.
+const FAILS: [Step; 6] = [
+    Read(3, &[]),
+    FailedRead(2, 2),
+    FailedRead(4, 0),
+    FailedRead(u64::MAX, 2),
+    Write(0, &[1], Err(Device)),
+    Write(0, &[], Err(Device)),
+];
 
 #[test]
 fn written_and_read_anew(rt: HostRuntime) -> Result<(), Fail> {
     let path = "written_and_read_anew.nc";
     fs::write(&rt, path, [1, 2, 3].as_slice())?;
     let mut store = FileStore::open(&rt, path, true)?;
-    assert_eq!(rt; store.len(), Ok(3));
-    assert_eq!(rt; store.write_at(1, &[7]), Ok(()));
-    assert_eq!(rt; store.write_at(3, &[4, 5]), Ok(()));
-    assert_eq!(rt; store.sync(), Ok(()));
+    takes_all(&rt, &mut store, &WRITES);
     assert_eq!(rt; store.failures, 0);
-
     let mut anew = FileStore::open(&rt, path, false)?;
-    assert_eq!(rt; anew.len(), Ok(5));
-    let mut out = [0; 5];
-    assert_eq!(rt; anew.read_at(0, &mut out), Ok(()));
-    assert_eq!(rt; out, [1, 7, 3, 4, 5]);
-    assert_eq!(rt; anew.read_at(3, &mut out[..2]), Ok(()));
-    assert_eq!(rt; out, [4, 5, 3, 4, 5]);
+    takes_all(&rt, &mut anew, &READS);
     assert_eq!(rt; anew.failures, 0);
     fs::remove_file(&rt, path)?;
     Ok(())
@@ -32,13 +44,7 @@ fn counts_each_failure(rt: HostRuntime) -> Result<(), Fail> {
     let path = "counts_each_failure.nc";
     fs::write(&rt, path, [1, 2, 3].as_slice())?;
     let mut store = FileStore::open(&rt, path, false)?;
-    let mut out = [0; 2];
-    assert_eq!(rt; store.read_at(3, &mut []), Ok(()));
-    assert_eq!(rt; store.read_at(2, &mut out), Err(Device));
-    assert_eq!(rt; store.read_at(4, &mut []), Err(Device));
-    assert_eq!(rt; store.read_at(u64::MAX, &mut out), Err(Device));
-    assert_eq!(rt; store.write_at(0, &[1]), Err(Device));
-    assert_eq!(rt; store.write_at(0, &[]), Err(Device));
+    takes_all(&rt, &mut store, &FAILS);
     assert_eq!(rt; store.failures, 5);
     fs::remove_file(&rt, path)?;
     Ok(())
@@ -63,10 +69,9 @@ fn refused_paths(rt: HostRuntime) -> Result<(), Fail> {
 #[test]
 fn sync_that_fails_is_counted(rt: HostRuntime) -> Result<(), Fail> {
     let mut store = FileStore::open(&rt, "/proc/sys/kernel/osrelease", false)?;
-    assert_eq!(rt; store.sync(), Err(Device));
-    assert_eq!(rt; store.failures, 1);
-    assert_eq!(rt; store.write_at(0, b"1"), Err(Device));
-    assert_eq!(rt; store.failures, 2);
+    for (step, failures) in [(UNSYNCED, 1), (Write(0, b"1", Err(Device)), 2)] {
+        assert!(rt; takes(&mut store, None, step) && store.failures == failures);
+    }
     Ok(())
 }
 
@@ -123,10 +128,67 @@ impl SystemFile for ShortFile {
     }
 }
 
+const PIECE: [u8; 7] = [9, 8, 7, 6, 5, 4, 3];
+
+const ALL: [u8; 8] = [1, 9, 8, 7, 6, 5, 4, 3];
+
+const WRITTEN: Step = Write(1, &PIECE, Ok(()));
+
+const CUT: Step = Write(1, &PIECE, Err(Device));
+
+const UNSYNCED: Step = Sync(Err(Device));
+
+const SHORT: Step = FailedRead(0, 8);
+
+/// Over a file that takes so many calls: steps, each with whether the file is pending and how often the store failed
+/// behind it, and the bytes.
+type Row = (u64, [(Step, bool, u64); 3], &'static [u8]);
+
 // Seven bytes take four writes of two bytes at most: with fewer, a front is there.
+const ROWS: [Row; 6] = [
+    (
+        0,
+        [(CUT, false, 1), (UNSYNCED, false, 2), (SHORT, false, 3)],
+        &[1, 2, 3],
+    ),
+    (
+        1,
+        [(CUT, true, 1), (UNSYNCED, true, 2), (SHORT, true, 3)],
+        &[1, 9, 8],
+    ),
+    (
+        2,
+        [(CUT, true, 1), (UNSYNCED, true, 2), (SHORT, true, 3)],
+        &[1, 9, 8, 7, 6],
+    ),
+    (
+        3,
+        [(CUT, true, 1), (UNSYNCED, true, 2), (SHORT, true, 3)],
+        &[1, 9, 8, 7, 6, 5, 4],
+    ),
+    (
+        4,
+        [
+            (WRITTEN, true, 0),
+            (UNSYNCED, true, 1),
+            (Read(0, &ALL), true, 1),
+        ],
+        &ALL,
+    ),
+    (
+        5,
+        [
+            (WRITTEN, true, 0),
+            (Sync(Ok(())), false, 0),
+            (Read(0, &ALL), false, 0),
+        ],
+        &ALL,
+    ),
+];
+
 #[test]
 fn short_writes_go_on(rt: HostRuntime) -> Result<(), Fail> {
-    for calls in 0..6 {
+    for (calls, steps, bytes) in ROWS {
         let file = ShortFile {
             bytes: [1, 2, 3].to_vec(rt.alloc())?,
             calls,
@@ -137,33 +199,14 @@ fn short_writes_go_on(rt: HostRuntime) -> Result<(), Fail> {
             writes: true,
             failures: 0,
         };
-        let whole = calls >= 4;
-        assert_eq!(rt; store.write_at(1, &[9, 8, 7, 6, 5, 4, 3]).is_ok(), whole);
-        assert_eq!(rt; store.file.pending, calls > 0);
-        assert_eq!(rt; store.sync().is_ok(), calls > 4);
-        assert_eq!(rt; store.file.pending, 0 < calls && calls <= 4);
-        assert_eq!(rt;
-            store.failures,
-            if calls < 4 {
-                2
-            } else if calls == 4 {
-                1
-            } else {
-                0
-            }
-        );
-        let mut out = [0; 8];
-        let there = store.read_at(0, &mut out).is_ok();
-        assert_eq!(rt; there, whole);
-        assert!(rt; !whole || out == [1, 9, 8, 7, 6, 5, 4, 3]);
-        let front: &[u8] = match calls {
-            0 => &[1, 2, 3],
-            1 => &[1, 9, 8],
-            2 => &[1, 9, 8, 7, 6],
-            3 => &[1, 9, 8, 7, 6, 5, 4],
-            _ => &[1, 9, 8, 7, 6, 5, 4, 3],
-        };
-        assert_eq!(rt; store.file.bytes.as_slice(), front);
+        for (step, pending, failures) in steps {
+            assert!(rt; takes(&mut store, None, step), "{calls} calls");
+            assert!(rt;
+                store.file.pending == pending && store.failures == failures,
+                "{calls} calls"
+            );
+        }
+        assert_eq!(rt; store.file.bytes.as_slice(), bytes);
     }
     Ok(())
 }
@@ -221,23 +264,18 @@ fn fails_once() -> FileStore<FailsOnce> {
 }
 
 // A call that failed isn't tried again.
+const ONCE: [[Step; 2]; 4] = [
+    [Len(Err(Device)), Len(Ok(3))],
+    [FailedRead(0, 2), Read(0, &[9, 9])],
+    [Write(0, &[1], Err(Device)), Write(0, &[1], Ok(()))],
+    [Sync(Err(Device)), Sync(Ok(()))],
+];
+
 #[test]
 fn errors_are_answered(rt: HostRuntime) {
-    let mut out = [0; 2];
-    let mut store = fails_once();
-    assert_eq!(rt; store.len(), Err(Device));
-    assert_eq!(rt; store.len(), Ok(3));
-    assert_eq!(rt; store.failures, 1);
-    let mut store = fails_once();
-    assert_eq!(rt; store.read_at(0, &mut out), Err(Device));
-    assert_eq!(rt; store.read_at(0, &mut out), Ok(()));
-    assert_eq!(rt; store.failures, 1);
-    let mut store = fails_once();
-    assert_eq!(rt; store.write_at(0, &[1]), Err(Device));
-    assert_eq!(rt; store.write_at(0, &[1]), Ok(()));
-    assert_eq!(rt; store.failures, 1);
-    let mut store = fails_once();
-    assert_eq!(rt; store.sync(), Err(Device));
-    assert_eq!(rt; store.sync(), Ok(()));
-    assert_eq!(rt; store.failures, 1);
+    for steps in ONCE {
+        let mut store = fails_once();
+        takes_all(&rt, &mut store, &steps);
+        assert_eq!(rt; store.failures, 1);
+    }
 }

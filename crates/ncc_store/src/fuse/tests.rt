@@ -1,16 +1,25 @@
 use super::FuseStore;
+use crate::tests::steps::Step::{FailedRead, Len, Read, Sync, Write};
+use crate::tests::steps::{Step, takes};
 use crate::{Device, LogStore, MemStore, Store};
 use std::alloc::Global;
 use std::process::Abort;
 use std::test::Fail;
 
+/// Of a store that passes no call any more.
+const BLOWN: [Step; 4] = [
+    Len(Err(Device)),
+    FailedRead(0, 0),
+    Write(0, &[], Err(Device)),
+    Sync(Err(Device)),
+];
+
 // Each call fails.
 fn is_blown<S: Store>(rt: &impl Abort, store: &mut FuseStore<S>) {
     assert_eq!(rt; store.left(), 0);
-    assert_eq!(rt; store.len(), Err(Device));
-    assert_eq!(rt; store.read_at(0, &mut []), Err(Device));
-    assert_eq!(rt; store.write_at(0, &[]), Err(Device));
-    assert_eq!(rt; store.sync(), Err(Device));
+    for step in BLOWN {
+        assert!(rt; takes(store, Some(0), step));
+    }
 }
 
 // A write of that many sevens, after `passed` calls that each write a one, does so many of them.
@@ -61,17 +70,23 @@ fn fails_after_so_many_calls(rt: HostRuntime) -> Result<(), Fail> {
     Ok(())
 }
 
+/// One call of each kind, of three bytes.
+const EACH: [Step; 4] = [
+    Len(Ok(3)),
+    Read(1, &[2, 3]),
+    Write(3, &[4], Ok(())),
+    Sync(Ok(())),
+];
+
 #[test]
 fn passes_calls_of_each_kind(rt: HostRuntime) -> Result<(), Fail> {
     let alloc = rt.alloc();
     let inner = LogStore::new(alloc, [1, 2, 3].to_vec(alloc)?);
     let mut store = FuseStore::new(inner, 4);
-    let mut out = [0; 2];
-    assert_eq!(rt; store.len(), Ok(3));
-    assert_eq!(rt; store.read_at(1, &mut out), Ok(()));
-    assert_eq!(rt; out, [2, 3]);
-    assert_eq!(rt; store.write_at(3, &[4]), Ok(()));
-    assert_eq!(rt; store.sync(), Ok(()));
+    for step in EACH {
+        let size = store.inner.len().ok();
+        assert!(rt; takes(&mut store, size, step));
+    }
     is_blown(&rt, &mut store);
     let inner = store.into_inner();
     assert_eq!(rt; inner.calls().len(), 2);

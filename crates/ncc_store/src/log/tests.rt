@@ -1,4 +1,6 @@
 use super::{Call, LogStore};
+use crate::tests::steps::Step::{Len, Read, Sync, Write};
+use crate::tests::steps::{Step, takes};
 use crate::{Device, Store};
 use std::process::Abort;
 use std::test::Fail;
@@ -15,33 +17,48 @@ fn has_calls(rt: &impl Abort, store: &LogStore, calls: &[Option<(u64, &[u8])>]) 
     }
 }
 
+const STEPS: [Step; 7] = [
+    Write(2, &[8, 9], Ok(())),
+    Sync(Ok(())),
+    Write(0, &[7, 6, 5], Ok(())),
+    Read(1, &[6, 5]),
+    Len(Ok(4)),
+    Write(4, &[4], Ok(())),
+    Sync(Ok(())),
+];
+
+const LOGGED: [Option<(u64, &[u8])>; 5] = [
+    Some((2, &[8, 9])),
+    None,
+    Some((0, &[7, 6, 5])),
+    Some((4, &[4])),
+    None,
+];
+
+// What each write replaced.
+const REPLACED: [&[u8]; 3] = [&[3], &[1, 2, 8], &[]];
+
+// Whether these are the bytes that the writes replaced.
+fn has_replaced(store: &LogStore, replaced: &[&[u8]]) -> bool {
+    store.replaced.len() == replaced.len()
+        && store
+            .replaced
+            .iter()
+            .zip(replaced)
+            .all(|(gone, wanted)| gone.as_slice() == *wanted)
+}
+
 #[test]
 fn logs_a_mixed_run(rt: HostRuntime) -> Result<(), Fail> {
     let alloc = rt.alloc();
     let mut store = LogStore::new(alloc, [1, 2, 3].to_vec(alloc)?);
     has_calls(&rt, &store, &[]);
-    assert_eq!(rt; store.write_at(2, &[8, 9]), Ok(()));
-    assert_eq!(rt; store.sync(), Ok(()));
-    assert_eq!(rt; store.write_at(0, &[7, 6, 5]), Ok(()));
-    let mut out = [0; 2];
-    assert_eq!(rt; store.read_at(1, &mut out), Ok(()));
-    assert_eq!(rt; out, [6, 5]);
-    assert_eq!(rt; store.len(), Ok(4));
-    assert_eq!(rt; store.write_at(4, &[4]), Ok(()));
-    assert_eq!(rt; store.sync(), Ok(()));
-    let calls: [Option<(u64, &[u8])>; 5] = [
-        Some((2, &[8, 9])),
-        None,
-        Some((0, &[7, 6, 5])),
-        Some((4, &[4])),
-        None,
-    ];
-    has_calls(&rt, &store, &calls);
-    let replaced: [&[u8]; 3] = [&[3], &[1, 2, 8], &[]];
-    assert_eq!(rt; store.replaced.len(), replaced.len());
-    for (gone, wanted) in store.replaced.iter().zip(replaced) {
-        assert_eq!(rt; gone.as_slice(), wanted);
+    for (number, step) in STEPS.iter().enumerate() {
+        let size = store.bytes.len() as u64;
+        assert!(rt; takes(&mut store, Some(size), *step), "step {number}");
     }
+    has_calls(&rt, &store, &LOGGED);
+    assert!(rt; has_replaced(&store, &REPLACED));
     assert_eq!(rt; store.failures, 0);
     assert_eq!(rt; store.into_bytes().as_slice(), [7, 6, 5, 9, 4].as_slice());
     Ok(())

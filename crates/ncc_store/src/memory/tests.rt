@@ -1,21 +1,29 @@
 use super::MemStore;
+use crate::tests::steps::Step::{Len, Read, Sync, Write};
+use crate::tests::steps::{Step, takes};
 use crate::{Device, Store};
+use std::process::Abort;
 use std::test::Fail;
+
+const STEPS: [Step; 9] = [
+    Len(Ok(3)),
+    Write(1, &[7], Ok(())),
+    Write(3, &[4, 5], Ok(())),
+    Write(4, &[8, 9], Ok(())),
+    Write(6, &[], Ok(())),
+    Sync(Ok(())),
+    Len(Ok(6)),
+    Read(1, &[7, 3, 4]),
+    Read(6, &[]),
+];
 
 #[test]
 fn writes_inside_and_over_the_end(rt: HostRuntime) -> Result<(), Fail> {
     let mut store = MemStore::new([1, 2, 3].to_vec(rt.alloc())?);
-    assert_eq!(rt; store.len(), Ok(3));
-    assert_eq!(rt; store.write_at(1, &[7]), Ok(()));
-    assert_eq!(rt; store.write_at(3, &[4, 5]), Ok(()));
-    assert_eq!(rt; store.write_at(4, &[8, 9]), Ok(()));
-    assert_eq!(rt; store.write_at(6, &[]), Ok(()));
-    assert_eq!(rt; store.sync(), Ok(()));
-    assert_eq!(rt; store.len(), Ok(6));
-    let mut out = [0; 3];
-    assert_eq!(rt; store.read_at(1, &mut out), Ok(()));
-    assert_eq!(rt; out, [7, 3, 4]);
-    assert_eq!(rt; store.read_at(6, &mut []), Ok(()));
+    for (number, step) in STEPS.iter().enumerate() {
+        let size = store.bytes.len() as u64;
+        assert!(rt; takes(&mut store, Some(size), *step), "step {number}");
+    }
     assert_eq!(rt; store.failures, 0);
     let bytes = store.into_bytes();
     assert_eq!(rt; bytes.as_slice(), [1, 7, 3, 4, 8, 9].as_slice());
