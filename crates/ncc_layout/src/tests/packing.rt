@@ -38,7 +38,12 @@ const LONE: Row = Row {
     records: 3,
     length: 106,
     packed: true,
-    places: &[(0, Some(100)), (3, Some(106)), (4, Some(108)), (1 << 63, None)],
+    places: &[
+        (0, Some(100)),
+        (3, Some(106)),
+        (4, Some(108)),
+        (1 << 63, None),
+    ],
 };
 
 /// The last record number whose place is below 2^64.
@@ -66,7 +71,12 @@ const IN_TURN: Row = Row {
     records: 2,
     length: 116,
     packed: true,
-    places: &[(0, Some(100)), (1, Some(108)), (2, Some(116)), (3, Some(124))],
+    places: &[
+        (0, Some(100)),
+        (1, Some(108)),
+        (2, Some(116)),
+        (3, Some(124)),
+    ],
 };
 
 const LONGER: Row = Row {
