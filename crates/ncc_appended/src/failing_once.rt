@@ -142,7 +142,8 @@ fn has_old_records(alloc: Global, case: &Case, file: &mut NcFile<FailsOnce>) -> 
     Some(file.records() == case.records && old.ends_with(records.as_slice()))
 }
 
-/// Whether the file answers Reopen once this call failed, and gives the old records. The failed store isn't called again.
+/// Whether the file answers Reopen once this call failed, and gives the old records. A store that failed isn't called
+/// again.
 fn is_read_on(alloc: Global, case: &Case, fails_at: u64) -> Option<bool> {
     let mut file = opened(alloc, case, fails_at)?;
     let first = answers(&mut file, case.image);
