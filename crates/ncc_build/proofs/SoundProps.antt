@@ -35,7 +35,7 @@ var-prop v dims x =
     let attrs : IsProp (AllByRecursion (LegalAttr v) x.attrs) = AllByRecursion-prop (LegalAttr v) (attr-prop v) x.attrs in
     hlevel (props, ids, attrs)
 
-sound_is : (s : Schema) → ∥ Sound s ∥₁ → Sound s
+pub sound_is : (s : Schema) → ∥ Sound s ∥₁ → Sound s
 sound_is s sound = record {
   count = ∥∥₁_elim sound (count-prop s.version s.count) (λ (l : Sound s). l.count);
   dims_number = ∥∥₁_elim sound (hlevel props) (λ (l : Sound s). l.dims_number);

@@ -15,3 +15,4 @@ mod tests;
 pub use builder::SchemaBuilder;
 pub use built::Built;
 pub use fault::WriteFault;
+pub use ranges::values_in_range;

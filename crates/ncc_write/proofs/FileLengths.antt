@@ -20,7 +20,8 @@ use Rattle.ncc_build.specs.Dataset.{fixed_vars, Dataset, AreSlabsOf, IsDataset}
 use Rattle.ncc_build.specs.File.{padding_in, padding_bytes, header_of, file_of}
 use Rattle.ncc_layout.proofs.StandardPlaces.{length-standard_from}
 use Rattle.ncc_write.proofs.Slabs.{length_slab}
-use Rattle.ncc_write.proofs.Parts.{with_padding, in_turn, one_record, fixed_part, records_part, file_parts}
+use Rattle.ncc_write.specs.Records.{with_padding, in_turn, bytes_of_record, whole_size}
+use Rattle.ncc_write.proofs.Parts.{fixed_part, records_part, file_parts}
 use Rattle.ncc_write.proofs.Paddings.{padding_by, length_padding}
 
 -- ---- the header
@@ -30,10 +31,6 @@ length_header s = length-canon s (standard_places s) (length-standard_from s 0 s
     ∙ sym (length-canon s (unplaced s.vars) (length-map s.vars (λ x. no_place)))
 
 -- ---- slabs one behind the other
-
--- the bytes of a slab with its padding
-abbrev pub whole_size : Schema → Var → ℕ
-whole_size s x = slab s.dims x + padding_in s x
 
 pub length_whole : (s : Schema) (x : Var) (values : Values) → length (bytes_of values) ≡ slab s.dims x
     → length (with_padding s (x, values)) ≡ whole_size s x
@@ -123,11 +120,11 @@ records_before s front x after split =
 
 pub length_records : (s : Schema) (records : List (List Values))
     → AllByRecursion (AreSlabsOf s.dims (record_vars s.dims s.vars)) records
-    → length (flat_map (one_record s) records) ≡ length records * record_size_of s
+    → length (flat_map (bytes_of_record s) records) ≡ length records * record_size_of s
 length_records s [] all = omega arith
 length_records s (values ∷ records) all =
-    let both = length-append (one_record s values) (flat_map (one_record s) records) in
-    let one : length (one_record s values) ≡ record_size_of s =
+    let both = length-append (bytes_of_record s values) (flat_map (bytes_of_record s) records) in
+    let one : length (bytes_of_record s values) ≡ record_size_of s =
     length_in_turn s (record_vars s.dims s.vars) values all.0 ∙ one_record_is s in
     omega (arith, both, one, length_records s records all.1)
 

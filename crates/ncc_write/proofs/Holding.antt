@@ -25,7 +25,7 @@ use Rattle.ncc_write.proofs.SlabPlaces.{Placed, fixed_placed, record_placed}
 use Rattle.ncc_write.proofs.Indices.{row_below, var_placed, standard_split}
 
 -- an element of a slab that stands in the file
-element_read : (s : Schema) (file : List ℕ) (x : Var) (values : Values) (at : ℕ) (is : List ℕ)
+pub element_read : (s : Schema) (file : List ℕ) (x : Var) (values : Values) (at : ℕ) (is : List ℕ)
     → Placed s file x values at → Inside (inner s.dims x) is
     → bytes_at file (at + row_major (inner s.dims x) is * size_of x.xtype) (size_of x.xtype) ≡ bytes_at
     (bytes_of values) (row_major (inner s.dims x) is * size_of x.xtype) (size_of x.xtype)

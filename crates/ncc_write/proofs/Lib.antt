@@ -17,6 +17,7 @@ mod Taking
 mod Ending
 mod Fronts
 mod Growing
+mod OpenSizes
 mod Parts
 mod Paddings
 mod FileLengths
@@ -34,3 +35,9 @@ mod Completing
 mod Behind
 mod Filling
 mod Pages
+mod RecordParts
+mod MoreRecords
+mod MoreFills
+mod HeldRecords
+mod PackedRecords
+mod GrownFiles

@@ -12,18 +12,8 @@ use Rattle.ncc_layout.specs.Sizes.{record_vars}
 use Rattle.ncc_layout.specs.Plans.{known}
 use Rattle.ncc_build.specs.Dataset.{Slab, fixed_vars, fixed_slabs, record_slabs, Dataset, AreSlabsOf, IsDataset}
 use Rattle.ncc_build.specs.File.{padding_bytes, padded, header_of, file_of}
+use Rattle.ncc_write.specs.Records.{bytes_of_record, in_turn}
 use Rattle.ncc_write.proofs.Slabs.{vars_of_fixed, vars_of_record}
-
--- the bytes of a slab, and its padding
-abbrev pub with_padding : Schema → Var × Values → List ℕ
-with_padding s b = bytes_of b.1 ++ padding_bytes s b.0
-
--- slabs one behind the other, each with its padding
-abbrev pub in_turn : Schema → List Var → List Values → List ℕ
-in_turn s vars values = flat_map (with_padding s) (zip vars values)
-
-abbrev pub one_record : Schema → List Values → List ℕ
-one_record s values = in_turn s (record_vars s.dims s.vars) values
 
 -- ---- by variables
 
@@ -62,7 +52,7 @@ length_vars (b ∷ slabs) = ap suc (length_vars slabs)
 each_record : (s : Schema) (start : ℕ) (records : List (List Values))
     → AllByRecursion (AreSlabsOf s.dims (record_vars s.dims s.vars)) records
     → flat_map (padded s) (zip (flat_map (record_slabs s) (range_with_len start (length records)))
-    (flat_map (λ values. values) records)) ≡ flat_map (one_record s) records
+    (flat_map (λ values. values) records)) ≡ flat_map (bytes_of_record s) records
 each_record s start [] all = refl
 each_record s start (values ∷ records) all =
     let slabs = record_slabs s start in
@@ -80,7 +70,7 @@ abbrev pub fixed_part : Dataset → List ℕ
 fixed_part d = in_turn d.schema (fixed_vars d.schema.dims d.schema.vars) d.fixed
 
 abbrev pub records_part : Dataset → List ℕ
-records_part d = flat_map (one_record d.schema) d.records
+records_part d = flat_map (bytes_of_record d.schema) d.records
 
 pub file_parts : (d : Dataset) → IsDataset d → file_of d ≡ header_of d.schema ++ (fixed_part d ++ records_part d)
 file_parts d is =

@@ -17,8 +17,9 @@ use Rattle.ncc_build.specs.Dataset.{fixed_vars, Dataset, IsSlabOf, AreSlabsOf, I
 use Rattle.ncc_build.specs.File.{padding_bytes, header_of, file_of}
 use Rattle.ncc_write.specs.Holds.{no_slab}
 use Rattle.ncc_write.proofs.Slabs.{length_slab}
-use Rattle.ncc_write.proofs.Parts.{with_padding, in_turn, one_record, fixed_part, records_part, file_parts}
-use Rattle.ncc_write.proofs.FileLengths.{length_header, whole_size, length_whole, length_in_turn, fixed_whole, one_record_is, records_before}
+use Rattle.ncc_write.specs.Records.{with_padding, in_turn, bytes_of_record, whole_size}
+use Rattle.ncc_write.proofs.Parts.{fixed_part, records_part, file_parts}
+use Rattle.ncc_write.proofs.FileLengths.{length_header, length_whole, length_in_turn, fixed_whole, one_record_is, records_before}
 use Rattle.ncc_write.proofs.Pieces.{stands_same, stands_first, stands_before, stands_behind, stands_in}
 
 -- ---- among slabs of one kind
@@ -53,35 +54,35 @@ in_turn_at s (y ∷ front) x after (v ∷ values) are =
 
 -- ---- records
 
-record_size_is : (s : Schema) (values : List Values) → AreSlabsOf s.dims (record_vars s.dims s.vars) values
-    → length (one_record s values) ≡ record_size_of s
+pub record_size_is : (s : Schema) (values : List Values) → AreSlabsOf s.dims (record_vars s.dims s.vars) values
+    → length (bytes_of_record s values) ≡ record_size_of s
 record_size_is s values are = length_in_turn s (record_vars s.dims s.vars) values are ∙ one_record_is s
 
 pub record_at : (s : Schema) (records : List (List Values)) (r : ℕ)
     → AllByRecursion (AreSlabsOf s.dims (record_vars s.dims s.vars)) records → r < length records
-    → StandsAt (flat_map (one_record s) records) (one_record s (get_or records r [])) (r * record_size_of s)
+    → StandsAt (flat_map (bytes_of_record s) records) (bytes_of_record s (get_or records r [])) (r * record_size_of s)
     × AreSlabsOf s.dims (record_vars s.dims s.vars) (get_or records r [])
 record_at s [] r all below = absurd (omega (arith, below))
 record_at s (values ∷ records) zero all below =
-    let rest = flat_map (one_record s) records in (
-      stands_same (one_record s values ++ rest) (one_record s values) 0 (0 * record_size_of s) (omega arith)
-          (stands_first (one_record s values) rest),
+    let rest = flat_map (bytes_of_record s) records in (
+      stands_same (bytes_of_record s values ++ rest) (bytes_of_record s values) 0 (0 * record_size_of s) (omega arith)
+          (stands_first (bytes_of_record s values) rest),
       all.0,
     )
 record_at s (values ∷ records) (suc r) all below =
     let rest = record_at s records r all.1 (omega (arith, below)) in
-    let piece = one_record s (get_or records r []) in
-    let later = flat_map (one_record s) records in (
-      stands_same (one_record s values ++ later) piece (record_size_of s + r * record_size_of s)
+    let piece = bytes_of_record s (get_or records r []) in
+    let later = flat_map (bytes_of_record s) records in (
+      stands_same (bytes_of_record s values ++ later) piece (record_size_of s + r * record_size_of s)
           (suc r * record_size_of s) (omega arith)
-          (stands_behind (one_record s values) later piece (record_size_of s) (r * record_size_of s)
+          (stands_behind (bytes_of_record s values) later piece (record_size_of s) (r * record_size_of s)
           (record_size_is s values all.0) rest.0),
       rest.1,
     )
 
 -- ---- of one kind
 
-filter_at : (p : Var → Bool) (front : List Var) (x : Var) (after : List Var) → p x ≡ true
+pub filter_at : (p : Var → Bool) (front : List Var) (x : Var) (after : List Var) → p x ≡ true
     → filter p (front ++ x ∷ after) ≡ filter p front ++ x ∷ filter p after
 filter_at p front x after h = filter-append p front (x ∷ after)
     ∙ ap (λ (l : List Var). filter p front ++ l) (cond-true (p x) (x ∷ filter p after) (filter p after) h)
@@ -139,7 +140,7 @@ module _ (d : Dataset) (is : IsDataset d) (front : List Var) (x : Var) (after : 
       let piece = bytes_of (get_or (get_or d.records r []) (length (record_vars s.dims front)) no_slab) in
       let sum_is : sum_by (whole_size s) (record_vars s.dims front) ≡ record_sum s.dims front =
       records_before s front x (record_vars s.dims after) (kind_is (is_record_var s.dims) kind) in
-      let stands = stands_in (records_part d) (one_record s (get_or d.records r [])) piece (r * record_size_of s)
+      let stands = stands_in (records_part d) (bytes_of_record s (get_or d.records r [])) piece (r * record_size_of s)
       (sum_by (whole_size s) (record_vars s.dims front)) one.0 here.stands in
       let long : length (fixed_part d) ≡ fixed_sum s.dims s.vars =
       length_in_turn s (fixed_vars s.dims s.vars) d.fixed is.fixed ∙ fixed_whole s s.vars in

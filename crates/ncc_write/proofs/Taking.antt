@@ -32,7 +32,7 @@ bytes_behind n bytes h = recursion_from_All (λ b. b < 256) (drop n bytes)
 
 -- ---- slabs
 
-slab_taken : (dims : List Dim) (x : Var) (bytes : List ℕ) → IsBytes bytes → length bytes ≡ slab dims x
+pub slab_taken : (dims : List Dim) (x : Var) (bytes : List ℕ) → IsBytes bytes → length bytes ≡ slab dims x
     → IsSlabOf dims x (values_of x.xtype bytes)
 slab_taken dims x bytes are long = record {
   xtype = type_of-values_of x.xtype bytes;

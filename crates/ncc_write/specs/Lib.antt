@@ -7,3 +7,7 @@ pub mod Outlet
 pub mod Turns
 pub mod Positions
 pub mod Writer
+pub mod Records
+pub mod Appends
+pub mod Additions
+pub mod Extends

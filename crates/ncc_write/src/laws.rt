@@ -1,5 +1,7 @@
 //! What holds of the file of every dataset, each law the contract of a function that does nothing.
 
+pub mod adding;
+
 ghost use Rattle.std.specs.Prelude.{◌≡◌, ℕ, ◌*◌, List, [], length};
 ghost use Rattle.ncc_values.specs.Numbers.{IsBytes};
 ghost use Rattle.ncc_values.specs.XType.{size_of};
@@ -7,17 +9,22 @@ ghost use Rattle.ncc_schema.specs.declared.schema.Schema.{Schema};
 ghost use Rattle.ncc_schema.specs.declared.schema.Var.{Var};
 ghost use Rattle.ncc_build.specs.Fill.{fills};
 ghost use Rattle.ncc_build.specs.File.{padding_in, padding_bytes, header_of};
+ghost use Rattle.ncc_check.specs.Files.{schema_of, placed_of};
+ghost use Rattle.ncc_write.specs.Records.{HasSizes};
 ghost use Rattle.ncc_write.specs.Writing.{IsWhole, written};
 ghost use Rattle.ncc_write.specs.Laws.{FileIsPlaced, FilePasses, FileHolds, FileLength, DatasetTold, OneDataset, CountIsRewritten};
 ghost use Rattle.ncc_write.specs.Laws.{WrittenInFull, BytesAreData, CompleteWhenTaken, WrittenStays};
 ghost use Rattle.ncc_write.specs.Laws.{OutIsInFiles, TakingGrows, NextIsBehind};
 ghost use Rattle.ncc_write.specs.Laws.{FillingGoesOn, FillingEnds, TakingAllCompletes};
 
+use ncc_check::NcFile;
+use ncc_check::laws::open_file_stands;
 use ncc_header::laws::{canonical_is_unmarked, header_is_begun, one_header};
 use ncc_layout::laws::{
     standard_places_are_aligned, standard_places_are_in_turn, standard_places_keep_all_rules,
 };
 use ncc_schema::laws::canonical_header;
+use ncc_store::Store;
 
 /// What a writer writes for all values of a dataset is its file.
 pub fn written_in_full()
@@ -124,6 +131,13 @@ pub fn taking_all_completes()
 pub fn count_is_rewritten()
     ensures { CountIsRewritten }
 {}
+
+/// The sizes of an open file's variables, and of a record, are those of its schema.
+pub fn open_file_has_sizes<S: Store>(file: &NcFile<S>)
+    ensures { HasSizes (schema_of file.now) (placed_of file.now) }
+{
+    open_file_stands(file);
+}
 
 #[cfg(test)]
 mod tests;

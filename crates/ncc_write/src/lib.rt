@@ -1,7 +1,11 @@
 //! Writes netCDF classic files: values are put in the order in which they lie, through a buffer of one size.
 #![tactic(auto)]
 
+mod appending;
 mod course;
+mod extending;
+mod filled;
+mod image;
 pub mod laws;
 mod outlet;
 mod putting;
@@ -11,6 +15,9 @@ mod turning;
 mod whole;
 mod writer;
 
+pub use appending::append;
+pub use extending::extend;
+pub use filled::fill_record;
 pub use ncc_build::{Built, SchemaBuilder, WriteFault};
 pub use whole::headline;
 pub use writer::FileWriter;

@@ -84,6 +84,7 @@ impl Turn {
         ensures fill { result.now ≡ turn_fill self.now }
         ensures some { 0 < length result.now }
         ensures short { length result.now ≤ 8 }
+        ensures long { length result.now ≡ size_of self.now.xtype }
     {
         &self.fill[..self.xtype.size()]
     }

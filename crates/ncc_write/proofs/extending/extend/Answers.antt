@@ -1,0 +1,289 @@
+use Rattle.std.proofs.Common.{◌≡◌, ◌≢◌, ◌<◌, ◌≤◌, ◌+◌, ⊎_elim, ℕ, suc, List, Bool, false, Ok, Err, length, refl, ap, sym, subst, ◌∙◌, arith, add-one, rules}
+use Rattle.ncc_store.specs.Store.{LeavesOnly}
+use Rattle.ncc_store.proofs.Moments.{joined}
+use Rattle.ncc_check.specs.Appending.{HasRecordOrNot, TakesRecord}
+use Rattle.ncc_check.specs.Files.{store_of, schema_of, placed_of, must_reopen}
+use Rattle.ncc_check.specs.declared.append_error.AppendError.{AppendError}
+use Rattle.ncc_check.specs.declared.append_error.AppendError.TheVariants as error
+use Rattle.ncc_layout.specs.Placed.{record_size_of_file}
+use Rattle.ncc_write.specs.Additions.{HoldsAll}
+use Rattle.ncc_write.specs.Extends.{AddsAs, Contains, HasRecords, HoldsSome, TakesRecords, with_fills}
+use Rattle.ncc_write.specs.Records.{bytes_of_record, fill_values}
+use Rattle.ncc_write.proofs.MoreFills.{Laws, at_start, held_first, some_held, one_fill, fill_or_not}
+use Rattle.ncc_write.proofs.MoreRecords.{no_records, as_first, one_record_more, room_more, refused_so, extended_so}
+use Rattle.ncc_write.proofs.extending.extend.Goals as goal
+
+pub returns-then-more-eq0-clause-holds_some : goal.returns-then-more-eq0-clause-holds_some
+returns-then-more-eq0-clause-holds_some g c = λ told limit places d start.
+    let laws : Laws = record {
+      grows = c.append_holds.ensures.grows;
+      dataset = c.append_holds.ensures.dataset;
+      stands = c.append_holds.ensures.stands;
+      opens = c.bytes_with_a_record_pass_on.ensures.opens;
+      schema = c.opens_with_its_schema.ensures;
+      fills = c.fills_are_a_record.ensures;
+      none = c.followed_twice.ensures.none;
+      more = c.followed_twice.ensures.fills;
+    } in
+    some_held laws _ limit places d _ _ start c.args.more
+
+pub returns-then-more-eq0-clause-any_moment : goal.returns-then-more-eq0-clause-any_moment
+returns-then-more-eq0-clause-any_moment g c = λ told only limit places d start.
+    at_start g.S.Store.bytes g.S.Store.images g.S.Store.moment g.S.Store.images_since (store_of c.args.file.now)
+    (λ i. ∥ HoldsSome i limit places d c.args.more ∥₁) (λ i left. g.met.S.Store.only_now (store_of c.args.file.now) i left)
+    only (returns-then-more-eq0-clause-holds_some g c told limit places d start)
+
+pub returns-in_err-appendable-clause-holds_some : goal.returns-in_err-appendable-clause-holds_some
+returns-in_err-appendable-clause-holds_some g c = λ told limit places d start.
+    let laws : Laws = record {
+      grows = c.append_holds.ensures.grows;
+      dataset = c.append_holds.ensures.dataset;
+      stands = c.append_holds.ensures.stands;
+      opens = c.bytes_with_a_record_pass_on.ensures.opens;
+      schema = c.opens_with_its_schema.ensures;
+      fills = c.fills_are_a_record.ensures;
+      none = c.followed_twice.ensures.none;
+      more = c.followed_twice.ensures.fills;
+    } in
+    some_held laws _ limit places d _ _ start c.args.more
+
+pub returns-in_err-appendable-clause-any_moment : goal.returns-in_err-appendable-clause-any_moment
+returns-in_err-appendable-clause-any_moment g c = λ told only limit places d start.
+    at_start g.S.Store.bytes g.S.Store.images g.S.Store.moment g.S.Store.images_since (store_of c.args.file.now)
+    (λ i. ∥ HoldsSome i limit places d c.args.more ∥₁) (λ i left. g.met.S.Store.only_now (store_of c.args.file.now) i left)
+    only (returns-in_err-appendable-clause-holds_some g c told limit places d start)
+
+pub returns-in-Err-clause-holds_some : goal.returns-in-Err-clause-holds_some
+returns-in-Err-clause-holds_some g c = λ told limit places d start.
+    let laws : Laws = record {
+      grows = c.append_holds.ensures.grows;
+      dataset = c.append_holds.ensures.dataset;
+      stands = c.append_holds.ensures.stands;
+      opens = c.bytes_with_a_record_pass_on.ensures.opens;
+      schema = c.opens_with_its_schema.ensures;
+      fills = c.fills_are_a_record.ensures;
+      none = c.followed_twice.ensures.none;
+      more = c.followed_twice.ensures.fills;
+    } in
+    some_held laws _ limit places d _ _ start c.args.more
+
+pub returns-in-Err-clause-any_moment : goal.returns-in-Err-clause-any_moment
+returns-in-Err-clause-any_moment g c = λ told only limit places d start.
+    at_start g.S.Store.bytes g.S.Store.images g.S.Store.moment g.S.Store.images_since (store_of c.args.file.now)
+    (λ i. ∥ HoldsSome i limit places d c.args.more ∥₁) (λ i left. g.met.S.Store.only_now (store_of c.args.file.now) i left)
+    only (returns-in-Err-clause-holds_some g c told limit places d start)
+
+pub loop-done-init : goal.loop-done-init
+loop-done-init g c =
+    let takes : (must_reopen c.args.file.now ≡ false) × TakesRecord (schema_of c.args.file.now) (placed_of c.args.file.now) = c.in_ok-appendable.ensures in
+    record {
+      fresh = takes.0;
+      has = no_records (schema_of c.args.file.now) (placed_of c.args.file.now);
+      room = tt;
+      few = omega arith;
+      takes = takes.1;
+      was_fresh = takes.0;
+      image_is = c.in-Ok.ensures;
+      first = λ none. refl;
+      holds = λ told limit places d start.
+          let laws : Laws = record {
+            grows = c.append_holds.ensures.grows;
+            dataset = c.append_holds.ensures.dataset;
+            stands = c.append_holds.ensures.stands;
+            opens = c.bytes_with_a_record_pass_on.ensures.opens;
+            schema = c.opens_with_its_schema.ensures;
+            fills = c.fills_are_a_record.ensures;
+            none = c.followed_twice.ensures.none;
+            more = c.followed_twice.ensures.fills;
+          } in
+          held_first laws _ limit places d _ _ start;
+      only = λ only. only;
+      moments = λ told only limit places d start.
+          let laws : Laws = record {
+            grows = c.append_holds.ensures.grows;
+            dataset = c.append_holds.ensures.dataset;
+            stands = c.append_holds.ensures.stands;
+            opens = c.bytes_with_a_record_pass_on.ensures.opens;
+            schema = c.opens_with_its_schema.ensures;
+            fills = c.fills_are_a_record.ensures;
+            none = c.followed_twice.ensures.none;
+            more = c.followed_twice.ensures.fills;
+          } in
+          at_start g.S.Store.bytes g.S.Store.images g.S.Store.moment g.S.Store.images_since (store_of c.args.file.now)
+          (λ i. ∥ HoldsSome i limit places d c.args.more ∥₁) (λ i left. g.met.S.Store.only_now (store_of c.args.file.now) i left)
+          only (some_held laws _ limit places d _ _ start c.args.more);
+      failures = refl;
+      calls = omega arith;
+      reach = omega arith;
+    }
+
+pub returns-in_err-add_one-clause-answer : goal.returns-in_err-add_one-clause-answer
+returns-in_err-add_one-clause-answer g c =
+    let e = c.in_err-add_one.field-0.0 in
+    let at = c.loop-done.invariant in
+    let is : c.from_residual-in_err-add_one.result ≡ Err e = search rules in
+    let adds : AddsAs false (schema_of c.loop-done.file) (placed_of c.loop-done.file) (Err e) =
+    subst (λ (b : Bool). AddsAs b (schema_of c.loop-done.file) (placed_of c.loop-done.file) (Err e)) at.fresh c.in_err-add_one.ensures.answer in
+    let why = refused_so (schema_of c.args.file.now) (placed_of c.args.file.now) c.loop-done._done c.args.more
+    (schema_of c.loop-done.file) (placed_of c.loop-done.file) (must_reopen c.args.file.now) e at.has at.was_fresh at.takes
+    (omega (arith, c.loop-done-test.true)) adds in
+    rw is (extended_so (must_reopen c.args.file.now) (schema_of c.args.file.now) (placed_of c.args.file.now) c.args.more e
+    (omega (arith, c.loop-done-test.true)) why.0)
+
+pub returns-in_err-add_one-clause-unchanged : goal.returns-in_err-add_one-clause-unchanged
+returns-in_err-add_one-clause-unchanged g c =
+    let e = c.in_err-add_one.field-0.0 in
+    let at = c.loop-done.invariant in
+    let is : c.from_residual-in_err-add_one.result ≡ Err e = search rules in
+    let adds : AddsAs false (schema_of c.loop-done.file) (placed_of c.loop-done.file) (Err e) =
+    subst (λ (b : Bool). AddsAs b (schema_of c.loop-done.file) (placed_of c.loop-done.file) (Err e)) at.fresh c.in_err-add_one.ensures.answer in
+    let why = refused_so (schema_of c.args.file.now) (placed_of c.args.file.now) c.loop-done._done c.args.more
+    (schema_of c.loop-done.file) (placed_of c.loop-done.file) (must_reopen c.args.file.now) e at.has at.was_fresh at.takes
+    (omega (arith, c.loop-done-test.true)) adds in
+    rw is (λ no_device no_room. absurd (⊎_elim no_device no_room why.1))
+
+pub returns-in_err-add_one-clause-any_moment : goal.returns-in_err-add_one-clause-any_moment
+returns-in_err-add_one-clause-any_moment g c = λ told only limit places d start.
+    let at = c.loop-done.invariant in
+    let s = schema_of c.args.file.now in
+    let p = placed_of c.args.file.now in
+    let t = schema_of c.loop-done.file in
+    let q = placed_of c.loop-done.file in
+    let k = c.loop-done._done in
+    let e = c.in_err-add_one.field-0.0 in
+    let laws : Laws = record {
+      grows = c.append_holds.ensures.grows;
+      dataset = c.append_holds.ensures.dataset;
+      stands = c.append_holds.ensures.stands;
+      opens = c.bytes_with_a_record_pass_on.ensures.opens;
+      schema = c.opens_with_its_schema.ensures;
+      fills = c.fills_are_a_record.ensures;
+      none = c.followed_twice.ensures.none;
+      more = c.followed_twice.ensures.fills;
+    } in
+    let image : c.as_slice.result.now ≡ bytes_of_record s (fill_values s) = c.as_slice.ensures.value ∙ at.image_is in
+    let adds : AddsAs false t q (Err e) =
+    subst (λ (b : Bool). AddsAs b t q (Err e)) at.fresh c.in_err-add_one.ensures.answer in
+    let why = refused_so s p k c.args.more t q (must_reopen c.args.file.now) e at.has at.was_fresh at.takes
+    (omega (arith, c.loop-done-test.true)) adds in
+    let either : (i : List ℕ) → e ≡ error.Device → HasRecordOrNot (g.S.Store.bytes (store_of c.loop-done.file)) t q c.as_slice.result.now i
+    → ∥ HoldsSome i limit places d c.args.more ∥₁ =
+    λ i device or_not. fill_or_not laws _ limit places d s p start k _ t q at.has (at.holds told limit places d start)
+    (subst (λ (x : AppendError). AddsAs false t q (Err x)) device adds).1
+    c.as_slice.result.now image c.args.more i c.loop-done-test.true or_not in
+    let same : e ≡ error.CountFull → c.add_one.new.file ≡ c.loop-done.file =
+    λ full. c.in_err-add_one.ensures.unchanged (λ device. cc (sym full ∙ device)) in
+    ⊎_elim
+    (λ device. joined g.S.Store.moment g.S.Store.images_since (store_of c.args.file.now) (store_of c.loop-done.file) (store_of c.add_one.new.file)
+    _ _ _ (at.moments told only limit places d start) (c.add_one.ensures.any_moment told (at.only only)) (λ i h. h) (λ i or_not. either i device or_not))
+    (λ full. subst (λ f. LeavesOnly g.S.Store.moment g.S.Store.images_since (store_of c.args.file.now) (store_of f) (λ i. ∥ HoldsSome i limit places d c.args.more ∥₁))
+    (sym (same full)) (at.moments told only limit places d start))
+    why.1
+
+pub returns-in_err-add_one-clause-holds_some : goal.returns-in_err-add_one-clause-holds_some
+returns-in_err-add_one-clause-holds_some g c = λ told limit places d start.
+    let at = c.loop-done.invariant in
+    let s = schema_of c.args.file.now in
+    let p = placed_of c.args.file.now in
+    let t = schema_of c.loop-done.file in
+    let q = placed_of c.loop-done.file in
+    let k = c.loop-done._done in
+    let e = c.in_err-add_one.field-0.0 in
+    let laws : Laws = record {
+      grows = c.append_holds.ensures.grows;
+      dataset = c.append_holds.ensures.dataset;
+      stands = c.append_holds.ensures.stands;
+      opens = c.bytes_with_a_record_pass_on.ensures.opens;
+      schema = c.opens_with_its_schema.ensures;
+      fills = c.fills_are_a_record.ensures;
+      none = c.followed_twice.ensures.none;
+      more = c.followed_twice.ensures.fills;
+    } in
+    let image : c.as_slice.result.now ≡ bytes_of_record s (fill_values s) = c.as_slice.ensures.value ∙ at.image_is in
+    let adds : AddsAs false t q (Err e) =
+    subst (λ (b : Bool). AddsAs b t q (Err e)) at.fresh c.in_err-add_one.ensures.answer in
+    let why = refused_so s p k c.args.more t q (must_reopen c.args.file.now) e at.has at.was_fresh at.takes
+    (omega (arith, c.loop-done-test.true)) adds in
+    let either : (i : List ℕ) → e ≡ error.Device → HasRecordOrNot (g.S.Store.bytes (store_of c.loop-done.file)) t q c.as_slice.result.now i
+    → ∥ HoldsSome i limit places d c.args.more ∥₁ =
+    λ i device or_not. fill_or_not laws _ limit places d s p start k _ t q at.has (at.holds told limit places d start)
+    (subst (λ (x : AppendError). AddsAs false t q (Err x)) device adds).1
+    c.as_slice.result.now image c.args.more i c.loop-done-test.true or_not in
+    let same : e ≡ error.CountFull → c.add_one.new.file ≡ c.loop-done.file =
+    λ full. c.in_err-add_one.ensures.unchanged (λ device. cc (sym full ∙ device)) in
+    ⊎_elim
+    (λ device. either (g.S.Store.bytes (store_of c.add_one.new.file)) device (c.in_err-add_one.ensures.front told))
+    (λ full. subst (λ f. ∥ HoldsSome (g.S.Store.bytes (store_of f)) limit places d c.args.more ∥₁) (sym (same full))
+    ∣ record { more = k; few = at.few; holds = (at.holds told limit places d start).all } ∣₁)
+    why.1
+
+pub returns-clause-holds : goal.returns-clause-holds
+returns-clause-holds g c = λ told limit places d start.
+    let at = c.loop-done.invariant in
+    let all : c.loop-done._done ≡ c.args.more = omega (arith, at.few, c.loop-done-test.false) in
+    ∣ subst (λ (k : ℕ). HoldsAll (g.S.Store.bytes (store_of c.loop-done.file)) limit places (with_fills d k)) all (at.holds told limit places d start).all ∣₁
+
+pub returns-clause-holds_some : goal.returns-clause-holds_some
+returns-clause-holds_some g c = λ told limit places d start.
+    let at = c.loop-done.invariant in
+    ∣ record { more = c.loop-done._done; few = at.few; holds = (at.holds told limit places d start).all } ∣₁
+
+pub loop-done-preserved : goal.loop-done-preserved
+loop-done-preserved g c =
+    let at = c.loop-done.invariant in
+    let s = schema_of c.args.file.now in
+    let p = placed_of c.args.file.now in
+    let t = schema_of c.loop-done.file in
+    let q = placed_of c.loop-done.file in
+    let u = schema_of c.add_one.new.file in
+    let r = placed_of c.add_one.new.file in
+    let k = c.loop-done._done in
+    let next = add-one k in
+    let takes : (must_reopen c.loop-done.file ≡ false) × TakesRecord t q = c.in_ok-add_one.ensures.answer in
+    let image : c.as_slice.result.now ≡ bytes_of_record s (fill_values s) = c.as_slice.ensures.value ∙ at.image_is in
+    let long : length c.as_slice.result.now ≡ record_size_of_file q = ap length image
+    ∙ c.record_is_long.ensures s (fill_values s) (c.fills_are_a_record.ensures s c.open_file_has_sizes.ensures.sound)
+    ∙ sym c.open_file_has_sizes.ensures.record_size ∙ sym at.has.size_is in
+    record {
+      fresh = c.in_ok-add_one.ensures.added.1;
+      has = subst (λ (n : ℕ). HasRecords s p n u r) (sym next) (one_record_more s p k t q at.has u r c.in_ok-add_one.ensures.added.0);
+      room = subst (λ (n : ℕ). TakesRecords s p n) (sym next) (room_more s p k t q at.has (as_first s p at.takes) takes.1);
+      few = omega (arith, c.loop-done-test.true);
+      takes = at.takes;
+      was_fresh = at.was_fresh;
+      image_is = at.image_is;
+      first = λ none. absurd (omega (arith, none));
+      holds = λ told limit places d start.
+          let laws : Laws = record {
+            grows = c.append_holds.ensures.grows;
+            dataset = c.append_holds.ensures.dataset;
+            stands = c.append_holds.ensures.stands;
+            opens = c.bytes_with_a_record_pass_on.ensures.opens;
+            schema = c.opens_with_its_schema.ensures;
+            fills = c.fills_are_a_record.ensures;
+            none = c.followed_twice.ensures.none;
+            more = c.followed_twice.ensures.fills;
+          } in
+          subst (λ (l : List ℕ). Contains l limit places (with_fills d (k + 1)) u r) (sym (c.in_ok-add_one.ensures.bytes told))
+          (one_fill laws _ limit places d s p start k _ t q at.has (at.holds told limit places d start) takes.1
+          c.as_slice.result.now image u r long c.in_ok-add_one.ensures.added.0);
+      only = λ only. c.in_ok-add_one.ensures.durable;
+      moments = λ told only limit places d start.
+          let laws : Laws = record {
+            grows = c.append_holds.ensures.grows;
+            dataset = c.append_holds.ensures.dataset;
+            stands = c.append_holds.ensures.stands;
+            opens = c.bytes_with_a_record_pass_on.ensures.opens;
+            schema = c.opens_with_its_schema.ensures;
+            fills = c.fills_are_a_record.ensures;
+            none = c.followed_twice.ensures.none;
+            more = c.followed_twice.ensures.fills;
+          } in
+          joined g.S.Store.moment g.S.Store.images_since (store_of c.args.file.now) (store_of c.loop-done.file) (store_of c.add_one.new.file)
+          _ _ _ (at.moments told only limit places d start) (c.add_one.ensures.any_moment told (at.only only)) (λ i h. h)
+          (λ i or_not. fill_or_not laws _ limit places d s p start k _ t q at.has (at.holds told limit places d start) takes.1
+          c.as_slice.result.now image c.args.more i c.loop-done-test.true or_not);
+      failures = c.in_ok-add_one.ensures.count ∙ at.failures;
+      calls = omega (arith, at.calls, c.add_one.ensures.calls);
+      reach = omega (arith, at.reach, c.add_one.ensures.reach);
+    }

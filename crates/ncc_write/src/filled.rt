@@ -1,0 +1,67 @@
+//! Records of fill values.
+
+ghost use Rattle.std.specs.Prelude.{◌≡◌, ◌<◌, length, get_or, replicate, IfOk};
+ghost use Rattle.std.specs.List.{concat};
+ghost use Rattle.ncc_values.specs.Values.{values_of};
+ghost use Rattle.ncc_check.specs.Files.{schema_of};
+ghost use Rattle.ncc_write.specs.Records.{HasSizes, bytes_of_record, fill_values};
+ghost use Rattle.ncc_write.specs.Turns.{turn_fill};
+
+use crate::image::{image_of, turn_in};
+use crate::laws::adding::fills_are_a_record;
+use crate::laws::open_file_has_sizes;
+use crate::turn::Turn;
+use crate::turning::record_variables;
+use ncc_check::NcFile;
+use ncc_layout::Placed;
+use ncc_schema::{Schema, is_record_var};
+use ncc_store::Store;
+use ncc_values::Values;
+use std::alloc::{AllocError, Global};
+
+/// A slab of fill values.
+fn fill_slab(alloc: Global, turn: Turn) -> Result<Values, AllocError>
+    ensures { IfOk result
+        (λ values. values ≡ values_of turn.xtype (concat (replicate turn.elements (turn_fill turn)))) }
+{
+    let mut values = Values::new(alloc, turn.xtype);
+    for _done in 0..turn.elements {
+        values.push_from(turn.fill())?;
+    }
+    Ok(values)
+}
+
+/// A slab of fill values for each record variable.
+fn fill_slabs(alloc: Global, schema: &Schema, placed: &Placed) -> Result<Vec<Values>, AllocError>
+    requires sizes { HasSizes schema.now placed.now }
+    ensures { IfOk result (λ slabs. slabs.items ≡ fill_values schema.now) }
+{
+    let vars = schema.vars.as_slice();
+    let lone = record_variables(schema) == 1;
+    let mut slabs = Vec::new(alloc);
+    for number in 0..vars.len() {
+        if is_record_var(schema.dims.as_slice(), &vars[number]) {
+            slabs.push(fill_slab(alloc, turn_in(schema, placed, number, lone))?)?;
+        }
+    }
+    Ok(slabs)
+}
+
+/// A record of fill values for the file: for each record variable, in header order, as many as its slab has elements.
+pub fn fill_record<S: Store>(alloc: Global, file: &NcFile<S>) -> Result<Vec<Values>, AllocError>
+    ensures { IfOk result (λ slabs. slabs.items ≡ fill_values (schema_of file.now)) }
+{
+    open_file_has_sizes(file);
+    fill_slabs(alloc, file.schema(), file.placed())
+}
+
+/// The bytes of a record of fill values.
+pub(crate) fn fill_image<S: Store>(alloc: Global, file: &NcFile<S>) -> Result<Vec<u8>, AllocError>
+    ensures { IfOk result
+        (λ image. image.items ≡ bytes_of_record (schema_of file.now) (fill_values (schema_of file.now))) }
+{
+    open_file_has_sizes(file);
+    fills_are_a_record();
+    let slabs = fill_record(alloc, file)?;
+    image_of(alloc, file.schema(), file.placed(), slabs.as_slice())
+}

@@ -1,0 +1,66 @@
+//! What a record more makes of a file that holds a dataset, each law the contract of a function that does nothing.
+
+ghost use Rattle.std.specs.Prelude.{◌≡◌, ◌+◌, ℕ, List, [], ◌∷◌, ◌++◌, length};
+ghost use Rattle.ncc_values.specs.declared.values.Values.{Values};
+ghost use Rattle.ncc_schema.specs.declared.schema.Schema.{Schema};
+ghost use Rattle.ncc_schema.specs.Schema.{Place, Sound};
+ghost use Rattle.ncc_layout.specs.declared.placed_file.Placed.{Placed};
+ghost use Rattle.ncc_layout.specs.Plans.{IsKnown};
+ghost use Rattle.ncc_layout.specs.Sizes.{record_size_of};
+ghost use Rattle.ncc_check.specs.Appending.{Keeps, next_record_at, with_record};
+ghost use Rattle.ncc_check.specs.Checks.{Opens};
+ghost use Rattle.ncc_build.specs.Dataset.{Dataset, IsDataset};
+ghost use Rattle.ncc_write.specs.Additions.{Adds, HoldsAll, HoldsOn};
+ghost use Rattle.ncc_write.specs.Extends.{with_fills};
+ghost use Rattle.ncc_write.specs.Records.{IsRecord, bytes_of_record, fill_values, followed_by};
+
+use ncc_check::laws::appending::{
+    bytes_with_a_record_pass_on, kept_bytes_pass_on, old_elements_stay,
+};
+use ncc_header::laws::header_or_stop;
+
+/// The bytes of a record are as many as the schema says.
+pub fn record_is_long()
+    ensures { (s : Schema) (slabs : List Values) → IsRecord s slabs
+        → length (bytes_of_record s slabs) ≡ record_size_of s }
+{}
+
+/// Fill values for each record variable are a record.
+pub fn fills_are_a_record()
+    ensures { (s : Schema) → Sound s → IsRecord s (fill_values s) }
+{}
+
+/// The schema of an open file whose bytes hold a dataset is the dataset's.
+pub fn opens_with_its_schema()
+    ensures { (bytes : List ℕ) (limit : ℕ) (places : List Place) (d : Dataset) (s : Schema) (p : Placed)
+        → HoldsAll bytes limit places d → Opens bytes limit s p → s ≡ d.schema }
+{
+    header_or_stop();
+}
+
+/// With a record more the bytes of an open file hold the dataset with it, and where the old records stand they hold
+/// the old one; and they pass, and take records more.
+pub fn append_holds()
+    ensures grows { (bytes : List ℕ) (limit : ℕ) (places : List Place) (d : Dataset) (s : Schema) (p : Placed)
+        (slabs : List Values) → Adds bytes limit places d s p slabs
+        → HoldsOn (with_record bytes s p (bytes_of_record s slabs)) limit places (followed_by d (slabs ∷ [])) }
+    ensures dataset { (bytes : List ℕ) (limit : ℕ) (places : List Place) (d : Dataset) (s : Schema) (p : Placed)
+        (slabs : List Values) → Adds bytes limit places d s p slabs → IsDataset (followed_by d (slabs ∷ [])) }
+    ensures stands { (bytes new : List ℕ) (limit : ℕ) (places : List Place) (d : Dataset) (s : Schema) (p : Placed)
+        (slabs : List Values) → Adds bytes limit places d s p slabs → Keeps bytes (next_record_at p) new
+        → HoldsOn new limit places d }
+{
+    header_or_stop();
+    kept_bytes_pass_on();
+    bytes_with_a_record_pass_on();
+    old_elements_stay();
+}
+
+/// A dataset with records more, and more behind these, is the dataset with all of them.
+pub fn followed_twice()
+    ensures twice { (d : Dataset) (a b : List (List Values)) → IsKnown d.schema.count
+        → followed_by (followed_by d a) b ≡ followed_by d (a ++ b) }
+    ensures none { (d : Dataset) → IsKnown d.schema.count → followed_by d [] ≡ d }
+    ensures fills { (d : Dataset) (k : ℕ) → IsKnown d.schema.count
+        → followed_by (with_fills d k) (fill_values d.schema ∷ []) ≡ with_fills d (k + 1) }
+{}
