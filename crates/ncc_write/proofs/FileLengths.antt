@@ -17,7 +17,7 @@ use Rattle.ncc_layout.specs.Sizes.{up, slab, rounded, record_vars, record_sum, r
 use Rattle.ncc_layout.specs.Standard.{standard_places, fixed_sum, file_length}
 use Rattle.ncc_layout.specs.Plans.{known}
 use Rattle.ncc_build.specs.Dataset.{fixed_vars, Dataset, AreSlabsOf, IsDataset}
-use Rattle.ncc_build.specs.File.{padding_in, padding_bytes, header_of, file_of}
+use Rattle.ncc_build.specs.File.{padding_bytes, header_of, file_of}
 use Rattle.ncc_layout.proofs.StandardPlaces.{length-standard_from}
 use Rattle.ncc_write.proofs.Slabs.{length_slab}
 use Rattle.ncc_write.specs.Records.{with_padding, in_turn, bytes_of_record, whole_size}

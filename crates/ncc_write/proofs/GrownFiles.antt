@@ -15,8 +15,8 @@ use Rattle.ncc_layout.specs.Extents.{extents_of, extents_from, records_of}
 use Rattle.ncc_layout.specs.Plans.{known}
 use Rattle.ncc_layout.specs.Sizes.{inner, slab, record_vars, record_sum, record_size_of}
 use Rattle.ncc_layout.specs.Standard.{PackedFrom}
-use Rattle.ncc_build.specs.Dataset.{Dataset, IsDataset, fixed_vars}
-use Rattle.ncc_write.specs.Holds.{bytes_at, no_slab, before, vars_of, slab_with, value_at, stored_at, HoldsValues}
+use Rattle.ncc_build.specs.Dataset.{Dataset, IsDataset}
+use Rattle.ncc_write.specs.Holds.{bytes_at, no_slab, before, vars_of, value_at, stored_at, HoldsValues}
 use Rattle.ncc_write.specs.Records.{IsRecord, bytes_of_record, followed_by}
 use Rattle.ncc_write.proofs.Holding.{element_read}
 use Rattle.ncc_write.proofs.Indices.{var_placed}
@@ -32,7 +32,8 @@ get_front [] slabs r below = absurd (omega (arith, below))
 get_front (v ∷ records) slabs zero below = refl
 get_front (v ∷ records) slabs (suc r) below = get_front records slabs r (omega (arith, below))
 
-get_last : (records : List (List Values)) (slabs : List Values) → get_or (records ++ slabs ∷ []) (length records) [] ≡ slabs
+get_last : (records : List (List Values)) (slabs : List Values)
+    → get_or (records ++ slabs ∷ []) (length records) [] ≡ slabs
 get_last [] slabs = refl
 get_last (v ∷ records) slabs = get_last records slabs
 

@@ -1,37 +1,34 @@
 -- A record more in a file that holds a dataset.
-use Rattle.std.proofs.Common.{◌≡◌, inl, inr, ℕ, suc, ◌+◌, ◌*◌, ◌≤◌, ◌<◌, List, [], ◌∷◌, ◌++◌, length, map, take, drop, Some, refl, sym, ap, ap₂, subst, ◌∙◌, arith}
+use Rattle.std.proofs.Common.{◌≡◌, ℕ, ◌+◌, ◌*◌, ◌≤◌, ◌<◌, List, [], ◌∷◌, ◌++◌, length, map, take, drop, Some, refl, sym, ap, ap₂, subst, ◌∙◌, arith}
 use Rattle.std.proofs.lemmas.List.{length-take-le, take-append-drop}
 use Rattle.ncc_values.specs.XType.{size_of}
 use Rattle.ncc_values.specs.declared.values.Values.{Values}
-use Rattle.ncc_schema.specs.declared.schema.Count.{Count}
-use Rattle.ncc_schema.specs.declared.schema.Count.TheVariants.{Known, Streaming}
 use Rattle.ncc_schema.specs.declared.schema.Dim.{Dim}
 use Rattle.ncc_schema.specs.declared.schema.Header.{Header}
 use Rattle.ncc_schema.specs.declared.schema.Schema.{Schema}
 use Rattle.ncc_schema.specs.declared.schema.Var.{Var}
 use Rattle.ncc_schema.specs.Names.{StandsAt}
 use Rattle.ncc_schema.specs.Schema.{Place, header_with_count, places_of, with_count}
-use Rattle.ncc_header.specs.Answers.{Begins}
 use Rattle.ncc_layout.specs.declared.extent.Extent.{Extent}
 use Rattle.ncc_layout.specs.declared.placed_file.Placed.{Placed}
 use Rattle.ncc_layout.specs.declared.placed_var.PlacedVar.{PlacedVar}
-use Rattle.ncc_layout.specs.Elements.{Inside, IsPlace, place_of, placed_from, placed_vars, placed_with, var_at}
-use Rattle.ncc_layout.specs.Extents.{counted, extents_of, record_count, records_of}
-use Rattle.ncc_layout.specs.Packed.{record_at, records_at}
-use Rattle.ncc_layout.specs.Placed.{Holds, extents_of_file, record_size_of_file, records_of_file, vars_of}
-use Rattle.ncc_layout.specs.Plans.{IsKnown, known}
+use Rattle.ncc_layout.specs.Elements.{Inside, IsPlace, place_of, var_at}
+use Rattle.ncc_layout.specs.Extents.{extents_of, records_of}
+use Rattle.ncc_layout.specs.Packed.{records_at}
+use Rattle.ncc_layout.specs.Placed.{extents_of_file, record_size_of_file, records_of_file, vars_of}
+use Rattle.ncc_layout.specs.Plans.{known}
 use Rattle.ncc_layout.specs.Sizes.{record_size_of}
 use Rattle.ncc_layout.specs.Standard.{PackedFrom}
 use Rattle.ncc_check.specs.AppendLaws.{PassesOn}
-use Rattle.ncc_check.specs.Appending.{HasRecordOrNot, Keeps, TakesRecord, length_with_record, next_record_at, with_record}
-use Rattle.ncc_check.specs.Checks.{Opens}
-use Rattle.ncc_build.specs.Dataset.{AreSlabsOf, Dataset, IsDataset, elements}
+use Rattle.ncc_check.specs.Appending.{length_with_record, next_record_at, with_record}
+use Rattle.ncc_build.specs.Dataset.{AreSlabsOf, Dataset, elements}
 use Rattle.ncc_build.specs.Fill.{fills}
-use Rattle.ncc_write.specs.Additions.{Adds, HoldsAll, HoldsOn}
-use Rattle.ncc_write.specs.Holds.{HoldsValues, stored_at, vars_of as vars_of_dataset}
-use Rattle.ncc_write.specs.Records.{IsRecord, bytes_of_record, fill_slab, followed_by}
+use Rattle.ncc_write.specs.Additions.{Adds, HoldsOn}
+use Rattle.ncc_write.specs.Holds.{stored_at, vars_of as vars_of_dataset}
+use Rattle.ncc_write.specs.Records.{bytes_of_record, fill_slab, followed_by}
 use Rattle.ncc_write.proofs.Filling.{fills_bytes}
-use Rattle.ncc_write.proofs.GrownFiles.{Grows, grown_holds}
+use Rattle.ncc_write.proofs.GrownFiles.{grown_holds}
+use Rattle.ncc_write.proofs.OpenedDatasets.{OneHeader, as_many, header_places, header_schema, many_places, opened_records, opened_schema, opened_size, opened_vars}
 use Rattle.ncc_write.proofs.PackedRecords.{map_extents}
 use Rattle.ncc_write.proofs.Paddings.{length_fills}
 use Rattle.ncc_write.proofs.SlabPlaces.{record_size_is}
@@ -47,66 +44,41 @@ fills_for dims (x ∷ vars) = (
 
 -- ---- the open file, in the dataset's terms
 
-counted_is : (size long : ℕ) (es : List Extent) (n : Count) → IsKnown n → counted size long es n ≡ known n
-counted_is size long es (Known n) is = refl
-counted_is size long es Streaming is = absurd is
-
-abbrev OneHeader : Type 0
-OneHeader = (input : List ℕ) (limit : ℕ) (h k : Header) → Begins input limit h → Begins input limit k → h ≡ k
-
-as_many : (dims : List Dim) (records n : ℕ) (vars : List Var) (places : List Place) → length places ≡ length vars
-    → length (placed_from dims records n vars places) ≡ length vars
-as_many dims records n [] places same = refl
-as_many dims records n (x ∷ vars) [] same = absurd (cc same)
-as_many dims records n (x ∷ vars) (p ∷ places) same =
-    ap suc (as_many dims records (suc n) vars places (omega (arith, same)))
-
 module _ (one : OneHeader) (bytes : List ℕ) (limit : ℕ) (places : List Place) (d : Dataset) (s : Schema) (p : Placed)
     (slabs : List Values) (a : Adds bytes limit places d s p slabs) where
   abbrev h : Header
   h = a.opens.header
 
-  header_is : h ≡ a.all.header
-  header_is = one bytes limit h a.all.header a.opens.passes.begins a.all.passes.begins
-
   schema_is : h.schema ≡ d.schema
-  schema_is = ap (λ (k : Header). k.schema) header_is ∙ a.all.schema_is
+  schema_is = header_schema one bytes limit places d s p a.all a.opens
 
-  pub opened_schema : s ≡ d.schema
-  opened_schema = a.opens.schema_is ∙ schema_is
+  same_schema : s ≡ d.schema
+  same_schema = opened_schema one bytes limit places d s p a.all a.opens
 
   places_are : places_of h.places ≡ places
-  places_are = ap (λ (k : Header). places_of k.places) header_is ∙ a.all.places_are
+  places_are = header_places one bytes limit places d s p a.all a.opens
 
   many : length places ≡ length d.schema.vars
-  many = ap length (sym places_are) ∙ a.opens.passes.begins.is_header.legal.number
-      ∙ ap (λ (t : Schema). length t.vars) schema_is
-
-  abbrev held : Holds h.schema (places_of h.places) h.length (length bytes) p
-  held = a.opens.placed_is
+  many = many_places one bytes limit places d s p a.all a.opens
 
   size_is : record_size_of_file p ≡ record_size_of d.schema
-  size_is = held.size_is ∙ ap record_size_of schema_is
-
-  count_is : record_count h.schema (places_of h.places) (length bytes) ≡ known d.schema.count
-  count_is = ap₂ (λ (t : Schema) (l : List Place). record_count t l (length bytes)) schema_is places_are
-      ∙ counted_is (record_size_of d.schema) (length bytes) (extents_of d.schema places) d.schema.count a.dataset.counted
+  size_is = opened_size one bytes limit places d s p a.all a.opens
 
   records_are : records_of_file p ≡ known d.schema.count
-  records_are = held.records_are ∙ count_is
+  records_are = opened_records one bytes limit places d s p a.all a.opens a.dataset.counted
 
   vars_are : vars_of p ≡ vars_of_dataset d places
-  vars_are = held.vars_are ∙ ap (placed_with h.schema (places_of h.places)) count_is
-      ∙ ap₂ (λ (t : Schema) (l : List Place). placed_with t l (known d.schema.count)) schema_is places_are
+  vars_are = opened_vars one bytes limit places d s p a.all a.opens a.dataset.counted
 
   extents_are : extents_of_file p ≡ extents_of d.schema places
-  extents_are = ap (map (λ x. x.extent)) vars_are ∙ map_extents d.schema.dims (known d.schema.count) 0 d.schema.vars places
+  extents_are = ap (map (λ x. x.extent)) vars_are
+      ∙ map_extents d.schema.dims (known d.schema.count) 0 d.schema.vars places
 
   packed : PackedFrom (records_at p) (records_of (extents_of d.schema places))
   packed = subst (λ (es : List Extent). PackedFrom (records_at p) (records_of es)) extents_are a.takes.packed.in_turn
 
   pub image_long : length (bytes_of_record s slabs) ≡ record_size_of_file p
-  image_long = ap (λ (t : Schema). length (bytes_of_record t slabs)) opened_schema
+  image_long = ap (λ (t : Schema). length (bytes_of_record t slabs)) same_schema
       ∙ record_size_is d.schema slabs a.fits ∙ sym size_is
 
   -- ---- old elements
@@ -126,14 +98,20 @@ module _ (one : OneHeader) (bytes : List ℕ) (limit : ℕ) (places : List Place
       (subst (λ (size : ℕ). stored_at new size (var_at (vars_of p) n) index
       ≡ stored_at bytes size (var_at (vars_of p) n) index) size_is
       (elements n (place_of (record_size_of_file p) (var_at (vars_of p) n) index) index (
-        omega (arith, below, ap length vars_are, as_many d.schema.dims (known d.schema.count) 0 d.schema.vars places many),
+        omega (
+          arith,
+          below,
+          ap length vars_are,
+          as_many d.schema.dims (known d.schema.count) 0 d.schema.vars places many,
+        ),
         subst (λ (vars : List PlacedVar). Inside (var_at vars n).shape index) (sym vars_are) inside,
         refl,
       )))
 
   -- ---- the old records stand
 
-  pub stood : (new : List ℕ) → PassesOn new limit h → Elements (bytes_of_record s slabs) new → HoldsOn new limit places d
+  pub stood : (new : List ℕ) → PassesOn new limit h → Elements (bytes_of_record s slabs) new
+      → HoldsOn new limit places d
   stood new passes elements = record {
     all = record {
       header = h;
@@ -149,8 +127,8 @@ module _ (one : OneHeader) (bytes : List ℕ) (limit : ℕ) (places : List Place
   -- ---- the new record stands too
 
   module _ (long : length (with_record bytes s p (bytes_of_record s slabs)) ≡ length_with_record p)
-      (added : take (length (bytes_of_record s slabs)) (drop (next_record_at p) (with_record bytes s p (bytes_of_record s slabs)))
-      ≡ bytes_of_record s slabs) where
+      (added : take (length (bytes_of_record s slabs))
+      (drop (next_record_at p) (with_record bytes s p (bytes_of_record s slabs))) ≡ bytes_of_record s slabs) where
     abbrev image : List ℕ
     image = bytes_of_record s slabs
 
@@ -171,7 +149,8 @@ module _ (one : OneHeader) (bytes : List ℕ) (limit : ℕ) (places : List Place
       front = take (next_record_at p) new;
       rest = drop (length image) (drop (next_record_at p) new);
       joined = sym (take-append-drop (next_record_at p) new)
-          ∙ ap (λ (l : List ℕ). take (next_record_at p) new ++ l) (sym (take-append-drop (length image) (drop (next_record_at p) new))
+          ∙ ap (λ (l : List ℕ). take (next_record_at p) new ++ l)
+          (sym (take-append-drop (length image) (drop (next_record_at p) new))
           ∙ ap (λ (l : List ℕ). l ++ drop (length image) (drop (next_record_at p) new)) added);
       long = length-take-le (next_record_at p) new in_file;
     }
@@ -187,7 +166,7 @@ module _ (one : OneHeader) (bytes : List ℕ) (limit : ℕ) (places : List Place
         holds = grown_holds d a.dataset places many bytes new (records_at p) slabs a.fits packed a.all.holds (record {
           same = same image new elements;
           added = subst (λ (i : List ℕ). StandsAt new i (records_at p + known d.schema.count * record_size_of d.schema))
-              (ap (λ (t : Schema). bytes_of_record t slabs) opened_schema)
+              (ap (λ (t : Schema). bytes_of_record t slabs) same_schema)
               (subst (StandsAt new image) place_is stands);
         });
       };

@@ -37,7 +37,12 @@ mod Filling
 mod Pages
 mod RecordParts
 mod MoreRecords
-mod MoreFills
+pub mod MoreFills
 mod HeldRecords
 mod PackedRecords
 mod GrownFiles
+mod StillRead
+mod FoundSlabs
+mod FoundDatasets
+mod FoundValues
+mod OpenedDatasets

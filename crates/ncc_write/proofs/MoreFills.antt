@@ -1,12 +1,11 @@
 -- A file that holds a dataset, with some records of fill values more, and one more.
-use Rattle.std.proofs.Common.{◌≡◌, inl, inr, ℕ, zero, suc, ◌+◌, ◌≤◌, ◌<◌, List, [], ◌∷◌, length, refl, sym, ap, subst, ◌∙◌, arith}
+use Rattle.std.proofs.Common.{◌≡◌, inl, inr, ℕ, zero, suc, ◌+◌, ◌<◌, List, [], ◌∷◌, length, sym, ap, subst, ◌∙◌, arith}
 use Rattle.ncc_values.specs.declared.values.Values.{Values}
 use Rattle.ncc_schema.specs.declared.schema.Schema.{Schema}
 use Rattle.ncc_schema.specs.Schema.{Place, Sound}
 use Rattle.ncc_layout.specs.declared.placed_file.Placed.{Placed}
 use Rattle.ncc_layout.specs.Placed.{record_size_of_file}
 use Rattle.ncc_layout.specs.Plans.{IsKnown}
-use Rattle.ncc_layout.specs.Sizes.{record_size_of}
 use Rattle.ncc_store.specs.Store.{LeavesOnly, Only}
 use Rattle.ncc_store.proofs.Moments.{started}
 use Rattle.ncc_check.specs.Appending.{HasRecord, HasRecordOrNot, Keeps, TakesRecord, next_record_at, with_record}

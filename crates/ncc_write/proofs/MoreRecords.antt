@@ -1,6 +1,6 @@
 -- A file with some records more, and one more.
-use Rattle.std.proofs.Common.{◌≡◌, ◌≢◌, ◌⊎◌, inl, inr, ⊎_elim, ℕ, zero, suc, ◌+◌, ◌*◌, ◌≤◌, ◌<◌, max, Bool, true, false, Some, None, Ok, Err, List, [], ◌∷◌, map, refl, sym, ap, ap₂, subst, ◌∙◌, arith, add-one}
-use Rattle.std.specs.Prelude.{◌^◌, ltb, Option}
+use Rattle.std.proofs.Common.{◌≡◌, ◌⊎◌, inl, inr, ℕ, zero, suc, ◌+◌, ◌*◌, ◌≤◌, ◌<◌, max, Bool, true, false, Some, None, Err, List, [], ◌∷◌, map, refl, sym, ap, ap₂, subst, ◌∙◌, arith}
+use Rattle.std.specs.Prelude.{ltb}
 use Rattle.std.specs.Prelude.{if◌then◌else◌}
 use Rattle.std.proofs.lemmas.Bool.{ltb-false, le-ltb}
 use Rattle.std.proofs.lemmas.Nat.{mul-le}
@@ -14,12 +14,12 @@ use Rattle.ncc_layout.specs.declared.placed_file.Placed.{Placed}
 use Rattle.ncc_layout.specs.declared.placed_var.PlacedVar.{PlacedVar}
 use Rattle.ncc_layout.specs.Elements.{lengthened, with_records}
 use Rattle.ncc_layout.specs.Extents.{least_begin, records_of}
-use Rattle.ncc_layout.specs.Packed.{IsPacked, begin_or_zero, record_at, records_at}
-use Rattle.ncc_layout.specs.Placed.{HasOneMore, extents_of_file, file_length_of, record_size_of_file, records_of_file, vars_of}
+use Rattle.ncc_layout.specs.Packed.{begin_or_zero, record_at, records_at}
+use Rattle.ncc_layout.specs.Placed.{extents_of_file, file_length_of, record_size_of_file, records_of_file, vars_of}
 use Rattle.ncc_layout.specs.Plans.{IsKnown}
 use Rattle.ncc_layout.specs.Standard.{PackedFrom, next_count}
 use Rattle.ncc_check.specs.AppendLaws.{CanGrow}
-use Rattle.ncc_check.specs.Appending.{HasNoRecordVariable, HasRecord, IsAppendable, IsFull, TakesRecord, length_with_record}
+use Rattle.ncc_check.specs.Appending.{HasRecord, IsFull, TakesRecord, length_with_record}
 use Rattle.ncc_check.specs.declared.append_error.AppendError.{AppendError}
 use Rattle.ncc_check.specs.declared.append_error.AppendError.TheVariants as error
 use Rattle.ncc_write.specs.Extends.{AddsAs, ExtendsAs, HasRecords, IsFullFor, RefusesMore, TakesRecords, length_with, schema_with, vars_with}

@@ -5,7 +5,6 @@ use Rattle.ncc_values.specs.Values.{type_of, count_of, values_of, bytes_of}
 use Rattle.ncc_values.specs.declared.values.Values.{Values}
 use Rattle.ncc_schema.specs.declared.schema.Dim.{Dim}
 use Rattle.ncc_schema.specs.declared.schema.Schema.{Schema}
-use Rattle.ncc_schema.specs.declared.schema.Count.TheVariants.{Known}
 use Rattle.ncc_schema.specs.declared.schema.Var.{Var}
 use Rattle.ncc_schema.specs.Schema.{Sound, with_count}
 use Rattle.ncc_layout.specs.Placed.{record_size_of_file, vars_of}

@@ -23,3 +23,15 @@ fn laws_are_there() {
     taking_all_completes();
     count_is_rewritten();
 }
+
+#[test]
+fn laws_of_records_are_there() {
+    adding::record_is_long();
+    adding::fills_are_a_record();
+    adding::opens_with_its_schema();
+    adding::opens_with_its_variables();
+    adding::append_holds();
+    adding::followed_twice();
+    adding::reads_stay();
+    adding::passing_file_holds_a_dataset();
+}

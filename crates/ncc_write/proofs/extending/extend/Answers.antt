@@ -1,4 +1,4 @@
-use Rattle.std.proofs.Common.{◌≡◌, ◌≢◌, ◌<◌, ◌≤◌, ◌+◌, ⊎_elim, ℕ, suc, List, Bool, false, Ok, Err, length, refl, ap, sym, subst, ◌∙◌, arith, add-one, rules}
+use Rattle.std.proofs.Common.{◌≡◌, ◌+◌, ⊎_elim, ℕ, List, Bool, false, Err, length, refl, ap, sym, subst, ◌∙◌, arith, add-one, rules}
 use Rattle.ncc_store.specs.Store.{LeavesOnly}
 use Rattle.ncc_store.proofs.Moments.{joined}
 use Rattle.ncc_check.specs.Appending.{HasRecordOrNot, TakesRecord}

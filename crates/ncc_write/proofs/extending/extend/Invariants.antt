@@ -1,4 +1,4 @@
-use Rattle.std.proofs.Common.{◌≡◌, ◌≢◌, ◌≤◌, ◌+◌, ◌*◌, ℕ, List, false, IsTrue}
+use Rattle.std.proofs.Common.{◌≡◌, ◌≤◌, ◌+◌, ◌*◌, ℕ, List, false, IsTrue}
 use Rattle.ncc_schema.specs.Schema.{Place}
 use Rattle.ncc_store.specs.Store.{LeavesOnly, Only}
 use Rattle.ncc_check.specs.Files.{store_of, schema_of, placed_of, must_reopen}

@@ -1,8 +1,7 @@
-use Rattle.std.proofs.Common.{◌≡◌, ◌+◌, ◌*◌, ℕ, List, length, replicate, ap, sym, ◌∙◌}
+use Rattle.std.proofs.Common.{length, replicate, ap, sym, ◌∙◌}
 use Rattle.std.specs.List.{concat}
-use Rattle.ncc_values.specs.Values.{no_values, values_of, with_bytes}
+use Rattle.ncc_values.specs.Values.{values_of, with_bytes}
 use Rattle.ncc_values.specs.declared.values.Values.{Values}
-use Rattle.ncc_values.specs.XType.{size_of}
 use Rattle.ncc_write.specs.Turns.{turn_fill}
 use Rattle.ncc_write.proofs.RecordParts.{fills_more}
 use Rattle.ncc_write.proofs.filled.fill_slab.Goals as goal

@@ -1,7 +1,6 @@
-use Rattle.std.proofs.Common.{◌≡◌, ◌++◌, ◌*◌, List, ℕ, take, length, replicate, ap, sym, ◌∙◌, append_assoc}
+use Rattle.std.proofs.Common.{◌++◌, List, ℕ, take, replicate, ap, ◌∙◌, append_assoc}
 use Rattle.std.specs.List.{concat}
-use Rattle.ncc_values.specs.Values.{bytes_of, count_of, type_of}
-use Rattle.ncc_values.specs.XType.{size_of}
+use Rattle.ncc_values.specs.Values.{bytes_of}
 use Rattle.ncc_write.proofs.RecordParts.{all_values}
 use Rattle.ncc_write.proofs.image.put_slab.Goals as goal
 
