@@ -2,7 +2,13 @@
 #![tactic(auto)]
 
 #[cfg(test)]
+mod adding_memory;
+#[cfg(test)]
+mod appending;
+#[cfg(test)]
 mod expecting;
+#[cfg(test)]
+mod extending;
 #[cfg(test)]
 mod failing;
 #[cfg(test)]
@@ -12,6 +18,8 @@ mod filled_pages;
 #[cfg(test)]
 mod fills;
 #[cfg(test)]
+mod full;
+#[cfg(test)]
 mod helpers;
 #[cfg(test)]
 mod memory;
@@ -20,12 +28,18 @@ mod mixed_files;
 #[cfg(test)]
 mod mixes;
 #[cfg(test)]
+mod open_files;
+#[cfg(test)]
 mod pages;
 #[cfg(test)]
 mod plans;
 #[cfg(test)]
 mod reading;
 #[cfg(test)]
+mod reading_on;
+#[cfg(test)]
 mod rows;
+#[cfg(test)]
+mod stopping;
 #[cfg(test)]
 mod tables;
