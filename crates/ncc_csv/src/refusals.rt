@@ -1,21 +1,13 @@
 //! The line of a selection that is refused.
 
-ghost use Rattle.std.specs.Prelude.{◌≡◌, ◌++◌, decimal, OnOk};
+ghost use Rattle.std.specs.Prelude.{◌≡◌, ◌++◌, OnOk};
 ghost use Rattle.ncc_lines.specs.Sends.{SendsAll, Blames};
 ghost use Rattle.ncc_csv.specs.Refusals.{refused_words, refused_line};
 
 use ncc_header::{Sink, write_all};
-use ncc_lines::{Halt, push_decimal};
+use ncc_lines::{Halt, push_numbered};
 use ncc_slab::SlabFault;
 use std::alloc::{AllocError, Global};
-
-/// Adds a word, and behind a space the number of a dimension.
-fn push_numbered(out: &mut Vec<u8>, word: &str, dim: usize) -> Result<(), AllocError>
-    ensures { OnOk result (out.new.items ≡ out.old.items ++ (word.now ++ decimal dim)) }
-{
-    out.extend_from_slice(word.as_bytes())?;
-    push_decimal(out, dim as u64)
-}
 
 /// Adds the words that name a refusal.
 fn push_refusal(out: &mut Vec<u8>, fault: SlabFault) -> Result<(), AllocError>

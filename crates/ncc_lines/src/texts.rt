@@ -35,7 +35,7 @@ fn push_version(out: &mut Vec<u8>, version: Version) -> Result<(), AllocError>
     Ok(())
 }
 
-fn push_records(out: &mut Vec<u8>, count: Count) -> Result<(), AllocError>
+pub(crate) fn push_records(out: &mut Vec<u8>, count: Count) -> Result<(), AllocError>
     ensures { OnOk result (out.new.items ≡ out.old.items ++ records_line count) }
 {
     match count {
