@@ -79,12 +79,12 @@ expect "an empty file to check" 1 "fault EndsEarly at 0" "" check nothing.nc
 expect "a header of the given limit" 0 "ok CDF-1 records 0 variables 0" "" check --max-header 32 empty.nc
 expect "a header past the given limit" 1 "fault HeaderTooLong at 28" "" check --max-header 31 empty.nc
 expect "version" 0 "ncc 0.1.0" "" --version
-expect_first "help" 0 "Checks, lists and reads netCDF classic files" "" --help
+expect_first "help" 0 "Checks, lists, reads and extends netCDF classic files" "" --help
 expect_first "help of list" 0 "Lists what the header of a file says" "" list --help
 expect_first "help of check" 0 "Says whether a file is sound, and what is unusual in it" "" check --help
 expect_first "help of csv" 0 "Prints the values of a variable, or of a selection of them" "" csv --help
 expect_first "help by a word" 0 "Lists what the header of a file says" "" help list
-expect_first "no word" 2 "" "Checks, lists and reads netCDF classic files"
+expect_first "no word" 2 "" "Checks, lists, reads and extends netCDF classic files"
 expect_first "no such command" 2 "" "error: unrecognized subcommand 'lst'" lst ocean.nc
 expect_first "no file" 2 "" "error: the following required arguments were not provided:" list
 expect_first "no file to check" 2 "" "error: the following required arguments were not provided:" check
@@ -159,6 +159,51 @@ count "full error" "3 " "$? $(cat out)"
 count "closed error" 0 $?
 "$ncc" list ocean.nc | head -c 1 > out
 count "an output that is read in part" f "$(cat out)"
+
+# ---- records that are added
+
+# Three records of a short.
+{
+  printf 'CDF\x01\x00\x00\x00\x03\x00\x00\x00\x0a\x00\x00\x00\x01\x00\x00\x00\x01'
+  printf 't\x00\x00\x00\x00\x00\x00\x00\x00\x00\x00\x00\x00\x00\x00\x00\x00\x00\x00\x0b'
+  printf '\x00\x00\x00\x01\x00\x00\x00\x01v\x00\x00\x00\x00\x00\x00\x01\x00\x00\x00\x00'
+  printf '\x00\x00\x00\x00\x00\x00\x00\x00\x00\x00\x00\x03\x00\x00\x00\x04\x00\x00\x00P'
+  printf '\x00\x01\x00\x02\x00\x03'
+} > records.nc
+# Two records of a byte and of a short, without the padding of the last.
+{
+  printf 'CDF\x01\x00\x00\x00\x02\x00\x00\x00\x0a\x00\x00\x00\x01\x00\x00\x00\x01'
+  printf 't\x00\x00\x00\x00\x00\x00\x00\x00\x00\x00\x00\x00\x00\x00\x00\x00\x00\x00\x0b'
+  printf '\x00\x00\x00\x02\x00\x00\x00\x01a\x00\x00\x00\x00\x00\x00\x01\x00\x00\x00\x00'
+  printf '\x00\x00\x00\x00\x00\x00\x00\x00\x00\x00\x00\x01\x00\x00\x00\x04\x00\x00\x00t'
+  printf '\x00\x00\x00\x01b\x00\x00\x00\x00\x00\x00\x01\x00\x00\x00\x00\x00\x00\x00\x00'
+  printf '\x00\x00\x00\x00\x00\x00\x00\x03\x00\x00\x00\x04\x00\x00\x00x\x05\x81\x81\x81'
+  printf '\x00\x07\x80\x01\x06\x81\x81\x81\x00\x08'
+} > two.nc
+
+# The bytes of a file from an offset on, in hexadecimal.
+bytes_from() {
+  tail -c +$(($2 + 1)) "$1" | head -c "$3" | od -An -v -tx1 | tr -d ' \n'
+}
+
+cp records.nc before.nc
+expect "extend by none" 0 "records 3" "" extend records.nc 0
+count "extend by none leaves the file" 0 "$(cmp records.nc before.nc > /dev/null 2>&1; echo $?)"
+expect "extend by one" 0 "records 4" "" extend records.nc 1
+count "the count" 00000004 "$(bytes_from records.nc 4 4)"
+count "the record" "8001 88" "$(bytes_from records.nc 86 2) $(wc -c < records.nc | tr -d ' ')"
+expect "the extended file passes" 0 "ok CDF-1 records 4 variables 1" "" check --strict records.nc
+expect "its rows" 0 "$(printf 't,v\n0,1\n1,2\n2,3\n3,-32767')" "" csv records.nc v
+expect "extend by a thousand" 0 "records 1004" "" extend records.nc 1000
+expect "extend of two variables" 0 "records 3" "" extend two.nc 1
+count "its padding and record" "00008181818180018001 140" "$(bytes_from two.nc 130 10) $(wc -c < two.nc | tr -d ' ')"
+expect "extend by none without record variables" 0 "records 0" "" extend tiny.nc 0
+expect "extend without record variables" 1 "refused NoRecordVariable" "" extend tiny.nc 1
+expect "extend of a fault" 1 "fault Truncated at 60" "" extend bad_truncated_1.nc 0
+expect "no such file to extend" 3 "" "error device" extend not_there.nc 1
+expect_first "extend by no number" 2 "" "error: invalid value 'x' for '<N>': invalid digit found in string" extend two.nc x
+expect_first "extend by what" 2 "" "error: the following required arguments were not provided:" extend two.nc
+expect_first "help of extend" 0 "Adds records of fill values to a file" "" extend --help
 
 # ---- headers at the limit, and 4 bytes past it, where the last field is: its 48 bytes besides the values are
 # the fields, and the lines are 57 bytes besides them

@@ -2,4 +2,5 @@ pub mod Sent
 pub mod SentList
 pub mod SentVerdict
 pub mod SentTable
+pub mod Extended
 pub mod Picked

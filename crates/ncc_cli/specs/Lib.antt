@@ -2,4 +2,5 @@ pub mod Answers
 pub mod Listing
 pub mod Checking
 pub mod Selecting
+pub mod Extending
 pub mod Status

@@ -49,6 +49,18 @@ Status:
   2  the command line is wrong
   3  a device or memory failed";
 
+/// What the help of `extend` says of what it writes, and of statuses.
+const EXTEND_STATUSES: &str =
+    "A record of fill values is added N times, each with its own syncs: whatever stops it, the
+file passes with those that were added. It prints how many records there are then; a refusal
+is the only line, and leaves the records before it. With N 0 nothing is written.
+
+Status:
+  0  all records were added
+  1  the file has a fault or takes no record more, which is the only line
+  2  the command line is wrong
+  3  a device or memory failed";
+
 fn file_argument<'a>(alloc: Global) -> Arg<'a> {
     Arg::new(alloc, "FILE")
         .help("A netCDF classic file")
@@ -106,16 +118,30 @@ fn csv_command<'a>(alloc: Global) -> Result<Command<'a>, AllocError> {
         .arg(variable)
 }
 
+fn extend_command<'a>(alloc: Global) -> Result<Command<'a>, AllocError> {
+    let more = Arg::new(alloc, "N")
+        .help("How many records")
+        .required(true)
+        .value_parser(value_parser!(u64))
+        .action(ArgAction::Set);
+    Command::new(alloc, "extend")
+        .about("Adds records of fill values to a file")
+        .after_help(EXTEND_STATUSES)
+        .arg(file_argument(alloc))?
+        .arg(more)
+}
+
 /// The command line of `ncc`.
 pub fn command<'a>(alloc: Global) -> Result<Command<'a>, AllocError> {
     Command::new(alloc, "ncc")
         .bin_name("ncc")?
         .version("0.1.0")
-        .about("Checks, lists and reads netCDF classic files")
+        .about("Checks, lists, reads and extends netCDF classic files")
         .after_help(STATUSES)
         .subcommand_required(true)
         .arg_required_else_help(true)
         .subcommand(check_command(alloc)?)?
         .subcommand(csv_command(alloc)?)?
+        .subcommand(extend_command(alloc)?)?
         .subcommand(list_command(alloc)?)
 }

@@ -1,9 +1,10 @@
-//! `ncc`: checks, lists and reads netCDF classic files.
+//! `ncc`: checks, lists, reads and extends netCDF classic files.
 #![tactic(auto)]
 
 mod answer;
 mod checking;
 mod commands;
+mod extending;
 mod finishing;
 mod listing;
 mod picking;

@@ -3,12 +3,14 @@
 ghost use Rattle.std.specs.Prelude.{◌≡◌, ◌≤◌, ◌⊎◌, List, ℕ, IsTrue, IfSome};
 ghost use Rattle.ncc_values.specs.Failures.{Rose};
 ghost use Rattle.ncc_schema.specs.Device.{LosesAtMost, Puts};
+ghost use Rattle.ncc_cli.specs.Extending.{ExtendsInto};
 ghost use Rattle.ncc_cli.specs.Listing.{Lists};
 ghost use Rattle.ncc_cli.specs.Selecting.{SelectsInto};
 
 use crate::answer::Answer;
 use crate::checking::check_engine;
 use crate::commands::{LIMIT, command};
+use crate::extending::extend_engine;
 use crate::finishing::{USAGE, explain, finish, flushed};
 use crate::listing::list_engine;
 use crate::picking::{pick_given, refuse_words};
@@ -144,6 +146,47 @@ fn csv<R: Files<File = File> + Clock + AllocGlobal, O: Write, E: Write>(
     answer
 }
 
+/// Adds records of fill values, with the program's limit.
+fn extended<S: Store, W: Sink>(alloc: Global, store: S, more: u64, sink: &mut W) -> (S, Answer)
+    ensures extends { IsTrue S.tells_bytes → (out : List ℕ) × Puts (W.put sink.old) (W.put sink.new) out
+        × ExtendsInto (S.bytes store) LIMIT more result.1 out }
+    ensures quiet { (result.1 ≡ Answer.Device → ⊥)
+        → (S.failures result.0 ≡ S.failures store) × (W.failures sink.new ≡ W.failures sink.old) }
+    ensures device { result.1 ≡ Answer.Device
+        → Rose (S.failures store) (S.failures result.0) ⊎ Rose (W.failures sink.old) (W.failures sink.new) }
+{
+    extend_engine(alloc, store, LIMIT, more, sink)
+}
+
+/// Adds records of fill values to a file.
+fn extend<R: Files<File = File> + AllocGlobal, O: Write>(
+    rt: &R,
+    path: &str,
+    more: u64,
+    out: &mut O,
+) -> Answer {
+    let Ok(store) = FileStore::open(rt, path, more > 0) else {
+        return Answer::Device;
+    };
+    let Ok(writer) = BufWriter::new(rt.alloc(), out) else {
+        return Answer::Memory;
+    };
+    let mut sink = WriteSink::new(writer);
+    let (_, answer) = extended(rt.alloc(), store, more, &mut sink);
+    let mut writer = sink.into_inner();
+    flushed(&mut writer, answer)
+}
+
+/// Adds records to the file that these words name, as they say.
+fn extend_named<R: Files<File = File> + AllocGlobal, O: Write>(
+    rt: &R,
+    words: &ArgMatches,
+    out: &mut O,
+) -> Answer {
+    let path = words.get_str("FILE").unwrap_or("");
+    extend(rt, path, words.get_one("N").unwrap_or(0), out)
+}
+
 /// Runs the command that the command line names, and gives the program's status. Long work is shown on
 /// `err` where that is asked for.
 pub fn run<R: Files<File = File> + Clock + AllocGlobal, O: Write, E: Write>(
@@ -165,6 +208,7 @@ pub fn run<R: Files<File = File> + Clock + AllocGlobal, O: Write, E: Write>(
                 Ok(pick) => finish(csv(rt, words, pick, out, err, shown), err),
                 Err(fault) => refuse_words(fault, err),
             },
+            Some(("extend", words)) => finish(extend_named(rt, words, out), err),
             Some(("list", words)) => {
                 finish(list(rt, words.get_str("FILE").unwrap_or(""), out), err)
             }

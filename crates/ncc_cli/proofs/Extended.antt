@@ -1,0 +1,139 @@
+-- What `extend` sent is the line of its answer, or a front of it.
+use Rattle.std.proofs.Common.{◌≡◌, inl, inr, ℕ, ◌+◌, List, [], ◌++◌, Option, Some, None, Result, Ok, Err, refl, sym, ap, subst, ◌∙◌, arith, false}
+use Rattle.std.specs.Prelude.{OnOk}
+use Rattle.std.proofs.lemmas.List.{append-nil}
+use Rattle.ncc_schema.specs.Device.{Puts}
+use Rattle.ncc_schema.specs.declared.schema.Count.TheVariants.{Known}
+use Rattle.ncc_schema.specs.declared.schema.Schema.{Schema}
+use Rattle.ncc_layout.specs.declared.placed_file.Placed.{Placed}
+use Rattle.ncc_layout.specs.Placed.{records_of_file}
+use Rattle.ncc_check.specs.Checks.{Opens}
+use Rattle.ncc_check.specs.Faults.{Fails}
+use Rattle.ncc_check.specs.declared.append_error.AppendError.{AppendError}
+use Rattle.ncc_check.specs.declared.fault.FileFault.{FileFault}
+use Rattle.ncc_lines.specs.Sends.{SendsAll}
+use Rattle.ncc_lines.specs.Texts.{records_line}
+use Rattle.ncc_lines.specs.Verdicts.{file_fault_line}
+use Rattle.ncc_lines.specs.declared.halt.Halt.{Halt}
+use Rattle.ncc_lines.specs.declared.halt.Halt.TheVariants as halts
+use Rattle.ncc_schema.specs.Schema.{Place}
+use Rattle.ncc_layout.specs.Plans.{IsKnown}
+use Rattle.ncc_build.specs.Dataset.{Dataset, IsDataset}
+use Rattle.ncc_write.specs.Additions.{HoldsAll}
+use Rattle.ncc_write.specs.Extends.{ExtendsAs, HoldsSome}
+use Rattle.ncc_write.specs.Records.{followed_by}
+use Rattle.ncc_cli.specs.declared.answer.Answer.{Answer}
+use Rattle.ncc_cli.specs.declared.answer.Answer.TheVariants.{Passed, Refused, Device, Memory}
+use Rattle.ncc_cli.specs.Answers.{Texts, answer_of}
+use Rattle.ncc_cli.specs.Extending.{ExtendsInto, IsExtendText, IsFrontOfText, Tells, TellsText}
+
+-- these went out
+abbrev pub Told : Result (Unit {0}) AppendError → (records : ℕ) → (old new : Option (List ℕ)) → Answer → Type 0
+Told result records old new answer = (out : List ℕ) × Puts old new out × Tells result records answer out
+
+abbrev pub Went : (bytes : List ℕ) (limit more : ℕ) (old new : Option (List ℕ)) → Answer → Type 0
+Went b limit n old new answer = (out : List ℕ) × Puts old new out × ExtendsInto b limit n answer out
+
+nothing_put : (put : Option (List ℕ)) → Puts put put []
+nothing_put None = tt
+nothing_put (Some bytes) = ap Some (sym (append-nil bytes))
+
+-- ---- telling
+
+whole : (result : Result (Unit {0}) AppendError) (records : ℕ) (answer : Answer) (text : List ℕ)
+    → TellsText result records answer text → Tells result records answer text
+whole result records Passed text is = is
+whole result records Refused text is = is
+whole (Ok x) records Device text is = absurd is
+whole (Err e) records Device text is = absurd is
+whole (Ok x) records Memory text is = absurd is
+whole (Err e) records Memory text is = absurd is
+
+pub told_sent : (result : Result (Unit {0}) AppendError) (records : ℕ) (answer : Answer) (text : List ℕ)
+    (old new : Option (List ℕ)) (sent : Result (Unit {0}) Halt) → TellsText result records answer text
+    → SendsAll old new text sent → Told result records old new (answer_of sent answer)
+told_sent result records answer text old new (Ok x) is s = (text, s, whole result records answer text is)
+told_sent result records answer text old new (Err halts.Device) is s =
+    (s.0, s.3, inr (answer, text, s.1, is, s.2))
+told_sent result records answer text old new (Err halts.Memory) is s =
+    (s.0, s.3, inr (answer, text, s.1, is, s.2))
+
+pub told_nothing : (result : Result (Unit {0}) AppendError) (records : ℕ) (put : Option (List ℕ))
+    → Told result records put put Device × Told result records put put Memory
+told_nothing result records put = (([], nothing_put put, inl refl), ([], nothing_put put, inl refl))
+
+-- ---- of bytes
+
+extended_text : (b : List ℕ) (limit n : ℕ) (s : Schema) (p : Placed) → Opens b limit s p
+    → (result : Result (Unit {0}) AppendError) (records : ℕ) → ExtendsAs false s p n result
+    → ((x : Unit {0}) → result ≡ Ok x → records ≡ records_of_file p + n)
+    → (answer : Answer) (text : List ℕ) → TellsText result records answer text → IsExtendText b limit n answer text
+extended_text b limit n s p o (Ok x) records how many Passed text is =
+    (s, p, o, (how, is ∙ ap (λ (m : ℕ). records_line (Known m)) (many x refl)))
+extended_text b limit n s p o (Ok x) records how many Refused text is = absurd is
+extended_text b limit n s p o (Ok x) records how many Device text is = absurd is
+extended_text b limit n s p o (Ok x) records how many Memory text is = absurd is
+extended_text b limit n s p o (Err e) records how many Passed text is = absurd is
+extended_text b limit n s p o (Err e) records how many Refused text is = inl (s, p, o, (e, how, is.0, is.1, is.2))
+extended_text b limit n s p o (Err e) records how many Device text is = absurd is
+extended_text b limit n s p o (Err e) records how many Memory text is = absurd is
+
+front_of : (P Q : Texts) → ((answer : Answer) (text : List ℕ) → P answer text → Q answer text) → (out : List ℕ)
+    → IsFrontOfText P out → IsFrontOfText Q out
+front_of P Q into out (inl none) = inl none
+front_of P Q into out (inr (answer, text, rest, is, joined)) = inr (answer, text, rest, into answer text is, joined)
+
+pub went : (b : List ℕ) (limit n : ℕ) (s : Schema) (p : Placed) → Opens b limit s p
+    → (result : Result (Unit {0}) AppendError) (records : ℕ) → ExtendsAs false s p n result
+    → ((x : Unit {0}) → result ≡ Ok x → records ≡ records_of_file p + n)
+    → (old new : Option (List ℕ)) (answer : Answer) → Told result records old new answer
+    → Went b limit n old new answer
+went b limit n s p o result records how many old new Passed (out, puts, is) =
+    (out, puts, extended_text b limit n s p o result records how many Passed out is)
+went b limit n s p o result records how many old new Refused (out, puts, is) =
+    (out, puts, extended_text b limit n s p o result records how many Refused out is)
+went b limit n s p o result records how many old new Device (out, puts, is) = (
+  out,
+  puts,
+  front_of (TellsText result records) (IsExtendText b limit n) (extended_text b limit n s p o result records how many) out is,
+)
+went b limit n s p o result records how many old new Memory (out, puts, is) = (
+  out,
+  puts,
+  front_of (TellsText result records) (IsExtendText b limit n) (extended_text b limit n s p o result records how many) out is,
+)
+
+-- ---- of bytes that don't pass
+
+pub fault_went : (b : List ℕ) (limit n : ℕ) (old new : Option (List ℕ)) (f : FileFault) (answer : Answer)
+    (sent : Result (Unit {0}) Halt) → Fails b limit f → SendsAll old new (file_fault_line f) sent
+    → answer ≡ answer_of sent Refused → Went b limit n old new answer
+fault_went b limit n old new f answer sent fails s is = subst (Went b limit n old new) (sym is) (by sent s)
+  where
+    by : (sent : Result (Unit {0}) Halt) → SendsAll old new (file_fault_line f) sent
+        → Went b limit n old new (answer_of sent Refused)
+    by (Ok x) s = (file_fault_line f, s, inr (f, fails, refl))
+    by (Err halts.Device) s = (s.0, s.3, inr (Refused, file_fault_line f, s.1, inr (f, fails, refl), s.2))
+    by (Err halts.Memory) s = (s.0, s.3, inr (Refused, file_fault_line f, s.1, inr (f, fails, refl), s.2))
+
+pub stopped_went : (b : List ℕ) (limit n : ℕ) (put : Option (List ℕ))
+    → Went b limit n put put Device × Went b limit n put put Memory
+stopped_went b limit n put = (([], nothing_put put, inl refl), ([], nothing_put put, inl refl))
+
+-- ---- what stands
+
+-- none of the records was added
+pub none_more : ((d : Dataset) → IsKnown d.schema.count → followed_by d [] ≡ d) → (b : List ℕ) (limit : ℕ)
+    (places : List Place) (d : Dataset) (n : ℕ) → IsDataset d → HoldsAll b limit places d
+    → ∥ HoldsSome b limit places d n ∥₁
+none_more none b limit places d n is all = ∣ record {
+  more = 0;
+  few = omega arith;
+  holds = subst (λ (e : Dataset). HoldsAll b limit places e) (sym (none d is.counted)) all;
+} ∣₁
+
+-- all of them were, where that was told
+pub passed_ok : (result : Result (Unit {0}) AppendError) (records : ℕ) (old new : Option (List ℕ))
+    → Told result records old new Passed → {P : Type 0} → OnOk result P → P
+passed_ok (Ok x) records old new told h = h
+passed_ok (Err e) records old new told h = absurd told.2
