@@ -1,5 +1,5 @@
 -- What `extend` sent is the line of its answer, or a front of it.
-use Rattle.std.proofs.Common.{◌≡◌, inl, inr, ℕ, ◌+◌, List, [], ◌++◌, Option, Some, None, Result, Ok, Err, refl, sym, ap, subst, ◌∙◌, arith, false}
+use Rattle.std.proofs.Common.{◌≡◌, ◌≢◌, ◌⊎◌, inl, inr, ℕ, zero, suc, ◌+◌, Bool, IsTrue, add-one, List, [], ◌++◌, Option, Some, None, Result, Ok, Err, refl, sym, ap, subst, ◌∙◌, arith, false}
 use Rattle.std.specs.Prelude.{OnOk}
 use Rattle.std.proofs.lemmas.List.{append-nil}
 use Rattle.ncc_schema.specs.Device.{Puts}
@@ -10,6 +10,9 @@ use Rattle.ncc_layout.specs.Placed.{records_of_file}
 use Rattle.ncc_check.specs.Checks.{Opens}
 use Rattle.ncc_check.specs.Faults.{Fails}
 use Rattle.ncc_check.specs.declared.append_error.AppendError.{AppendError}
+use Rattle.ncc_check.specs.declared.append_error.AppendError.TheVariants as errors
+use Rattle.ncc_check.specs.AppendLaws.{CanGrow}
+use Rattle.ncc_check.specs.Appending.{IsFull}
 use Rattle.ncc_check.specs.declared.fault.FileFault.{FileFault}
 use Rattle.ncc_lines.specs.Sends.{SendsAll}
 use Rattle.ncc_lines.specs.Texts.{records_line}
@@ -20,12 +23,13 @@ use Rattle.ncc_schema.specs.Schema.{Place}
 use Rattle.ncc_layout.specs.Plans.{IsKnown}
 use Rattle.ncc_build.specs.Dataset.{Dataset, IsDataset}
 use Rattle.ncc_write.specs.Additions.{HoldsAll}
-use Rattle.ncc_write.specs.Extends.{ExtendsAs, HoldsSome}
+use Rattle.ncc_write.specs.Extends.{ExtendsAs, HoldsSome, IsFullFor, LeavesFills}
+use Rattle.ncc_write.proofs.MoreRecords.{full_now}
 use Rattle.ncc_write.specs.Records.{followed_by}
 use Rattle.ncc_cli.specs.declared.answer.Answer.{Answer}
 use Rattle.ncc_cli.specs.declared.answer.Answer.TheVariants.{Passed, Refused, Device, Memory}
 use Rattle.ncc_cli.specs.Answers.{Texts, answer_of}
-use Rattle.ncc_cli.specs.Extending.{ExtendsInto, IsExtendText, IsFrontOfText, Tells, TellsText}
+use Rattle.ncc_cli.specs.Extending.{ExtendsInto, IsExtendText, IsFilledUp, IsFrontOfText, Tells, TellsText}
 
 -- these went out
 abbrev pub Told : Result (Unit {0}) AppendError → (records : ℕ) → (old new : Option (List ℕ)) → Answer → Type 0
@@ -137,3 +141,37 @@ pub passed_ok : (result : Result (Unit {0}) AppendError) (records : ℕ) (old ne
     → Told result records old new Passed → {P : Type 0} → OnOk result P → P
 passed_ok (Ok x) records old new told h = h
 passed_ok (Err e) records old new told h = absurd told.2
+
+-- ---- the records that there is room for
+
+pub is_full : (e : AppendError) → (e ≡ errors.CountFull) ⊎ (e ≢ errors.CountFull)
+is_full errors.CountFull = inl refl
+is_full errors.Reopen = inr (λ is. cc is)
+is_full errors.NoRecordVariable = inr (λ is. cc is)
+is_full errors.NotPacked = inr (λ is. cc is)
+is_full errors.Streaming = inr (λ is. cc is)
+is_full (errors.WrongValues k) = inr (λ is. cc is)
+is_full errors.Device = inr (λ is. cc is)
+is_full errors.Memory = inr (λ is. cc is)
+
+can_grow : (s : Schema) (p : Placed) (n : ℕ) → ExtendsAs false s p n (Err errors.CountFull) → CanGrow s p
+can_grow s p zero how = absurd how
+can_grow s p (suc n) how = how.1
+
+pub filled_up : (old : List ℕ) (limit : ℕ) (s : Schema) (p : Placed) → Opens old limit s p → (n : ℕ)
+    → ExtendsAs false s p n (Err errors.CountFull) → (t : Schema) (q : Placed) (told : Bool) (new : List ℕ)
+    → IsTrue told → LeavesFills old s p t q told n errors.CountFull new → IsFull t.version q
+    → IsFilledUp old limit n new
+filled_up old limit s p o n how t q told new is leaves full = record {
+  fits = leaves.more;
+  fewer = leaves.fewer;
+  filled = record { schema = s; placed = p; opens = o; bytes = leaves.stands is (λ device. cc device) };
+  grows = can_grow s p n how;
+  full = subst (IsFullFor s.version p) (sym (add-one leaves.more)) (full_now s p leaves.more t q leaves.has full);
+}
+
+-- why the answer was Refused
+pub refused_for : (result : Result (Unit {0}) AppendError) (records : ℕ) (old new : Option (List ℕ))
+    → Told result records old new Refused → (e : AppendError) × (result ≡ Err e) × (e ≢ errors.Device)
+refused_for (Ok x) records old new told = absurd told.2
+refused_for (Err e) records old new told = (e, refl, told.2.0)

@@ -1,5 +1,5 @@
 -- What the extend engine writes.
-use Rattle.std.specs.Prelude.{◌≡◌, ◌≢◌, ◌⊎◌, ℕ, ◌+◌, Bool, false, List, [], ◌++◌, Result, Ok, Err}
+use Rattle.std.specs.Prelude.{◌≡◌, ◌≢◌, ◌⊎◌, ℕ, ◌+◌, ◌<◌, Bool, false, List, [], ◌++◌, Result, Ok, Err}
 use Rattle.ncc_schema.specs.declared.schema.Count.TheVariants.{Known}
 use Rattle.ncc_schema.specs.declared.schema.Schema.{Schema}
 use Rattle.ncc_layout.specs.declared.placed_file.Placed.{Placed}
@@ -9,7 +9,8 @@ use Rattle.ncc_check.specs.declared.append_error.AppendError.{AppendError}
 use Rattle.ncc_check.specs.declared.append_error.AppendError.TheVariants as errors
 use Rattle.ncc_lines.specs.Refusals.{append_line}
 use Rattle.ncc_lines.specs.Texts.{records_line}
-use Rattle.ncc_write.specs.Extends.{ExtendsAs}
+use Rattle.ncc_check.specs.AppendLaws.{CanGrow}
+use Rattle.ncc_write.specs.Extends.{ExtendsAs, IsFullFor, filled_bytes}
 use Rattle.ncc_cli.specs.declared.answer.Answer.{Answer}
 use Rattle.ncc_cli.specs.declared.answer.Answer.TheVariants.{Passed, Refused, Device, Memory}
 use Rattle.ncc_cli.specs.Answers.{Texts}
@@ -49,6 +50,23 @@ ExtendsInto b limit n Passed out = IsExtendText b limit n Passed out
 ExtendsInto b limit n Refused out = IsExtendText b limit n Refused out
 ExtendsInto b limit n Device out = IsFrontOfText (IsExtendText b limit n) out
 ExtendsInto b limit n Memory out = IsFrontOfText (IsExtendText b limit n) out
+
+-- ---- what stands
+
+-- bytes that were opened, with so many records of fill values more
+pub record IsFilled (old : List ℕ) (limit more : ℕ) (new : List ℕ) : Type 0 where
+  pub schema : Schema
+  pub placed : Placed
+  pub opens : Opens old limit schema placed
+  pub bytes : new ≡ filled_bytes old schema placed more
+
+-- the records that there is room for were added, and no more
+pub record IsFilledUp (old : List ℕ) (limit more : ℕ) (new : List ℕ) : Type 0 where
+  pub fits : ℕ
+  pub fewer : fits < more
+  pub filled : IsFilled old limit fits new
+  pub grows : CanGrow filled.schema filled.placed
+  pub full : IsFullFor filled.schema.version filled.placed (fits + 1)
 
 -- ---- telling
 

@@ -11,7 +11,7 @@ ghost use Rattle.ncc_check.specs.declared.append_error.AppendError.TheVariants a
 ghost use Rattle.ncc_build.specs.Dataset.{Dataset, IsDataset};
 ghost use Rattle.ncc_write.specs.Additions.{HoldsAll};
 ghost use Rattle.ncc_write.specs.Extends.{HoldsSome, with_fills};
-ghost use Rattle.ncc_cli.specs.Extending.{ExtendsInto, Tells};
+ghost use Rattle.ncc_cli.specs.Extending.{ExtendsInto, IsFilled, IsFilledUp, Tells};
 
 use crate::answer::{Answer, answered};
 use ncc_check::{AppendError, NcFile, Refusal, laws as check_laws, open};
@@ -69,6 +69,11 @@ pub fn extend_engine<S: Store, W: Sink>(
     ensures holds { IsTrue S.tells_bytes → result.1 ≡ Answer.Passed → (places : List Place) (d : Dataset)
         → IsDataset d → HoldsAll (S.bytes store) limit places d
         → ∥ HoldsAll (S.bytes result.0) limit places (with_fills d more) ∥₁ }
+    ensures bytes { IsTrue S.tells_bytes → result.1 ≡ Answer.Passed
+        → ∥ IsFilled (S.bytes store) limit more (S.bytes result.0) ∥₁ }
+    ensures untouched { IsTrue S.tells_bytes → result.1 ≡ Answer.Refused
+        → Unmoved S.bytes S.images S.moment S.images_since store result.0
+        ⊎ (∥ IsFilledUp (S.bytes store) limit more (S.bytes result.0) ∥₁) }
     ensures holds_some { IsTrue S.tells_bytes → (places : List Place) (d : Dataset)
         → IsDataset d → HoldsAll (S.bytes store) limit places d
         → ∥ HoldsSome (S.bytes result.0) limit places d more ∥₁ }

@@ -36,7 +36,7 @@ mod Behind
 mod Filling
 mod Pages
 mod RecordParts
-mod MoreRecords
+pub mod MoreRecords
 pub mod MoreFills
 mod HeldRecords
 mod PackedRecords

@@ -19,10 +19,11 @@ use Rattle.ncc_layout.specs.Placed.{extents_of_file, file_length_of, record_size
 use Rattle.ncc_layout.specs.Plans.{IsKnown}
 use Rattle.ncc_layout.specs.Standard.{PackedFrom, next_count}
 use Rattle.ncc_check.specs.AppendLaws.{CanGrow}
-use Rattle.ncc_check.specs.Appending.{HasRecord, IsFull, TakesRecord, length_with_record}
+use Rattle.ncc_write.specs.Records.{bytes_of_record, fill_values}
+use Rattle.ncc_check.specs.Appending.{HasRecordOrNot, Keeps, appended, count_field, next_record_at, with_record, HasRecord, IsFull, TakesRecord, length_with_record}
 use Rattle.ncc_check.specs.declared.append_error.AppendError.{AppendError}
 use Rattle.ncc_check.specs.declared.append_error.AppendError.TheVariants as error
-use Rattle.ncc_write.specs.Extends.{AddsAs, ExtendsAs, HasRecords, IsFullFor, RefusesMore, TakesRecords, length_with, schema_with, vars_with}
+use Rattle.ncc_write.specs.Extends.{HasFillsOrNot, LeavesFills, filled_bytes, AddsAs, ExtendsAs, HasRecords, IsFullFor, RefusesMore, TakesRecords, length_with, schema_with, vars_with}
 
 -- ---- none
 
@@ -152,6 +153,12 @@ module _ (s : Schema) (p : Placed) (k : ℕ) (t : Schema) (q : Placed) (has : Ha
       again m (x ∷ vars) = ap₂ (λ (ls : List ℕ) (l : List PlacedVar).
           record { xtype = x.xtype; shape = ls; extent = x.extent } ∷ l) (longer m x.extent.is_record x.shape) (again m vars)
 
+  place_now : next_record_at q ≡ record_at p (records_of_file p + k)
+  place_now = ap (record_at q) has.records_are ∙ same_place (records_of_file p + k)
+
+  count_now : records_of_file q + 1 ≡ records_of_file p + suc k
+  count_now = omega (arith, has.records_are)
+
   pub one_record_more : (u : Schema) (r : Placed) → HasRecord t q u r → HasRecords s p (suc k) u r
   one_record_more u r one =
       let next : records_of_file q + 1 ≡ records_of_file p + suc k = omega (arith, has.records_are) in
@@ -167,6 +174,25 @@ module _ (s : Schema) (p : Placed) (k : ℕ) (t : Schema) (q : Placed) (has : Ha
 
   pub room_more : CanGrow s p → TakesRecord t q → TakesRecords s p (suc k)
   room_more can takes = (can, λ full. takes.room (full_then full))
+
+  -- ---- its bytes
+
+  pub bytes_more : (old now : List ℕ) (image : List ℕ) → now ≡ filled_bytes old s p k
+      → image ≡ bytes_of_record s (fill_values s) → with_record now t q image ≡ filled_bytes old s p (suc k)
+  bytes_more old now image now_is image_is =
+      ap (λ (b : List ℕ). with_record b t q image) now_is
+      ∙ ap (λ (i : List ℕ). with_record (filled_bytes old s p k) t q i) image_is
+      ∙ ap (λ (n : ℕ). appended (filled_bytes old s p k) n (bytes_of_record s (fill_values s)) 4
+      (count_field t.version (records_of_file q + 1))) place_now
+      ∙ ap₂ (λ (v : Version) (n : ℕ). appended (filled_bytes old s p k) (record_at p (records_of_file p + k))
+      (bytes_of_record s (fill_values s)) 4 (count_field v n)) same_version count_now
+
+  pub fills_or_not : (old now new : List ℕ) (image : List ℕ) → now ≡ filled_bytes old s p k
+      → image ≡ bytes_of_record s (fill_values s) → HasRecordOrNot now t q image new → HasFillsOrNot old s p k new
+  fills_or_not old now new image now_is image_is (inl keeps) =
+      inl (subst (λ (b : List ℕ). Keeps b (record_at p (records_of_file p + k)) new) now_is
+      (subst (λ (n : ℕ). Keeps now n new) place_now keeps))
+  fills_or_not old now new image now_is image_is (inr is) = inr (is ∙ bytes_more old now image now_is image_is)
 
 -- ---- answers
 
@@ -212,3 +238,14 @@ pub extended_so : (failed : Bool) (s : Schema) (p : Placed) (n : ℕ) (e : Appen
     → RefusesMore failed s p n e → ExtendsAs failed s p n (Err e)
 extended_so failed s p zero e some refused = absurd (omega (arith, some))
 extended_so failed s p (suc n) e some refused = refused
+
+-- none was added
+pub none_left_out : (old : List ℕ) (s : Schema) (p : Placed) (told : Bool) (most : ℕ) (e : AppendError) → 0 < most
+    → LeavesFills old s p s p told most e old
+none_left_out old s p told most e some = record {
+  more = 0;
+  fewer = some;
+  has = no_records s p;
+  stands = λ is no_device. refl;
+  failed = λ is. inl (record { front = refl; no_shorter = omega arith });
+}

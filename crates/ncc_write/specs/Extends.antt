@@ -1,5 +1,5 @@
 -- What adding records of fill values answers and leaves.
-use Rattle.std.specs.Prelude.{◌≡◌, ◌⊎◌, ℕ, zero, suc, ◌+◌, ◌^◌, ◌≤◌, max, Bool, false, List, map, replicate, Result, Ok, Err}
+use Rattle.std.specs.Prelude.{◌≡◌, ◌≢◌, ◌⊎◌, ℕ, zero, suc, ◌+◌, ◌^◌, ◌<◌, ◌≤◌, max, Bool, false, IsTrue, List, map, replicate, Result, Ok, Err}
 use Rattle.ncc_schema.specs.declared.schema.Schema.{Schema}
 use Rattle.ncc_schema.specs.Schema.{Place, streaming_mark, with_count}
 use Rattle.ncc_values.specs.declared.version.Version.{Version}
@@ -8,14 +8,14 @@ use Rattle.ncc_layout.specs.declared.placed_var.PlacedVar.{PlacedVar}
 use Rattle.ncc_layout.specs.Elements.{with_records}
 use Rattle.ncc_layout.specs.Packed.{record_at}
 use Rattle.ncc_layout.specs.Placed.{file_length_of, header_length_of, record_size_of_file, records_of_file, vars_of}
-use Rattle.ncc_check.specs.Appending.{IsAppendable, TakesRecord}
+use Rattle.ncc_check.specs.Appending.{IsAppendable, IsBeforeOrAfter, TakesRecord, appended, count_field}
 use Rattle.ncc_check.specs.AppendLaws.{CanGrow}
 use Rattle.ncc_check.specs.Checks.{Opens}
 use Rattle.ncc_check.specs.declared.append_error.AppendError.{AppendError}
 use Rattle.ncc_check.specs.declared.append_error.AppendError.TheVariants.{CountFull, WrongValues, Device, Memory}
 use Rattle.ncc_build.specs.Dataset.{Dataset, IsDataset}
 use Rattle.ncc_write.specs.Additions.{HoldsAll}
-use Rattle.ncc_write.specs.Records.{fill_values, followed_by}
+use Rattle.ncc_write.specs.Records.{bytes_of_record, fill_values, followed_by}
 
 -- ---- room
 
@@ -74,6 +74,32 @@ pub record HasRecords (s : Schema) (p : Placed) (more : ℕ) (t : Schema) (q : P
   pub size_is : record_size_of_file q ≡ record_size_of_file p
   pub records_are : records_of_file q ≡ records_of_file p + more
   pub vars_are : vars_of q ≡ vars_with p more
+
+-- ---- its bytes
+
+-- with so many records of fill values more, one by one: zeros that are missing, the record, and the count
+abbrev pub filled_bytes : (old : List ℕ) → Schema → Placed → (more : ℕ) → List ℕ
+filled_bytes old s p zero = old
+filled_bytes old s p (suc k) =
+    appended (filled_bytes old s p k) (record_at p (records_of_file p + k)) (bytes_of_record s (fill_values s)) 4
+    (count_field s.version (records_of_file p + suc k))
+
+-- so many records were added, and of the next one nothing below its place or all
+abbrev pub HasFillsOrNot : (old : List ℕ) → Schema → Placed → (more : ℕ) → (new : List ℕ) → Type 0
+HasFillsOrNot old s p k new =
+    IsBeforeOrAfter (filled_bytes old s p k) (record_at p (records_of_file p + k)) (bytes_of_record s (fill_values s)) 4
+    (count_field s.version (records_of_file p + suc k)) new
+
+-- what an error leaves: the records before the one that was refused; after Device the next one may be there too
+pub record LeavesFills (old : List ℕ) (s : Schema) (p : Placed) (t : Schema) (q : Placed) (told : Bool) (most : ℕ)
+    (e : AppendError) (new : List ℕ) : Type 0 where
+  pub more : ℕ
+  pub fewer : more < most
+  pub has : HasRecords s p more t q
+  pub stands : IsTrue told → e ≢ Device → new ≡ filled_bytes old s p more
+  pub failed : IsTrue told → HasFillsOrNot old s p more new
+
+-- ---- datasets
 
 -- the dataset with so many records of fill values more
 abbrev pub with_fills : Dataset → (more : ℕ) → Dataset

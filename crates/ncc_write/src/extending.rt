@@ -4,12 +4,12 @@ ghost use Rattle.std.specs.Prelude.{◌≡◌, ◌≢◌, ◌+◌, ◌*◌, ◌<
 ghost use Rattle.ncc_schema.specs.Schema.{Place};
 ghost use Rattle.ncc_layout.specs.Placed.{record_size_of_file};
 ghost use Rattle.ncc_store.specs.Store.{LeavesOnly, Only};
-ghost use Rattle.ncc_check.specs.Appending.{CountsDevice, HasRecord, HasRecordOrNot, with_record};
+ghost use Rattle.ncc_check.specs.Appending.{CountsDevice, HasRecord, HasRecordOrNot, IsFull, with_record};
 ghost use Rattle.ncc_check.specs.declared.append_error.AppendError.TheVariants as AppendError;
 ghost use Rattle.ncc_check.specs.Files.{store_of, schema_of, placed_of, must_reopen};
 ghost use Rattle.ncc_build.specs.Dataset.{Dataset};
 ghost use Rattle.ncc_write.specs.Additions.{HoldsAll};
-ghost use Rattle.ncc_write.specs.Extends.{AddsAs, Contains, ExtendsAs, HasRecords, HoldsSome, with_fills};
+ghost use Rattle.ncc_write.specs.Extends.{AddsAs, Contains, ExtendsAs, HasRecords, HoldsSome, LeavesFills, filled_bytes, with_fills};
 
 use crate::filled::fill_image;
 use crate::laws::adding::{
@@ -53,8 +53,16 @@ pub fn extend<S: Store>(alloc: Global, file: &mut NcFile<S>, more: u64) -> Resul
     ensures added { OnOk result (HasRecords (schema_of file.old) (placed_of file.old) more
         (schema_of file.new) (placed_of file.new)) }
     ensures none { more ≡ 0 → file.new ≡ file.old }
-    ensures partly { OnErr result ((k : ℕ) × (k < more) × HasRecords (schema_of file.old) (placed_of file.old) k
-        (schema_of file.new) (placed_of file.new)) }
+    ensures bytes { IsTrue S.tells_bytes → OnOk result (S.bytes (store_of file.new)
+        ≡ filled_bytes (S.bytes (store_of file.old)) (schema_of file.old) (placed_of file.old) more) }
+    ensures partly { IfErr result (λ e. ∥ LeavesFills (S.bytes (store_of file.old)) (schema_of file.old)
+        (placed_of file.old) (schema_of file.new) (placed_of file.new) S.tells_bytes more e
+        (S.bytes (store_of file.new)) ∥₁) }
+    ensures full { IfErr result (λ e. e ≡ AppendError.CountFull
+        → IsFull (schema_of file.new).version (placed_of file.new)) }
+    ensures fresh { OnOk result (must_reopen file.new ≡ must_reopen file.old) }
+    ensures reopen { IfErr result (λ e. e ≡ AppendError.Device → must_reopen file.new ≡ true) }
+    ensures still { IfErr result (λ e. e ≢ AppendError.Device → must_reopen file.new ≡ must_reopen file.old) }
     ensures unchanged { IfErr result (λ e. e ≢ AppendError.Device → e ≢ AppendError.CountFull → file.new ≡ file.old) }
     ensures holds { IsTrue S.tells_bytes → OnOk result ((limit : ℕ) (places : List Place) (d : Dataset)
         → Contains (S.bytes (store_of file.old)) limit places d (schema_of file.old) (placed_of file.old)

@@ -1,17 +1,22 @@
-use Rattle.std.proofs.Common.{◌≡◌, ◌+◌, ℕ, List, Bool, Result, Ok, Err, OnOk, refl, ap, sym, subst, ◌∙◌, arith}
+use Rattle.std.proofs.Math.Logic.{∥∥₁_map}
+use Rattle.std.proofs.Common.{◌≡◌, ◌≢◌, ◌+◌, inl, inr, ⊎_elim, false, ℕ, List, Bool, Result, Ok, Err, OnOk, refl, ap, sym, subst, ◌∙◌, arith}
 use Rattle.ncc_schema.specs.Schema.{Place}
 use Rattle.ncc_layout.specs.Placed.{records_of_file}
-use Rattle.ncc_store.specs.Store.{LeavesOnly, Only}
+use Rattle.ncc_store.specs.Store.{LeavesOnly, Only, Unmoved}
+use Rattle.ncc_check.specs.Appending.{IsFull}
+use Rattle.ncc_check.specs.declared.append_error.AppendError.{AppendError}
+use Rattle.ncc_check.specs.declared.append_error.AppendError.TheVariants as errors
+use Rattle.ncc_cli.specs.Extending.{IsFilledUp}
 use Rattle.ncc_store.proofs.Moments.{joined, stays}
 use Rattle.ncc_check.specs.Checks.{Refuses}
 use Rattle.ncc_check.specs.Files.{store_of, schema_of, placed_of}
 use Rattle.ncc_check.specs.declared.fault.Refusal.{Refusal}
 use Rattle.ncc_build.specs.Dataset.{Dataset, IsDataset}
 use Rattle.ncc_write.specs.Additions.{HoldsAll}
-use Rattle.ncc_write.specs.Extends.{Contains, ExtendsAs, HasRecords, HoldsSome, with_fills}
+use Rattle.ncc_write.specs.Extends.{Contains, ExtendsAs, HasRecords, HoldsSome, LeavesFills, filled_bytes, with_fills}
 use Rattle.ncc_write.proofs.MoreFills.{at_start}
 use Rattle.ncc_cli.specs.declared.answer.Answer.{Answer}
-use Rattle.ncc_cli.proofs.Extended.{Told, fault_went, none_more, passed_ok, stopped_went, went}
+use Rattle.ncc_cli.proofs.Extended.{Told, fault_went, filled_up, is_full, refused_for, none_more, passed_ok, stopped_went, went}
 use Rattle.ncc_cli.proofs.extending.extend_engine.Goals as goal
 
 pub returns-in-Ok-clause-extends : goal.returns-in-Ok-clause-extends
@@ -95,3 +100,44 @@ returns-in-Memory-clause-any_moment g c = λ told only places d is all.
     (at_start g.S.Store.bytes g.S.Store.images g.S.Store.moment g.S.Store.images_since c.args.store
     (λ i. ∥ HoldsSome i c.args.limit places d c.args.more ∥₁) (λ i left. g.met.S.Store.only_now c.args.store i left)
     only (none_more c.followed_twice.ensures.none (g.S.Store.bytes c.args.store) c.args.limit places d c.args.more is all)) c.in-Err.ensures.unmoved
+
+pub returns-in-Ok-clause-bytes : goal.returns-in-Ok-clause-bytes
+returns-in-Ok-clause-bytes g c = λ told passed.
+    let f = c.in-Ok.opened in
+    let tells = subst (λ (a : Answer). Told c.extend-extended.result c.records.result (g.W.Sink.put c.args.sink.now) (g.W.Sink.put c.tell-answer.new.sink) a) passed c.tell-answer.ensures.tells in
+    ∣ record {
+      schema = schema_of f;
+      placed = placed_of f;
+      opens = c.in-Ok.ensures.passes told;
+      bytes = ap g.S.Store.bytes c.into_store.ensures
+          ∙ passed_ok c.extend-extended.result c.records.result _ _ tells (c.extend-extended.ensures.bytes told)
+          ∙ ap (λ (b : List ℕ). filled_bytes b (schema_of f) (placed_of f) c.args.more) c.in-Ok.ensures.unmoved.same;
+    } ∣₁
+
+pub returns-in-Ok-clause-untouched : goal.returns-in-Ok-clause-untouched
+returns-in-Ok-clause-untouched g c = λ told refused.
+    let f = c.in-Ok.opened in
+    let s = schema_of f in
+    let p = placed_of f in
+    let new = c.extend-extended.new.file in
+    let same = c.in-Ok.ensures.unmoved.same in
+    let tells = subst (λ (a : Answer). Told c.extend-extended.result c.records.result (g.W.Sink.put c.args.sink.now) (g.W.Sink.put c.tell-answer.new.sink) a) refused c.tell-answer.ensures.tells in
+    let why = refused_for c.extend-extended.result c.records.result (g.W.Sink.put c.args.sink.now) (g.W.Sink.put c.tell-answer.new.sink) tells in
+    let e = why.0 in
+    let answer : ExtendsAs false s p c.args.more c.extend-extended.result =
+    subst (λ (b : Bool). ExtendsAs b s p c.args.more c.extend-extended.result) c.in-Ok.ensures.fresh c.extend-extended.ensures.answer in
+    let unchanged : e ≢ errors.Device → e ≢ errors.CountFull → new ≡ f = rw why.1 at c.extend-extended.ensures.unchanged in
+    ⊎_elim
+    (λ full.
+    let is : c.extend-extended.result ≡ Err errors.CountFull = why.1 ∙ ap (λ (x : AppendError). Err x) full in
+    let partly : ∥ LeavesFills (g.S.Store.bytes (store_of f)) s p (schema_of new) (placed_of new) g.S.Store.tells_bytes c.args.more errors.CountFull (g.S.Store.bytes (store_of new)) ∥₁ =
+    rw is at c.extend-extended.ensures.partly in
+    let room : IsFull (schema_of new).version (placed_of new) = (rw is at c.extend-extended.ensures.full) refl in
+    let how : ExtendsAs false s p c.args.more (Err errors.CountFull) = rw is at answer in
+    inr (subst (λ x. ∥ IsFilledUp (g.S.Store.bytes c.args.store) c.args.limit c.args.more (g.S.Store.bytes x) ∥₁) (sym c.into_store.ensures)
+    (∥∥₁_map partly (λ leaves. filled_up (g.S.Store.bytes c.args.store) c.args.limit s p (c.in-Ok.ensures.passes told) c.args.more how
+    (schema_of new) (placed_of new) g.S.Store.tells_bytes (g.S.Store.bytes (store_of new)) told
+    (subst (λ (b : List ℕ). LeavesFills b s p (schema_of new) (placed_of new) g.S.Store.tells_bytes c.args.more errors.CountFull (g.S.Store.bytes (store_of new))) same leaves) room))))
+    (λ other. inl (subst (λ x. Unmoved g.S.Store.bytes g.S.Store.images g.S.Store.moment g.S.Store.images_since c.args.store x)
+    (sym (c.into_store.ensures ∙ ap (λ x. store_of x) (unchanged why.2 other))) c.in-Ok.ensures.unmoved))
+    (is_full e)

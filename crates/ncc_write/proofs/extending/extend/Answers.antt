@@ -7,10 +7,10 @@ use Rattle.ncc_check.specs.declared.append_error.AppendError.{AppendError}
 use Rattle.ncc_check.specs.declared.append_error.AppendError.TheVariants as error
 use Rattle.ncc_layout.specs.Placed.{record_size_of_file}
 use Rattle.ncc_write.specs.Additions.{HoldsAll}
-use Rattle.ncc_write.specs.Extends.{AddsAs, Contains, HasRecords, HoldsSome, TakesRecords, with_fills}
+use Rattle.ncc_write.specs.Extends.{AddsAs, Contains, HasRecords, HoldsSome, TakesRecords, filled_bytes, with_fills}
 use Rattle.ncc_write.specs.Records.{bytes_of_record, fill_values}
 use Rattle.ncc_write.proofs.MoreFills.{Laws, at_start, held_first, some_held, one_fill, fill_or_not}
-use Rattle.ncc_write.proofs.MoreRecords.{no_records, as_first, one_record_more, room_more, refused_so, extended_so}
+use Rattle.ncc_write.proofs.MoreRecords.{bytes_more, fills_or_not, no_records, none_left_out, as_first, one_record_more, room_more, refused_so, extended_so}
 use Rattle.ncc_write.proofs.extending.extend.Goals as goal
 
 pub returns-then-more-eq0-clause-holds_some : goal.returns-then-more-eq0-clause-holds_some
@@ -80,6 +80,7 @@ loop-done-init g c =
       fresh = takes.0;
       has = no_records (schema_of c.args.file.now) (placed_of c.args.file.now);
       room = tt;
+      bytes = λ told. refl;
       few = omega arith;
       takes = takes.1;
       was_fresh = takes.0;
@@ -248,6 +249,10 @@ loop-done-preserved g c =
       fresh = c.in_ok-add_one.ensures.added.1;
       has = subst (λ (n : ℕ). HasRecords s p n u r) (sym next) (one_record_more s p k t q at.has u r c.in_ok-add_one.ensures.added.0);
       room = subst (λ (n : ℕ). TakesRecords s p n) (sym next) (room_more s p k t q at.has (as_first s p at.takes) takes.1);
+      bytes = λ told. c.in_ok-add_one.ensures.bytes told
+          ∙ bytes_more s p k t q at.has (g.S.Store.bytes (store_of c.args.file.now)) (g.S.Store.bytes (store_of c.loop-done.file))
+          c.as_slice.result.now (at.bytes told) image
+          ∙ ap (filled_bytes (g.S.Store.bytes (store_of c.args.file.now)) s p) (sym next);
       few = omega (arith, c.loop-done-test.true);
       takes = at.takes;
       was_fresh = at.was_fresh;
@@ -287,3 +292,42 @@ loop-done-preserved g c =
       calls = omega (arith, at.calls, c.add_one.ensures.calls);
       reach = omega (arith, at.reach, c.add_one.ensures.reach);
     }
+
+pub returns-clause-bytes : goal.returns-clause-bytes
+returns-clause-bytes g c = λ told.
+    let at = c.loop-done.invariant in
+    let all : c.loop-done._done ≡ c.args.more = omega (arith, at.few, c.loop-done-test.false) in
+    at.bytes told ∙ ap (filled_bytes (g.S.Store.bytes (store_of c.args.file.now)) (schema_of c.args.file.now) (placed_of c.args.file.now)) all
+
+pub returns-in_err-appendable-clause-partly : goal.returns-in_err-appendable-clause-partly
+returns-in_err-appendable-clause-partly g c =
+    let e = c.in_err-appendable.field-0.0 in
+    let is : c.from_residual.result ≡ Err e = search rules in
+    rw is (∣ none_left_out (g.S.Store.bytes (store_of c.args.file.now)) (schema_of c.args.file.now) (placed_of c.args.file.now) g.S.Store.tells_bytes c.args.more e
+    (omega (arith, c.if-more-eq0.false)) ∣₁)
+
+pub returns-in-Err-clause-partly : goal.returns-in-Err-clause-partly
+returns-in-Err-clause-partly g c =
+    ∣ none_left_out (g.S.Store.bytes (store_of c.args.file.now)) (schema_of c.args.file.now) (placed_of c.args.file.now) g.S.Store.tells_bytes c.args.more error.Memory
+    (omega (arith, c.if-more-eq0.false)) ∣₁
+
+pub returns-in_err-add_one-clause-partly : goal.returns-in_err-add_one-clause-partly
+returns-in_err-add_one-clause-partly g c =
+    let at = c.loop-done.invariant in
+    let s = schema_of c.args.file.now in
+    let p = placed_of c.args.file.now in
+    let t = schema_of c.loop-done.file in
+    let q = placed_of c.loop-done.file in
+    let k = c.loop-done._done in
+    let e = c.in_err-add_one.field-0.0 in
+    let is : c.from_residual-in_err-add_one.result ≡ Err e = search rules in
+    let image : c.as_slice.result.now ≡ bytes_of_record s (fill_values s) = c.as_slice.ensures.value ∙ at.image_is in
+    rw is (∣ record {
+      more = k;
+      fewer = c.loop-done-test.true;
+      has = subst (λ r. HasRecords s p k (schema_of c.add_one.new.file) r) (sym c.in_err-add_one.ensures.err.1)
+          (subst (λ u. HasRecords s p k u q) (sym c.in_err-add_one.ensures.err.0) at.has);
+      stands = λ told no_device. ap (λ f. g.S.Store.bytes (store_of f)) (c.in_err-add_one.ensures.unchanged no_device) ∙ at.bytes told;
+      failed = λ told. fills_or_not s p k t q at.has (g.S.Store.bytes (store_of c.args.file.now)) (g.S.Store.bytes (store_of c.loop-done.file))
+          (g.S.Store.bytes (store_of c.add_one.new.file)) c.as_slice.result.now (at.bytes told) image (c.in_err-add_one.ensures.front told);
+    } ∣₁)

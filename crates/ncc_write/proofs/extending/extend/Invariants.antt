@@ -5,7 +5,7 @@ use Rattle.ncc_check.specs.Files.{store_of, schema_of, placed_of, must_reopen}
 use Rattle.ncc_build.specs.Dataset.{Dataset}
 use Rattle.ncc_check.specs.Appending.{TakesRecord}
 use Rattle.ncc_write.specs.Records.{bytes_of_record, fill_values}
-use Rattle.ncc_write.specs.Extends.{Contains, HasRecords, HoldsSome, TakesRecords, with_fills}
+use Rattle.ncc_write.specs.Extends.{Contains, HasRecords, HoldsSome, TakesRecords, filled_bytes, with_fills}
 use Rattle.ncc_write.proofs.extending.extend.Given as goal
 
 abbrev pub invariant-loop-done : goal.invariant-loop-done
@@ -13,6 +13,8 @@ invariant-loop-done g l = record {
   fresh : must_reopen l.file ≡ false;
   has : HasRecords (schema_of l.fn.file) (placed_of l.fn.file) l._done (schema_of l.file) (placed_of l.file);
   room : TakesRecords (schema_of l.fn.file) (placed_of l.fn.file) l._done;
+  bytes : IsTrue g.S.Store.tells_bytes → g.S.Store.bytes (store_of l.file)
+      ≡ filled_bytes (g.S.Store.bytes (store_of l.fn.file)) (schema_of l.fn.file) (placed_of l.fn.file) l._done;
   few : l._done ≤ l.more;
   takes : TakesRecord (schema_of l.fn.file) (placed_of l.fn.file);
   was_fresh : must_reopen l.fn.file ≡ false;
