@@ -10,7 +10,8 @@ pub enum AppendError {
     Reopen,
     #[error("NoRecordVariable")]
     NoRecordVariable,
-    /// The record variables don't stand one behind the other, or the file lacks more of its last record than padding.
+    /// The record variables don't stand one behind the other, or the file ends more than three bytes before the record
+    /// that would be added, as one without records may.
     #[error("NotPacked")]
     NotPacked,
     /// The number of records is indeterminate.

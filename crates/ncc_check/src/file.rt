@@ -32,7 +32,7 @@ pub struct NcFile<S: Store> {
 }
 
 impl<S: Store> NcFile<S> {
-    ghost use Rattle.ncc_check.specs.Appending.{HasRecord, HasRecordOrNot, IsAppendable, TakesRecord, CountsDevice, with_record};
+    ghost use Rattle.ncc_check.specs.Appending.{HasRecord, HasRecordOrNot, IsAppendable, TakesRecord, CountsDevice, next_record_at, with_record};
     ghost use Rattle.ncc_check.specs.declared.append_error.AppendError.TheVariants as AppendError;
     ghost use Rattle.ncc_layout.specs.Placed.{record_size_of_file};
     ghost use Rattle.ncc_store.specs.Store.{LeavesOnly, Only};
@@ -117,8 +117,8 @@ impl<S: Store> NcFile<S> {
         }
     }
 
-    /// Adds a record of these bytes, in two steps, each of at most three calls of the store: zeros for up to three bytes
-    /// that are missing, the record, and a sync; then the number of records, and a sync. After a failure of the device,
+    /// Adds a record of these bytes, in two steps, of at most three and two calls of the store: zeros for up to three
+    /// bytes that are missing, the record, and a sync; then the number of records, and a sync. After a failure of the device,
     /// and after a stop at any moment, the old records stand or the new one too; then it answers Reopen for good, and
     /// reads go on as before.
     pub fn append_image(&mut self, image: &[u8]) -> Result<(), AppendError>
@@ -141,6 +141,8 @@ impl<S: Store> NcFile<S> {
             (HasRecordOrNot (S.bytes (store_of self.old)) (schema_of self.old) (placed_of self.old) image.now) }
         ensures count { CountsDevice (S.failures (store_of self.old)) (S.failures (store_of self.new)) result }
         ensures calls { S.calls (store_of self.new) ≤ S.calls (store_of self.old) + 5 }
+        ensures calls_whole { next_record_at (placed_of self.old) ≤ file_length_of (placed_of self.old)
+            → S.calls (store_of self.new) ≤ S.calls (store_of self.old) + 4 }
         ensures reach { S.reach (store_of self.new) ≤ S.reach (store_of self.old) }
     {
         placed_file_keeps_all_rules();

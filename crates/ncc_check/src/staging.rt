@@ -18,6 +18,7 @@ fn pad_to<S: Store>(store: &mut S, size: u64, place: u64) -> Result<(), Device>
         → (c : List ℕ) → S.images store.new c → Keeps (S.bytes store.old) place c }
     ensures any_moment { IsTrue S.tells_bytes → Only (S.bytes store.old) (S.images store.old)
         → LeavesOnly S.moment S.images_since store.old store.new (Keeps (S.bytes store.old) place) }
+    ensures none { place ≤ size → store.new ≡ store.old }
     ensures count { Counts (S.failures store.old) (S.failures store.new) result }
     ensures calls { S.calls store.new ≤ S.calls store.old + 1 }
     ensures reach { S.reach store.new ≤ S.reach store.old }
@@ -48,6 +49,7 @@ pub(crate) fn stage<S: Store>(
         → LeavesOnly S.moment S.images_since store.old store.new (Keeps (S.bytes store.old) place) }
     ensures count { Counts (S.failures store.old) (S.failures store.new) result }
     ensures calls { S.calls store.new ≤ S.calls store.old + 3 }
+    ensures calls_whole { place ≤ size → S.calls store.new ≤ S.calls store.old + 2 }
     ensures reach { S.reach store.new ≤ S.reach store.old }
 {
     pad_to(store, size, place)?;
@@ -101,6 +103,7 @@ pub(crate) fn add_image<S: Store>(
         (IsBeforeOrAfter (S.bytes store.old) place image.now count_place count.now) }
     ensures count { Counts (S.failures store.old) (S.failures store.new) result }
     ensures calls { S.calls store.new ≤ S.calls store.old + 5 }
+    ensures calls_whole { place ≤ size → S.calls store.new ≤ S.calls store.old + 4 }
     ensures reach { S.reach store.new ≤ S.reach store.old }
 {
     stage(store, size, place, image)?;

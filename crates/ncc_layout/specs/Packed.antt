@@ -18,7 +18,7 @@ abbrev pub record_at : Placed → (number : ℕ) → ℕ
 record_at p n = records_at p + n * record_size_of_file p
 
 -- the record variables are packed: in their order one behind the other, each with its padding, and no more than three
--- bytes are missing of the last record
+-- bytes are missing before the next record
 pub record IsPacked (p : Placed) : Type 0 where
   pub in_turn : PackedFrom (records_at p) (records_of (extents_of_file p))
   pub reaches : record_at p (records_of_file p) ≤ file_length_of p + 3
