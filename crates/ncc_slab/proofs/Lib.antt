@@ -14,6 +14,8 @@ mod ValueParts
 mod Counts
 mod Numbers
 mod Whole
+mod SlabEnds
+mod SlabBytes
 mod PartPlaces
 mod AllParts
 mod Calls

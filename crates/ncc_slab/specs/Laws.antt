@@ -6,13 +6,17 @@ use Rattle.ncc_values.specs.declared.values.Values.{Values}
 use Rattle.ncc_values.specs.declared.xtype.XType.{XType}
 use Rattle.ncc_values.specs.XType.{size_of}
 use Rattle.ncc_layout.specs.declared.placed_var.PlacedVar.{PlacedVar}
+use Rattle.ncc_layout.specs.declared.placed_file.Placed.{Placed}
 use Rattle.ncc_layout.specs.Sizes.{product}
 use Rattle.ncc_layout.specs.Elements.{Inside, place_of, row_major, var_at, Own}
+use Rattle.ncc_layout.specs.Placed.{record_size_of_file, vars_of}
 use Rattle.ncc_slab.specs.declared.slab.Slab.{Slab}
 use Rattle.ncc_slab.specs.Selection.{index_lists, indices_of, selected_count, fitting_count}
-use Rattle.ncc_slab.specs.Selected.{element_bytes, values_at, Selected, part_of, AddsPart, AddsPlaces, places_of, number_at, numbers_of}
+use Rattle.ncc_slab.specs.Selected.{bytes_at, bytes_of_elements, element_bytes, values_at, Selected, part_of, AddsPart, AddsPlaces, places_of, number_at, numbers_of}
 use Rattle.ncc_slab.specs.Answers.{part_count, TakesPart}
 use Rattle.ncc_slab.specs.Refusals.{shape_fault, slab_fault, EndsBy, FitsIn}
+use Rattle.ncc_slab.specs.SlabPlaces.{slab_begin, HasSlab}
+use Rattle.ncc_slab.specs.WholeSlabs.{whole_slab}
 
 -- as many elements are selected as the product of the counts
 abbrev pub CountIsProduct : Type 0
@@ -116,3 +120,15 @@ TakesAll file size (n ∷ counts) left old new = (rest : List ℕ) × (mid : Val
 abbrev pub PartsAreSelected : Type 0
 PartsAreSelected = (file : List ℕ) (record_size : ℕ) (x : PlacedVar) (s : Slab) (counts : List ℕ) (values : Values)
     → TakesAll file (size_of x.xtype) counts (places_of record_size x s) (no_values x.xtype) values → Selected file record_size x s values
+
+-- ---- whole slabs
+
+-- the selection of a slab that is there isn't refused
+abbrev pub WholeSlabIsThere : Type 0
+WholeSlabIsThere = (p : Placed) (var number : ℕ) → HasSlab p var number → slab_fault (vars_of p) var (whole_slab (var_at (vars_of p) var) number) ≡ None
+
+-- the bytes of its elements, one after the other, are those of the file from where it begins, as many as the slab has
+abbrev pub WholeSlabAdjoins : Type 0
+WholeSlabAdjoins = (p : Placed) (file : List ℕ) (var number : ℕ) → HasSlab p var number
+    → bytes_of_elements file (record_size_of_file p) (var_at (vars_of p) var) (indices_of (whole_slab (var_at (vars_of p) var) number))
+    ≡ bytes_at file (slab_begin (record_size_of_file p) (var_at (vars_of p) var) number) (var_at (vars_of p) var).extent.slab

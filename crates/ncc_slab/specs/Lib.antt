@@ -5,6 +5,8 @@ pub mod Axes
 pub mod Grids
 pub mod Places
 pub mod SlabParts
+pub mod SlabPlaces
+pub mod WholeSlabs
 pub mod Readers
 pub mod Answers
 pub mod Stretches

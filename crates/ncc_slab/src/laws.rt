@@ -5,7 +5,7 @@ ghost use Rattle.std.specs.List.{AllByRecursion};
 ghost use Rattle.ncc_layout.specs.Elements.{var_at};
 ghost use Rattle.ncc_layout.specs.Placed.{vars_of};
 ghost use Rattle.ncc_slab.specs.declared.slab.Slab.{Slab};
-ghost use Rattle.ncc_slab.specs.Laws.{CountIsProduct, RefusedUnlessItFits, SelectedIsInside, PartsJoin, WholePartIsSelected, OrderIsRowMajor, NumbersAreThere, SelectedIsWhole, SelectsAtMostAll, CountFits, SelectedIsInFile, PlacesAreCounted, PartHasPlaces, PlacesAddPart, PartHasNumbers, PartsGoOn, NoPartIsTheEnd, EndIsAllTaken, PartsAreSelected};
+ghost use Rattle.ncc_slab.specs.Laws.{CountIsProduct, RefusedUnlessItFits, SelectedIsInside, PartsJoin, WholePartIsSelected, OrderIsRowMajor, NumbersAreThere, SelectedIsWhole, SelectsAtMostAll, CountFits, SelectedIsInFile, PlacesAreCounted, PartHasPlaces, PlacesAddPart, PartHasNumbers, PartsGoOn, NoPartIsTheEnd, EndIsAllTaken, PartsAreSelected, WholeSlabIsThere, WholeSlabAdjoins};
 ghost use Rattle.ncc_slab.specs.Refusals.{slab_fault};
 ghost use Rattle.ncc_slab.specs.Selection.{selected_count};
 
@@ -109,6 +109,20 @@ pub fn end_is_all_taken()
 pub fn parts_are_selected()
     ensures { PartsAreSelected }
 {}
+
+/// The selection of a slab that is there isn't refused.
+pub fn whole_slab_is_there()
+    ensures { WholeSlabIsThere }
+{
+    placed_file_keeps_all_rules();
+}
+
+/// The elements of a slab lie one behind the other: their bytes are the slab's.
+pub fn whole_slab_adjoins()
+    ensures { WholeSlabAdjoins }
+{
+    placed_file_keeps_all_rules();
+}
 
 /// Numbers of the machine are numbers of 64 bits.
 fn numbers_fit(numbers: &[u64])

@@ -7,19 +7,23 @@ mod fetching;
 mod grid;
 mod gridding;
 pub mod laws;
+mod locating;
 mod parts;
 mod places;
 mod reader;
 mod reading;
 mod refusing;
 mod slab;
+mod whole_slab;
 
 pub use fault::SlabFault;
+pub use locating::slab_place;
 pub use parts::SlabParts;
 pub use places::Places;
 pub use reader::SlabReader;
 pub use reading::read_slab;
 pub use slab::Slab;
+pub use whole_slab::slab_of;
 
 #[cfg(test)]
 mod tests;

@@ -1,5 +1,5 @@
 //! Selections of files that are given by their bytes: values that were worked by hand, refusals, parts, calls of
-//! the store, stores that fail, and a sweep over selections of all kinds.
+//! the store, stores that fail, whole slabs, and a sweep over selections of all kinds.
 
 mod failing;
 mod helpers;
@@ -9,5 +9,6 @@ mod readers;
 mod records;
 mod refusals;
 mod rows;
+mod slabs;
 mod sweep;
 mod types;

@@ -1,7 +1,7 @@
 //! Selections where memory may be refused. scripts/refuse_test_memory.sh refuses one allocation after another.
 
 use super::helpers::*;
-use crate::{SlabFault, SlabReader, read_slab};
+use crate::{SlabFault, SlabReader, read_slab, slab_of};
 use ncc_check::NcFile;
 use ncc_store::MemStore;
 use ncc_values::{Seq, Values};
@@ -71,4 +71,16 @@ fn reads_parts_without_memory(rt: HostRuntime) {
             assert!(rt; values.is_empty());
         }
     }
+}
+
+#[test]
+fn selects_without_memory(rt: HostRuntime) {
+    let alloc = rt.alloc();
+    let Ok((file, _)) = last_row(alloc) else {
+        return;
+    };
+    if let Err(fault) = slab_of(alloc, &file, 0, 0) {
+        assert!(rt; fault == SlabFault::Memory);
+    }
+    assert!(rt; slab_of(alloc, &file, 1, 0) == Err(SlabFault::NoVariable));
 }
