@@ -1,3 +1,4 @@
+mod Anew
 mod Builders
 mod Lists
 mod NewItems

@@ -18,6 +18,7 @@ use Rattle.ncc_layout.specs.Plans.{PlanFails}
 use Rattle.ncc_build.specs.declared.fault.WriteFault.{WriteFault}
 use Rattle.ncc_build.specs.declared.fault.WriteFault.TheVariants.{BadName, DuplicateName, TwoRecordDims, BadDimId, RecordDimNotFirst, TypeForVersion, CountForVersion, OffsetForVersion, SizeForVersion, Memory}
 use Rattle.ncc_build.specs.Fill.{same}
+use Rattle.ncc_build.specs.Dataset.{with_version}
 
 -- ---- judging in an order
 
@@ -261,6 +262,46 @@ refuses_schema fits v s =
     (refuses_globals fits (record { version = v; count = Known 0; dims = s.dims; gatts = []; vars = [] }) s.gatts)
     (refuses_vars fits (record { version = v; count = Known 0; dims = s.dims; gatts = s.gatts; vars = [] }) s.vars))
 
+-- a variable and its attributes
+abbrev pub refuses_whole : (fits : List ℕ → Bool) → Schema → Var → Option WriteFault
+refuses_whole fits s x =
+    or_else (refuses_var (fits x.name) s x.name x.xtype x.dims)
+    (refuses_attrs fits (with_var s x.name x.xtype x.dims) (length s.vars) x.attrs)
+
+-- the schema with all these dimensions more
+abbrev pub with_dims : Schema → List Dim → Schema
+with_dims s dims = record {
+  version = s.version;
+  count = s.count;
+  dims = s.dims ++ dims;
+  gatts = s.gatts;
+  vars = s.vars;
+}
+
+abbrev pub with_globals : Schema → List Attr → Schema
+with_globals s attrs = record {
+  version = s.version;
+  count = s.count;
+  dims = s.dims;
+  gatts = s.gatts ++ attrs;
+  vars = s.vars;
+}
+
+-- with these attributes of a variable more
+abbrev pub with_attrs : Schema → (var : ℕ) → List Attr → Schema
+with_attrs s n [] = s
+with_attrs s n (a ∷ attrs) = with_attrs (with_attr s n a.name a.values) n attrs
+
+-- with these variables, and their attributes, more
+abbrev pub with_vars : Schema → List Var → Schema
+with_vars s vars = record {
+  version = s.version;
+  count = s.count;
+  dims = s.dims;
+  gatts = s.gatts;
+  vars = s.vars ++ vars;
+}
+
 -- ---- answers of a call
 
 -- refused exactly so, unless memory was refused
@@ -273,3 +314,12 @@ IsJudged (Some f) (Err e) = (e ≡ f) ⊎ (e ≡ Memory)
 -- the same of a schema's build, which a builder refuses
 abbrev pub BuildFailsOr : Schema → (records : ℕ) → WriteFault → Type 0
 BuildFailsOr s records e = (e ≡ Memory) ⊎ BuildFails s records e
+
+-- a schema is built anew in the version, with so many records: a refused call is the first that is, and the build is
+-- refused only where no call was
+abbrev pub RebuildsAs : {T : Type 0} → (fits : List ℕ → Bool) → Version → Schema → (records : ℕ)
+    → Result T WriteFault → Type 0
+RebuildsAs fits v s n (Ok b) = refuses_schema fits v s ≡ None
+RebuildsAs fits v s n (Err e) =
+    (e ≡ Memory) ⊎ ((refuses_schema fits v s ≡ Some e)
+    ⊎ ((refuses_schema fits v s ≡ None) × BuildFails (with_version s v) n e))

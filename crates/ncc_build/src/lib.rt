@@ -9,6 +9,7 @@ mod judging;
 pub mod laws;
 mod names;
 mod ranges;
+mod rebuilding;
 #[cfg(test)]
 mod tests;
 
@@ -16,3 +17,4 @@ pub use builder::SchemaBuilder;
 pub use built::Built;
 pub use fault::WriteFault;
 pub use ranges::values_in_range;
+pub use rebuilding::rebuilt;

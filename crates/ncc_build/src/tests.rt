@@ -6,4 +6,5 @@ mod many;
 mod memory;
 mod names;
 mod plans;
+mod rebuilt;
 mod steps;

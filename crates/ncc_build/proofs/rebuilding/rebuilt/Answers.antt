@@ -1,0 +1,14 @@
+use Rattle.std.proofs.Common.{ap}
+use Rattle.ncc_schema.specs.declared.schema.Schema.{Schema}
+use Rattle.ncc_build.specs.declared.built.Built.{Built}
+use Rattle.ncc_build.specs.Building.{refuses_schema}
+use Rattle.ncc_build.proofs.Refusals.{none_refused}
+use Rattle.ncc_build.proofs.Anew.{refused_last}
+use Rattle.ncc_build.proofs.rebuilding.rebuilt.Goals as goal
+
+pub returns-clause-judged : goal.returns-clause-judged
+returns-clause-judged c = λ fits told.
+    let version = c.new-builder.result.schema.version in
+    let none = none_refused (refuses_schema fits version c.args.schema.now) _ (c.in_ok-add_all.ensures.judged fits told) in
+    refused_last Built fits c.args.version version c.args.schema.now c.add_all.new.builder.schema c.args.records c.in-Err.fault
+    (ap (λ (s : Schema). s.version) c.new-builder.ensures) none c.in_ok-add_all.ensures.added c.in-Err.ensures.refused.1
