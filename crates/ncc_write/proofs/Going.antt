@@ -162,3 +162,15 @@ missing_is start put waits there missing bytes e h = (h.0, h.1, ap (λ (l : List
 -- so many fill values of a turn are those of its variable
 pub fills_are : (s : Schema) (b : Slab) (t : Turn) (n : ℕ) → t ≡ turn_for s b → concat (replicate n (turn_fill t)) ≡ fills n b.var
 fills_are s b t n is = ap (λ (u : Turn). concat (replicate n (turn_fill u))) is ∙ ap (λ (f : List ℕ). concat (replicate n f)) (fill_of_turn s b)
+
+-- where these elements were not all put, what went out begins each file whose values begin so
+pub given_stops : (s : Schema) (c : Course) (taken : List ℕ) (k left : ℕ) (bytes : List ℕ) (count : ℕ) → IsCourse s c
+    → IsAt s (length taken) k left → IsWhole s taken → k < c.slabs
+    → length bytes ≡ count * size_of (slab_at s k).var.xtype → count ≤ left
+    → (start old new : Option (List ℕ)) (waits waiting : List ℕ) (e : Failed) → Holds start old waits (written s taken)
+    → Streams old new waits waiting bytes (Err e) → Went start new (IsFrontOfFiles s (taken ++ bytes))
+given_stops s c taken k left bytes count planned at whole there long room start old new waits waiting e holds streams =
+    let t = taking s c taken k left bytes count planned at whole there long room in
+    let rest = grown_front s (record { slab = slab_at s k; left = left }) (written s taken) bytes count in
+    front_in_files s start new (taken ++ bytes) (written s taken ++ bytes) rest.0 (t.grows.written_is ∙ rest.1)
+    (front_went start old new waits waiting (written s taken) bytes e holds streams)

@@ -33,6 +33,7 @@ mod NoNotes
 mod Passing
 mod Completing
 mod Behind
+mod Facing
 mod Filling
 mod Pages
 mod RecordParts
@@ -46,3 +47,8 @@ mod FoundSlabs
 mod FoundDatasets
 mod FoundValues
 mod OpenedDatasets
+pub mod SlabsAt
+pub mod NextSlabs
+pub mod NextPieces
+pub mod FileSlabs
+pub mod TakenIn

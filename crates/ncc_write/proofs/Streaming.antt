@@ -45,26 +45,40 @@ stream_fails_at Q old new waits waiting other a b r e exit s =
     let p = err_from_is_err_and r exit in
     subst (λ (q : Result (Unit {0}) Failed). Streams old new waits other (a ++ b) q) (sym p.1) (stream_fails old new waits waiting other a b p.0 s)
 
+-- ---- bytes, piece after piece
+
+pub next_bytes : (old mid new : Option (List ℕ)) (waits between waiting bytes : List ℕ) (m n : ℕ)
+    → Streams old mid waits between (take m bytes) (Ok tt) → Streams mid new between waiting (take n (drop m bytes)) (Ok tt)
+    → Streams old new waits waiting (take (m + n) bytes) (Ok tt)
+next_bytes old mid new waits between waiting bytes m n one two =
+    subst (λ (l : List ℕ). Streams old new waits waiting l (Ok tt)) (sym (take-add m n bytes))
+    (streams_both old mid new waits between waiting _ _ (Ok tt) one two)
+
+pub bytes_fail_at : (Q : Failed → Type 0) (old mid new : Option (List ℕ)) (waits between waiting bytes : List ℕ)
+    (m n : ℕ) (r : Result (Unit {0}) Failed) (e : Failed) → IsErrAnd r Q
+    → Streams old mid waits between (take m bytes) (Ok tt) → Streams mid new between waiting (take n (drop m bytes)) (Err e)
+    → Streams old new waits waiting bytes r
+bytes_fail_at Q old mid new waits between waiting bytes m n r e exit one two =
+    let p = err_from_is_err_and r exit in
+    let first = streams_both old mid new waits between waiting _ _ (Err e) one two in
+    let joined = subst (λ (l : List ℕ). Streams old new waits waiting l (Err e)) (sym (take-add m n bytes)) first in
+    let all = stream_fails old new waits waiting waiting (take (m + n) bytes) (drop (m + n) bytes) e joined in
+    subst (λ (q : Result (Unit {0}) Failed). Streams old new waits waiting bytes q) (sym p.1)
+    (subst (λ (l : List ℕ). Streams old new waits waiting l (Err p.0)) (take-append-drop (m + n) bytes) all)
+
 -- ---- values, part after part
 
 -- the first m values went, and behind them n more
-parts_join : (bytes : List ℕ) (m n size : ℕ) → take (m * size) bytes ++ take (n * size) (drop (m * size) bytes) ≡ take ((m + n) * size) bytes
-parts_join bytes m n size = sym (take-add (m * size) (n * size) bytes) ∙ ap (λ (k : ℕ). take k bytes) (sym (add-mul m n size))
-
 pub next_part : (old mid new : Option (List ℕ)) (waits between waiting bytes : List ℕ) (m n size : ℕ) → Streams old mid waits between (take (m * size) bytes) (Ok tt)
     → Streams mid new between waiting (take (n * size) (drop (m * size) bytes)) (Ok tt) → Streams old new waits waiting (take ((m + n) * size) bytes) (Ok tt)
 next_part old mid new waits between waiting bytes m n size one two =
-    subst (λ (l : List ℕ). Streams old new waits waiting l (Ok tt)) (parts_join bytes m n size) (streams_both old mid new waits between waiting _ _ (Ok tt) one two)
+    subst (λ (k : ℕ). Streams old new waits waiting (take k bytes) (Ok tt)) (sym (add-mul m n size))
+    (next_bytes old mid new waits between waiting bytes (m * size) (n * size) one two)
 
 pub part_fails_at : (Q : Failed → Type 0) (old mid new : Option (List ℕ)) (waits between waiting bytes : List ℕ) (m n size : ℕ) (r : Result (Unit {0}) Failed) (e : Failed) → IsErrAnd r Q
     → Streams old mid waits between (take (m * size) bytes) (Ok tt) → Streams mid new between waiting (take (n * size) (drop (m * size) bytes)) (Err e) → Streams old new waits waiting bytes r
 part_fails_at Q old mid new waits between waiting bytes m n size r e exit one two =
-    let p = err_from_is_err_and r exit in
-    let first = streams_both old mid new waits between waiting _ _ (Err e) one two in
-    let joined = subst (λ (l : List ℕ). Streams old new waits waiting l (Err e)) (parts_join bytes m n size) first in
-    let all = stream_fails old new waits waiting waiting (take ((m + n) * size) bytes) (drop ((m + n) * size) bytes) e joined in
-    subst (λ (q : Result (Unit {0}) Failed). Streams old new waits waiting bytes q) (sym p.1)
-    (subst (λ (l : List ℕ). Streams old new waits waiting l (Err p.0)) (take-append-drop ((m + n) * size) bytes) all)
+    bytes_fail_at Q old mid new waits between waiting bytes (m * size) (n * size) r e exit one two
 
 pub all_parts : (old new : Option (List ℕ)) (waits waiting bytes : List ℕ) (n count size : ℕ) → count ≤ n → length bytes ≡ count * size → Streams old new waits waiting (take (n * size) bytes) (Ok tt)
     → Streams old new waits waiting bytes (Ok tt)

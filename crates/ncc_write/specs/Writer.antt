@@ -1,13 +1,15 @@
 -- What a writer's fields say of where it stands.
-use Rattle.std.specs.Prelude.{◌≡◌, ℕ, ◌+◌, ◌<◌, false, List, ◌++◌, Option, length, Result, Ok, Err}
+use Rattle.std.specs.Prelude.{◌≡◌, ℕ, ◌+◌, ◌-◌, ◌*◌, ◌<◌, ltb, if◌then◌else◌, false, List, ◌++◌, Option, length, Result, Ok, Err}
 use Rattle.ncc_values.specs.Numbers.{IsBytes}
+use Rattle.ncc_values.specs.XType.{size_of}
 use Rattle.ncc_schema.specs.declared.failed.Failed.{Failed}
 use Rattle.ncc_schema.specs.declared.schema.Schema.{Schema}
 use Rattle.ncc_build.specs.Builds.{schema_of}
+use Rattle.ncc_build.specs.Dataset.{slabs_of}
 use Rattle.ncc_build.specs.File.{header_of}
 use Rattle.ncc_write.specs.declared.writer.FileWriter.{FileWriter}
 use Rattle.ncc_write.specs.Outlet.{Paged, sink_of, waiting}
-use Rattle.ncc_write.specs.Positions.{IsAt, end_of}
+use Rattle.ncc_write.specs.Positions.{IsAt, end_of, slab_at}
 use Rattle.ncc_write.specs.Writing.{Standing, Went, IsOut, IsFrontOfFiles, IsWhole, written}
 
 abbrev pub sink_in : {W : Type 0} → FileWriter W → W
@@ -56,3 +58,27 @@ pub record Ends {W : Type 0} (missing : List ℕ) (start put : Option (List ℕ)
   pub whole : IsWhole w.schema w.taken
   pub out : Went start put (λ out. out ++ waiting x.outlet ++ missing ≡ written w.schema w.taken)
   pub pages : (given : ℕ) → given + length missing ≡ length (written w.schema w.taken) → PagesAreOut x w.schema given
+
+-- so many elements of the slab that stand behind those that were taken: these bytes of theirs are put
+pub record Gives {W : Type 0} (bytes : List ℕ) (count : ℕ) (start put : Option (List ℕ)) (x : FileWriter W)
+    (w : Standing) : Type 0 where
+  pub schema : schema_in x ≡ w.schema
+  pub failed : x.failed ≡ false
+  pub stands : w.failed ≡ false
+  pub taken : IsBytes w.taken
+  pub bytes_are : IsBytes bytes
+  pub long : length bytes ≡ count * size_of (slab_at w.schema x.slab).var.xtype
+  pub at : IsAt w.schema (length w.taken) x.slab x.left
+  pub whole : IsWhole w.schema w.taken
+  pub out : Went start put (λ out. out ++ waiting x.outlet ≡ written w.schema w.taken ++ bytes)
+  pub pages : PagesAreOut x w.schema (length (written w.schema w.taken) + length bytes)
+
+-- ---- how far it is
+
+-- how many bytes of values were taken where so many elements of the slab are left
+abbrev pub taken_at : Schema → (number left : ℕ) → ℕ
+taken_at s k left =
+    if ltb k (length (slabs_of s)) then end_of s (k + 1) - left * size_of (slab_at s k).var.xtype else end_of s k
+
+abbrev pub taken_in : {W : Type 0} → FileWriter W → ℕ
+taken_in x = taken_at (schema_in x) x.slab x.left

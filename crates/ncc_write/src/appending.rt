@@ -2,7 +2,8 @@
 
 ghost use Rattle.std.specs.Prelude.{◌≡◌, ◌≢◌, ◌+◌, ◌≤◌, true, false, IsTrue, IfErr, IfOk, OnOk, OnErr};
 ghost use Rattle.ncc_store.specs.Store.{LeavesOnly, Only};
-ghost use Rattle.ncc_check.specs.Appending.{CountsDevice, HasRecord, HasRecordOrNot, with_record};
+ghost use Rattle.ncc_layout.specs.Placed.{file_length_of};
+ghost use Rattle.ncc_check.specs.Appending.{CountsDevice, HasRecord, HasRecordOrNot, next_record_at, with_record};
 ghost use Rattle.ncc_check.specs.declared.append_error.AppendError.TheVariants as AppendError;
 ghost use Rattle.ncc_check.specs.Files.{store_of, schema_of, placed_of, must_reopen};
 ghost use Rattle.ncc_write.specs.Appends.{AppendsAs, RefusesImage};
@@ -67,6 +68,8 @@ pub fn append<S: Store>(
         (bytes_of_record (schema_of file.old) slabs.now)) }
     ensures count { CountsDevice (S.failures (store_of file.old)) (S.failures (store_of file.new)) result }
     ensures calls { S.calls (store_of file.new) ≤ S.calls (store_of file.old) + 5 }
+    ensures calls_whole { next_record_at (placed_of file.old) ≤ file_length_of (placed_of file.old)
+        → S.calls (store_of file.new) ≤ S.calls (store_of file.old) + 4 }
     ensures reach { S.reach (store_of file.new) ≤ S.reach (store_of file.old) }
 {
     open_file_has_sizes(file);

@@ -72,6 +72,7 @@ pub fn extend<S: Store>(alloc: Global, file: &mut NcFile<S>, more: u64) -> Resul
         → ∥ HoldsSome (S.bytes (store_of file.new)) limit places d more ∥₁ }
     ensures durable { Only (S.bytes (store_of file.old)) (S.images (store_of file.old))
         → OnOk result (Only (S.bytes (store_of file.new)) (S.images (store_of file.new))) }
+    ensures settled { 0 < more → OnOk result (Only (S.bytes (store_of file.new)) (S.images (store_of file.new))) }
     ensures any_moment { IsTrue S.tells_bytes → Only (S.bytes (store_of file.old)) (S.images (store_of file.old))
         → (limit : ℕ) (places : List Place) (d : Dataset)
         → Contains (S.bytes (store_of file.old)) limit places d (schema_of file.old) (placed_of file.old)

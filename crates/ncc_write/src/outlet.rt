@@ -7,7 +7,7 @@ ghost use Rattle.ncc_values.specs.Values.{bytes_of, count_of, type_of};
 ghost use Rattle.ncc_values.specs.XType.{size_of};
 ghost use Rattle.ncc_write.specs.Streams.{Streams};
 
-use crate::putting::{fill_at, put_at};
+use crate::putting::{copy_at, fill_at, put_at};
 use ncc_schema::{Failed, Sink, write_all};
 use ncc_values::Values;
 
@@ -107,6 +107,37 @@ impl<W: Sink> Outlet<W> {
             let count = self.room_for(size).min(values.len() - done);
             self.put_some(values, done, count)?;
             done += count;
+        }
+        Ok(())
+    }
+
+    /// Puts bytes behind what waits, which end at most where the page does.
+    fn put_piece(&mut self, piece: &[u8]) -> Result<(), Failed>
+        requires { self.old.filled + length piece.now ≤ self.old.full }
+        ensures streams { Streams (W.put (sink_of self.old)) (W.put (sink_of self.new))
+            (waiting self.old) (waiting self.new) piece.now result }
+        ensures pages { (first n : ℕ) → Paged first n self.old
+            → OnOk result (Paged first (n + length piece.now) self.new) }
+        ensures count { Counts (W.failures (sink_of self.old)) (W.failures (sink_of self.new)) result }
+    {
+        let end = self.filled + piece.len();
+        copy_at(&mut self.buffer, self.filled, piece);
+        self.hold(end)
+    }
+
+    /// Puts all of these bytes behind what waits.
+    pub(crate) fn put_bytes(&mut self, bytes: &[u8]) -> Result<(), Failed>
+        ensures streams { Streams (W.put (sink_of self.old)) (W.put (sink_of self.new))
+            (waiting self.old) (waiting self.new) bytes.now result }
+        ensures pages { (first n : ℕ) → Paged first n self.old
+            → OnOk result (Paged first (n + length bytes.now) self.new) }
+        ensures count { Counts (W.failures (sink_of self.old)) (W.failures (sink_of self.new)) result }
+    {
+        let mut done = 0;
+        while done < bytes.len() {
+            let more = (self.full - self.filled).min(bytes.len() - done);
+            self.put_piece(&bytes[done..done + more])?;
+            done += more;
         }
         Ok(())
     }

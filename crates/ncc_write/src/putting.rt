@@ -1,11 +1,12 @@
 //! Bytes of values put into a buffer.
 
-ghost use Rattle.std.specs.Prelude.{◌≡◌, ◌+◌, ◌*◌, ◌<◌, ◌≤◌, ◌++◌, length, take, drop, replicate};
+ghost use Rattle.std.specs.Prelude.{◌≡◌, ◌+◌, ◌*◌, ◌%◌, ◌<◌, ◌≤◌, ◌++◌, length, take, drop, replicate};
 ghost use Rattle.std.specs.List.{concat};
+ghost use Rattle.ncc_values.specs.Numbers.{IsBytes};
 ghost use Rattle.ncc_values.specs.Values.{bytes_of, count_of, type_of};
 ghost use Rattle.ncc_values.specs.XType.{size_of};
 
-use ncc_values::Values;
+use ncc_values::{Values, XType};
 
 /// Puts `count` values from `first` on into the buffer, from a place on, and tells where they end.
 pub(crate) fn put_at(
@@ -28,12 +29,12 @@ pub(crate) fn put_at(
 }
 
 /// Puts bytes into the buffer, from a place on.
-fn put_fill(buffer: &mut [u8], place: usize, fill: &[u8])
-    requires { place + length fill.now ≤ length buffer.old }
-    ensures bytes { take (place + length fill.now) buffer.new ≡ take place buffer.old ++ fill.now }
+pub(crate) fn copy_at(buffer: &mut [u8], place: usize, bytes: &[u8])
+    requires { place + length bytes.now ≤ length buffer.old }
+    ensures bytes { take (place + length bytes.now) buffer.new ≡ take place buffer.old ++ bytes.now }
     ensures room { length buffer.new ≡ length buffer.old }
 {
-    buffer[place..place + fill.len()].copy_from_slice(fill);
+    buffer[place..place + bytes.len()].copy_from_slice(bytes);
 }
 
 /// Puts the bytes of a fill value into the buffer `count` times, from a place on, and tells where they end.
@@ -44,7 +45,24 @@ pub(crate) fn fill_at(buffer: &mut [u8], place: usize, fill: &[u8], count: usize
     ensures room { length buffer.new ≡ length buffer.old }
 {
     for done in 0..count {
-        put_fill(buffer, place + done * fill.len(), fill);
+        copy_at(buffer, place + done * fill.len(), fill);
     }
     place + count * fill.len()
+}
+
+/// How many elements of the type these bytes are.
+pub(crate) fn elements_in(xtype: XType, bytes: &[u8]) -> u64
+    requires { length bytes.now % size_of xtype ≡ 0 }
+    ensures { length bytes.now ≡ result * size_of xtype }
+{
+    (bytes.len() / xtype.size()) as u64
+}
+
+/// Says of each of these that it is a byte.
+pub(crate) fn are_bytes(bytes: &[u8])
+    ensures { IsBytes bytes.now }
+{
+    for byte in bytes {
+        let _value = *byte;
+    }
 }

@@ -8,11 +8,12 @@ ghost use Rattle.ncc_write.specs.Turns.{IsCourse};
 use crate::course::Course;
 use crate::laws::taking_all_completes;
 use crate::outlet::Outlet;
+use crate::putting::{are_bytes, elements_in};
 use crate::starting::{Parts, prepared};
 use ncc_build::laws::built_is_writable;
 use ncc_build::{Built, WriteFault};
 use ncc_schema::{Failed, Sink, write_all};
-use ncc_values::Values;
+use ncc_values::{Values, XType};
 use std::alloc::Global;
 
 /// A netCDF file that is being written. Its values are put slab by slab: the fixed variables as in the header, and
@@ -33,17 +34,19 @@ pub struct FileWriter<W> {
 }
 
 impl<W: Sink> FileWriter<W> {
-    ghost use Rattle.std.specs.Prelude.{ℕ, ◌+◌, List, Option, None, IfOk, IfErr, IsOk, OnOk};
+    ghost use Rattle.std.specs.Prelude.{ℕ, ◌+◌, ◌*◌, ◌%◌, List, length, Option, None, IfOk, IfErr, IsOk, OnOk};
     ghost use Rattle.ncc_build.specs.declared.fault.WriteFault.TheVariants.{Device, Memory};
     ghost use Rattle.ncc_build.specs.Fill.{fills};
     ghost use Rattle.ncc_values.specs.Failures.{Counts};
-    ghost use Rattle.ncc_values.specs.Values.{count_of, type_of};
+    ghost use Rattle.ncc_values.specs.Numbers.{IsBytes};
+    ghost use Rattle.ncc_values.specs.Values.{count_of, type_of, values_of};
+    ghost use Rattle.ncc_values.specs.XType.{size_of};
     ghost use Rattle.ncc_build.specs.File.{header_of, padding_bytes};
     ghost use Rattle.ncc_schema.specs.Device.{Puts};
     ghost use Rattle.ncc_write.specs.Laws.{IsCompleted};
     ghost use Rattle.ncc_write.specs.Positions.{slab_at};
     ghost use Rattle.ncc_write.specs.Turns.{turn_at};
-    ghost use Rattle.ncc_write.specs.Writer.{sink_in, Stands, StandsOrStops, Ends};
+    ghost use Rattle.ncc_write.specs.Writer.{sink_in, Stands, StandsOrStops, Ends, Gives};
     ghost use Rattle.ncc_write.specs.Writing.{Standing, Went, next_of, starting, StartFails, expected, refuses_put, refuses_fill, refuses_finish, with_values, with_more, with_fills, IsAnswer, IsExactly, StandsAfter, CountsFailure};
 
     /// Puts out the header, and makes the buffer. After `Memory` nothing went out, after `Device` a beginning of the
@@ -132,6 +135,22 @@ impl<W: Sink> FileWriter<W> {
         self.open_slab()
     }
 
+    /// Goes on behind so many elements of the slab, whose bytes were put behind what waits.
+    fn go_on(&mut self, count: u64) -> Result<(), Failed>
+        requires there { self.old.slab < self.old.course.slabs }
+        requires room { count ≤ self.old.left }
+        ensures goes { (start : Option (List ℕ)) (w : Standing) (bytes : List ℕ)
+            → Gives bytes count start (W.put (sink_in self.old)) self.old w
+            → StandsOrStops start (W.put (sink_in self.new)) self.new (with_more w bytes) result }
+        ensures count { Counts (W.failures (sink_in self.old)) (W.failures (sink_in self.new)) result }
+    {
+        if count < self.left {
+            self.left -= count;
+            return Ok(());
+        }
+        self.close_slab()
+    }
+
     /// Takes values that fit in the slab.
     fn take(&mut self, values: &Values) -> Result<(), Failed>
         requires there { self.old.slab < self.old.course.slabs }
@@ -143,12 +162,22 @@ impl<W: Sink> FileWriter<W> {
         ensures count { Counts (W.failures (sink_in self.old)) (W.failures (sink_in self.new)) result }
     {
         self.outlet.put_values(values)?;
-        let count = values.len() as u64;
-        if count < self.left {
-            self.left -= count;
-            return Ok(());
-        }
-        self.close_slab()
+        self.go_on(values.len() as u64)
+    }
+
+    /// Takes the bytes of so many values that fit in the slab.
+    fn take_bytes(&mut self, count: u64, bytes: &[u8]) -> Result<(), Failed>
+        requires there { self.old.slab < self.old.course.slabs }
+        requires room { count ≤ self.old.left }
+        requires whole { length bytes.now ≡ count * size_of (turn_at self.old.course self.old.slab).xtype }
+        requires bytes { IsBytes bytes.now }
+        ensures takes { (start : Option (List ℕ)) (w : Standing) → Stands start (W.put (sink_in self.old)) self.old w
+            → w.failed ≡ false
+            → StandsOrStops start (W.put (sink_in self.new)) self.new (with_more w bytes.now) result }
+        ensures count { Counts (W.failures (sink_in self.old)) (W.failures (sink_in self.new)) result }
+    {
+        self.outlet.put_bytes(bytes)?;
+        self.go_on(count)
     }
 
     /// Takes the next values, any number up to what is left of the slab. Refused values change nothing. After a
@@ -175,6 +204,41 @@ impl<W: Sink> FileWriter<W> {
             return Err(WriteFault::TooManyValues);
         }
         match self.take(values) {
+            Ok(()) => Ok(()),
+            Err(_) => {
+                self.failed = true;
+                Err(WriteFault::Device)
+            }
+        }
+    }
+
+    /// Takes the next values by their bytes, as `put` takes the values: as they stand in a file, one behind the other,
+    /// each with its most significant byte first. A copy of a slab needs no values in between.
+    pub fn put_bytes(&mut self, xtype: XType, bytes: &[u8]) -> Result<(), WriteFault>
+        requires whole { length bytes.now % size_of xtype ≡ 0 }
+        ensures answer { (start : Option (List ℕ)) (w : Standing) → Stands start (W.put (sink_in self.old)) self.old w
+            → IsAnswer (λ e. e) (refuses_put w (values_of xtype bytes.now)) result }
+        ensures stands { (start : Option (List ℕ)) (w : Standing) → Stands start (W.put (sink_in self.old)) self.old w
+            → (new : Standing) × Stands start (W.put (sink_in self.new)) self.new new
+            × StandsAfter w (with_values w (values_of xtype bytes.now)) new result }
+        ensures unchanged { IfErr result (λ e. (e ≡ Device → ⊥) → self.new ≡ self.old) }
+        ensures count { CountsFailure (W.failures (sink_in self.old)) (W.failures (sink_in self.new)) result }
+    {
+        if self.failed {
+            return Err(WriteFault::Failed);
+        }
+        if self.slab == self.course.slabs() {
+            return Err(WriteFault::Complete);
+        }
+        if xtype != self.course.turn(self.slab).0.xtype {
+            return Err(WriteFault::WrongType);
+        }
+        let count = elements_in(xtype, bytes);
+        if count > self.left {
+            return Err(WriteFault::TooManyValues);
+        }
+        are_bytes(bytes);
+        match self.take_bytes(count, bytes) {
             Ok(()) => Ok(()),
             Err(_) => {
                 self.failed = true;

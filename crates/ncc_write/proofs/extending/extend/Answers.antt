@@ -99,6 +99,7 @@ loop-done-init g c =
           } in
           held_first laws _ limit places d _ _ start;
       only = λ only. only;
+      settled = λ some. absurd (omega (arith, some));
       moments = λ told only limit places d start.
           let laws : Laws = record {
             grows = c.append_holds.ensures.grows;
@@ -273,6 +274,7 @@ loop-done-preserved g c =
           (one_fill laws _ limit places d s p start k _ t q at.has (at.holds told limit places d start) takes.1
           c.as_slice.result.now image u r long c.in_ok-add_one.ensures.added.0);
       only = λ only. c.in_ok-add_one.ensures.durable;
+      settled = λ some. c.in_ok-add_one.ensures.durable;
       moments = λ told only limit places d start.
           let laws : Laws = record {
             grows = c.append_holds.ensures.grows;

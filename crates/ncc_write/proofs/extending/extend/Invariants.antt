@@ -1,4 +1,4 @@
-use Rattle.std.proofs.Common.{◌≡◌, ◌≤◌, ◌+◌, ◌*◌, ℕ, List, false, IsTrue}
+use Rattle.std.proofs.Common.{◌≡◌, ◌<◌, ◌≤◌, ◌+◌, ◌*◌, ℕ, List, false, IsTrue}
 use Rattle.ncc_schema.specs.Schema.{Place}
 use Rattle.ncc_store.specs.Store.{LeavesOnly, Only}
 use Rattle.ncc_check.specs.Files.{store_of, schema_of, placed_of, must_reopen}
@@ -25,6 +25,7 @@ invariant-loop-done g l = record {
       → Contains (g.S.Store.bytes (store_of l.file)) limit places (with_fills d l._done) (schema_of l.file) (placed_of l.file);
   only : Only (g.S.Store.bytes (store_of l.fn.file)) (g.S.Store.images (store_of l.fn.file))
       → Only (g.S.Store.bytes (store_of l.file)) (g.S.Store.images (store_of l.file));
+  settled : 0 < l._done → Only (g.S.Store.bytes (store_of l.file)) (g.S.Store.images (store_of l.file));
   moments : IsTrue g.S.Store.tells_bytes
       → Only (g.S.Store.bytes (store_of l.fn.file)) (g.S.Store.images (store_of l.fn.file))
       → (limit : ℕ) (places : List Place) (d : Dataset)

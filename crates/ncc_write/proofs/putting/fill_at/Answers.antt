@@ -6,6 +6,6 @@ pub loop-done-preserved : goal.loop-done-preserved
 loop-done-preserved c =
     let at = c.loop-done.invariant in
     record {
-      bytes = next_fill c.args.place c.loop-done.done c.args.fill.now c.args.buffer.now c.loop-done.buffer c.put_fill.new.buffer at.bytes c.put_fill.ensures.bytes;
-      room = c.put_fill.ensures.room ∙ at.room;
+      bytes = next_fill c.args.place c.loop-done.done c.args.fill.now c.args.buffer.now c.loop-done.buffer c.copy_at.new.buffer at.bytes c.copy_at.ensures.bytes;
+      room = c.copy_at.ensures.room ∙ at.room;
     }
