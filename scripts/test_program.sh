@@ -150,6 +150,8 @@ for file in ocean.nc bad_magic_1.nc; do
   count "check $file, full output" "3 error device" "$? $(cat err)"
   "$ncc" csv "$file" time > /dev/full 2> err
   count "csv $file, full output" "3 error device" "$? $(cat err)"
+  "$ncc" extend "$file" 0 > /dev/full 2> err
+  count "extend $file, full output" "3 error device" "$? $(cat err)"
 done
 "$ncc" list --help > /dev/full 2> err
 count "help, full output" "3 error device" "$? $(cat err)"
@@ -200,7 +202,11 @@ count "its padding and record" "00008181818180018001 140" "$(bytes_from two.nc 1
 expect "extend by none without record variables" 0 "records 0" "" extend tiny.nc 0
 expect "extend without record variables" 1 "refused NoRecordVariable" "" extend tiny.nc 1
 expect "extend of a fault" 1 "fault Truncated at 60" "" extend bad_truncated_1.nc 0
+expect "extend of a fault by one" 1 "fault Truncated at 60" "" extend bad_truncated_1.nc 1
 expect "no such file to extend" 3 "" "error device" extend not_there.nc 1
+# A file of the system that nobody may write: with none to add it is opened for reading.
+expect "a file that may not be written, by none" 1 "fault EndsEarly at 0" "" extend /proc/sys/kernel/osrelease 0
+expect "a file that may not be written, by one" 3 "" "error device" extend /proc/sys/kernel/osrelease 1
 expect_first "extend by no number" 2 "" "error: invalid value 'x' for '<N>': invalid digit found in string" extend two.nc x
 expect_first "extend by what" 2 "" "error: the following required arguments were not provided:" extend two.nc
 expect_first "help of extend" 0 "Adds records of fill values to a file" "" extend --help

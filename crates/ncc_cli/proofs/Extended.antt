@@ -1,6 +1,7 @@
 -- What `extend` sent is the line of its answer, or a front of it.
 use Rattle.std.proofs.Common.{◌≡◌, ◌≢◌, ◌⊎◌, inl, inr, ℕ, zero, suc, ◌+◌, Bool, IsTrue, add-one, List, [], ◌++◌, Option, Some, None, Result, Ok, Err, refl, sym, ap, subst, ◌∙◌, arith, false}
-use Rattle.std.specs.Prelude.{OnOk}
+use Rattle.std.specs.Prelude.{OnOk, IfErr}
+use Rattle.std.proofs.Math.Logic.{∥∥₁_map}
 use Rattle.std.proofs.lemmas.List.{append-nil}
 use Rattle.ncc_schema.specs.Device.{Puts}
 use Rattle.ncc_schema.specs.declared.schema.Count.TheVariants.{Known}
@@ -23,13 +24,13 @@ use Rattle.ncc_schema.specs.Schema.{Place}
 use Rattle.ncc_layout.specs.Plans.{IsKnown}
 use Rattle.ncc_build.specs.Dataset.{Dataset, IsDataset}
 use Rattle.ncc_write.specs.Additions.{HoldsAll}
-use Rattle.ncc_write.specs.Extends.{ExtendsAs, HoldsSome, IsFullFor, LeavesFills}
-use Rattle.ncc_write.proofs.MoreRecords.{full_now}
+use Rattle.ncc_write.specs.Extends.{ExtendsAs, HoldsSome, IsFullFor, LeavesFills, filled_bytes}
+use Rattle.ncc_write.proofs.MoreRecords.{as_first, full_now}
 use Rattle.ncc_write.specs.Records.{followed_by}
 use Rattle.ncc_cli.specs.declared.answer.Answer.{Answer}
 use Rattle.ncc_cli.specs.declared.answer.Answer.TheVariants.{Passed, Refused, Device, Memory}
 use Rattle.ncc_cli.specs.Answers.{Texts, answer_of}
-use Rattle.ncc_cli.specs.Extending.{ExtendsInto, IsExtendText, IsFilledUp, IsFrontOfText, Tells, TellsText}
+use Rattle.ncc_cli.specs.Extending.{ExtendsInto, IsExtendText, IsFilledSome, IsFilledUp, IsFrontOfText, Tells, TellsText}
 
 -- these went out
 abbrev pub Told : Result (Unit {0}) AppendError → (records : ℕ) → (old new : Option (List ℕ)) → Answer → Type 0
@@ -175,3 +176,57 @@ pub refused_for : (result : Result (Unit {0}) AppendError) (records : ℕ) (old 
     → Told result records old new Refused → (e : AppendError) × (result ≡ Err e) × (e ≢ errors.Device)
 refused_for (Ok x) records old new told = absurd told.2
 refused_for (Err e) records old new told = (e, refl, told.2.0)
+
+-- ---- whatever the answer
+
+-- nothing was written, or some of the records stand
+pub some_filled : (old : List ℕ) (limit : ℕ) (s : Schema) (p : Placed) → Opens old limit s p → (n : ℕ)
+    → (result : Result (Unit {0}) AppendError) → ExtendsAs false s p n result
+    → (t : Schema) (q : Placed) (told : Bool) (new : List ℕ) → IsTrue told
+    → OnOk result (new ≡ filled_bytes old s p n) → IfErr result (λ e. ∥ LeavesFills old s p t q told n e new ∥₁)
+    → (U : Type 0) → (n ≡ 0 → U) → IfErr result (λ e. e ≢ errors.Device → e ≢ errors.CountFull → U)
+    → U ⊎ (∥ IsFilledSome old limit n new ∥₁)
+some_filled old limit s p o zero (Ok x) how t q told new is bytes leaves U none same = inl (none refl)
+some_filled old limit s p o zero (Err e) how t q told new is bytes leaves U none same = absurd how
+some_filled old limit s p o (suc k) (Ok x) how t q told new is bytes leaves U none same =
+    inr ∣ record {
+      schema = s;
+      placed = p;
+      opens = o;
+      grows = how.1.0;
+      more = suc k;
+      few = omega arith;
+      is = inl bytes;
+    } ∣₁
+some_filled old limit s p o (suc k) (Err errors.CountFull) how t q told new is bytes leaves U none same =
+    inr (∥∥₁_map leaves (λ left. record {
+      schema = s;
+      placed = p;
+      opens = o;
+      grows = how.1;
+      more = left.more;
+      few = omega (arith, left.fewer);
+      is = inl (left.stands is (λ device. cc device));
+    }))
+some_filled old limit s p o (suc k) (Err errors.Device) how t q told new is bytes leaves U none same =
+    inr (∥∥₁_map leaves (λ left. record {
+      schema = s;
+      placed = p;
+      opens = o;
+      grows = as_first s p how.1;
+      more = left.more;
+      few = omega (arith, left.fewer);
+      is = inr (left.fewer, left.failed is);
+    }))
+some_filled old limit s p o (suc k) (Err errors.Reopen) how t q told new is bytes leaves U none same =
+    inl (same (λ e. cc e) (λ e. cc e))
+some_filled old limit s p o (suc k) (Err errors.NoRecordVariable) how t q told new is bytes leaves U none same =
+    inl (same (λ e. cc e) (λ e. cc e))
+some_filled old limit s p o (suc k) (Err errors.NotPacked) how t q told new is bytes leaves U none same =
+    inl (same (λ e. cc e) (λ e. cc e))
+some_filled old limit s p o (suc k) (Err errors.Streaming) how t q told new is bytes leaves U none same =
+    inl (same (λ e. cc e) (λ e. cc e))
+some_filled old limit s p o (suc k) (Err (errors.WrongValues j)) how t q told new is bytes leaves U none same =
+    inl (same (λ e. cc e) (λ e. cc e))
+some_filled old limit s p o (suc k) (Err errors.Memory) how t q told new is bytes leaves U none same =
+    inl (same (λ e. cc e) (λ e. cc e))

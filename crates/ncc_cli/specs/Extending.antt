@@ -1,5 +1,5 @@
 -- What the extend engine writes.
-use Rattle.std.specs.Prelude.{◌≡◌, ◌≢◌, ◌⊎◌, ℕ, ◌+◌, ◌<◌, Bool, false, List, [], ◌++◌, Result, Ok, Err}
+use Rattle.std.specs.Prelude.{◌≡◌, ◌≢◌, ◌⊎◌, ℕ, ◌+◌, ◌<◌, ◌≤◌, Bool, false, List, [], ◌++◌, Result, Ok, Err}
 use Rattle.ncc_schema.specs.declared.schema.Count.TheVariants.{Known}
 use Rattle.ncc_schema.specs.declared.schema.Schema.{Schema}
 use Rattle.ncc_layout.specs.declared.placed_file.Placed.{Placed}
@@ -10,7 +10,7 @@ use Rattle.ncc_check.specs.declared.append_error.AppendError.TheVariants as erro
 use Rattle.ncc_lines.specs.Refusals.{append_line}
 use Rattle.ncc_lines.specs.Texts.{records_line}
 use Rattle.ncc_check.specs.AppendLaws.{CanGrow}
-use Rattle.ncc_write.specs.Extends.{ExtendsAs, IsFullFor, filled_bytes}
+use Rattle.ncc_write.specs.Extends.{ExtendsAs, HasFillsOrNot, IsFullFor, filled_bytes}
 use Rattle.ncc_cli.specs.declared.answer.Answer.{Answer}
 use Rattle.ncc_cli.specs.declared.answer.Answer.TheVariants.{Passed, Refused, Device, Memory}
 use Rattle.ncc_cli.specs.Answers.{Texts}
@@ -67,6 +67,17 @@ pub record IsFilledUp (old : List ℕ) (limit more : ℕ) (new : List ℕ) : Typ
   pub filled : IsFilled old limit fits new
   pub grows : CanGrow filled.schema filled.placed
   pub full : IsFullFor filled.schema.version filled.placed (fits + 1)
+
+-- some of the records were added to a file that takes records, at most so many, and of the next one nothing below its
+-- place or all
+pub record IsFilledSome (old : List ℕ) (limit most : ℕ) (new : List ℕ) : Type 0 where
+  pub schema : Schema
+  pub placed : Placed
+  pub opens : Opens old limit schema placed
+  pub grows : CanGrow schema placed
+  pub more : ℕ
+  pub few : more ≤ most
+  pub is : (new ≡ filled_bytes old schema placed more) ⊎ ((more < most) × HasFillsOrNot old schema placed more new)
 
 -- ---- telling
 

@@ -1,6 +1,6 @@
 //! `extend`: records of fill values behind those that a file has.
 
-ghost use Rattle.std.specs.Prelude.{◌≡◌, ◌⊎◌, ◌+◌, ◌*◌, ◌≤◌, max, ℕ, List, length, Err, IsTrue};
+ghost use Rattle.std.specs.Prelude.{◌≡◌, ◌⊎◌, ◌+◌, ◌*◌, ◌<◌, ◌≤◌, max, ℕ, List, length, Err, IsTrue};
 ghost use Rattle.ncc_schema.specs.Device.{Puts};
 ghost use Rattle.ncc_schema.specs.Schema.{Place};
 ghost use Rattle.ncc_store.specs.Store.{LeavesOnly, Only, Unmoved};
@@ -11,7 +11,7 @@ ghost use Rattle.ncc_check.specs.declared.append_error.AppendError.TheVariants a
 ghost use Rattle.ncc_build.specs.Dataset.{Dataset, IsDataset};
 ghost use Rattle.ncc_write.specs.Additions.{HoldsAll};
 ghost use Rattle.ncc_write.specs.Extends.{HoldsSome, with_fills};
-ghost use Rattle.ncc_cli.specs.Extending.{ExtendsInto, IsFilled, IsFilledUp, Tells};
+ghost use Rattle.ncc_cli.specs.Extending.{ExtendsInto, IsFilled, IsFilledSome, IsFilledUp, Tells};
 
 use crate::answer::{Answer, answered};
 use ncc_check::{AppendError, NcFile, Refusal, laws as check_laws, open};
@@ -74,6 +74,9 @@ pub fn extend_engine<S: Store, W: Sink>(
     ensures untouched { IsTrue S.tells_bytes → result.1 ≡ Answer.Refused
         → Unmoved S.bytes S.images S.moment S.images_since store result.0
         ⊎ (∥ IsFilledUp (S.bytes store) limit more (S.bytes result.0) ∥₁) }
+    ensures leaves { IsTrue S.tells_bytes
+        → Unmoved S.bytes S.images S.moment S.images_since store result.0
+        ⊎ (∥ IsFilledSome (S.bytes store) limit more (S.bytes result.0) ∥₁) }
     ensures holds_some { IsTrue S.tells_bytes → (places : List Place) (d : Dataset)
         → IsDataset d → HoldsAll (S.bytes store) limit places d
         → ∥ HoldsSome (S.bytes result.0) limit places d more ∥₁ }
@@ -82,6 +85,7 @@ pub fn extend_engine<S: Store, W: Sink>(
         → LeavesOnly S.moment S.images_since store result.0 (λ c. ∥ HoldsSome c limit places d more ∥₁) }
     ensures durable { Only (S.bytes store) (S.images store) → result.1 ≡ Answer.Passed
         → Only (S.bytes result.0) (S.images result.0) }
+    ensures settled { 0 < more → result.1 ≡ Answer.Passed → Only (S.bytes result.0) (S.images result.0) }
     ensures none { more ≡ 0 → Unmoved S.bytes S.images S.moment S.images_since store result.0 }
     ensures refused { IsTrue S.tells_bytes → (Passes (S.bytes store) limit → ⊥)
         → Unmoved S.bytes S.images S.moment S.images_since store result.0 }
@@ -92,6 +96,8 @@ pub fn extend_engine<S: Store, W: Sink>(
     ensures still { (S.failures result.0 ≡ S.failures store → ⊥) → W.calls sink.new ≡ W.calls sink.old }
     ensures calls { IsTrue S.tells_bytes
         → S.calls result.0 ≤ S.calls store + calls_for (length (S.bytes store)) limit + 5 * more }
+    ensures calls_refused { IsTrue S.tells_bytes → (Passes (S.bytes store) limit → ⊥)
+        → S.calls result.0 ≤ S.calls store + calls_for (length (S.bytes store)) limit }
     ensures reach { S.reach result.0 ≤ max (S.reach store) limit }
 {
     check_laws::passing_has_no_fault();

@@ -1,9 +1,15 @@
 //! Running a command.
 
-ghost use Rattle.std.specs.Prelude.{◌≡◌, ◌≤◌, ◌⊎◌, List, ℕ, IsTrue, IfSome};
+ghost use Rattle.std.specs.Prelude.{◌≡◌, ◌⊎◌, ◌+◌, ◌*◌, ◌<◌, ◌≤◌, List, ℕ, length, IsTrue, IfSome};
 ghost use Rattle.ncc_values.specs.Failures.{Rose};
 ghost use Rattle.ncc_schema.specs.Device.{LosesAtMost, Puts};
-ghost use Rattle.ncc_cli.specs.Extending.{ExtendsInto};
+ghost use Rattle.ncc_schema.specs.Schema.{Place};
+ghost use Rattle.ncc_store.specs.Store.{LeavesOnly, Only, Unmoved};
+ghost use Rattle.ncc_check.specs.FromStore.{calls_for};
+ghost use Rattle.ncc_build.specs.Dataset.{Dataset, IsDataset};
+ghost use Rattle.ncc_write.specs.Additions.{HoldsAll};
+ghost use Rattle.ncc_write.specs.Extends.{HoldsSome};
+ghost use Rattle.ncc_cli.specs.Extending.{ExtendsInto, IsFilled, IsFilledSome, IsFilledUp};
 ghost use Rattle.ncc_cli.specs.Listing.{Lists};
 ghost use Rattle.ncc_cli.specs.Selecting.{SelectsInto};
 
@@ -150,6 +156,22 @@ fn csv<R: Files<File = File> + Clock + AllocGlobal, O: Write, E: Write>(
 fn extended<S: Store, W: Sink>(alloc: Global, store: S, more: u64, sink: &mut W) -> (S, Answer)
     ensures extends { IsTrue S.tells_bytes → (out : List ℕ) × Puts (W.put sink.old) (W.put sink.new) out
         × ExtendsInto (S.bytes store) LIMIT more result.1 out }
+    ensures bytes { IsTrue S.tells_bytes → result.1 ≡ Answer.Passed
+        → ∥ IsFilled (S.bytes store) LIMIT more (S.bytes result.0) ∥₁ }
+    ensures untouched { IsTrue S.tells_bytes → result.1 ≡ Answer.Refused
+        → Unmoved S.bytes S.images S.moment S.images_since store result.0
+        ⊎ (∥ IsFilledUp (S.bytes store) LIMIT more (S.bytes result.0) ∥₁) }
+    ensures leaves { IsTrue S.tells_bytes
+        → Unmoved S.bytes S.images S.moment S.images_since store result.0
+        ⊎ (∥ IsFilledSome (S.bytes store) LIMIT more (S.bytes result.0) ∥₁) }
+    ensures any_moment { IsTrue S.tells_bytes → Only (S.bytes store) (S.images store)
+        → (places : List Place) (d : Dataset) → IsDataset d → HoldsAll (S.bytes store) LIMIT places d
+        → LeavesOnly S.moment S.images_since store result.0 (λ c. ∥ HoldsSome c LIMIT places d more ∥₁) }
+    ensures settled { 0 < more → result.1 ≡ Answer.Passed → Only (S.bytes result.0) (S.images result.0) }
+    ensures none { more ≡ 0 → Unmoved S.bytes S.images S.moment S.images_since store result.0 }
+    ensures still { (S.failures result.0 ≡ S.failures store → ⊥) → W.calls sink.new ≡ W.calls sink.old }
+    ensures calls { IsTrue S.tells_bytes
+        → S.calls result.0 ≤ S.calls store + calls_for (length (S.bytes store)) LIMIT + 5 * more }
     ensures quiet { (result.1 ≡ Answer.Device → ⊥)
         → (S.failures result.0 ≡ S.failures store) × (W.failures sink.new ≡ W.failures sink.old) }
     ensures device { result.1 ≡ Answer.Device

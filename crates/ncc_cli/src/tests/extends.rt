@@ -34,6 +34,18 @@ fn two_variables(alloc: Global, count: u8, behind: &[u8]) -> Result<Vec<u8>, All
     Ok(bytes)
 }
 
+/// Two records whose second variable begins two bytes behind the padding of the first.
+fn with_gap(alloc: Global) -> Result<Vec<u8>, AllocError> {
+    with_byte(alloc, &TWO_RECORD_VARIABLES, 115, 122)
+}
+
+/// Three records of a short, the last of which lacks a byte.
+fn records_cut(alloc: Global) -> Result<Vec<u8>, AllocError> {
+    let mut bytes = records(alloc, 3, &[])?;
+    bytes.truncate(85);
+    Ok(bytes)
+}
+
 /// The three records of a file that is still written.
 fn streaming(alloc: Global) -> Result<Vec<u8>, AllocError> {
     let mut words = RECORDS;
@@ -113,7 +125,10 @@ fn rows(alloc: Global) -> Result<Vec<Row>, AllocError> {
         "refused NoRecordVariable\n",
     )?)?;
     rows.push(refused(alloc, streaming(alloc)?, 2, "refused Streaming\n")?)?;
+    rows.push(refused(alloc, with_gap(alloc)?, 1, "refused NotPacked\n")?)?;
+    rows.push(extended(with_gap(alloc)?, 0, "records 2\n", with_gap(alloc)?))?;
     rows.push(refused(alloc, Vec::new(alloc), 0, "fault EndsEarly at 0\n")?)?;
+    rows.push(refused(alloc, records_cut(alloc)?, 1, "fault Truncated at 76\n")?)?;
     Ok(rows)
 }
 

@@ -1,14 +1,15 @@
 use Rattle.std.proofs.Math.Logic.{∥∥₁_map}
-use Rattle.std.proofs.Common.{◌≡◌, ◌≢◌, ◌+◌, inl, inr, ⊎_elim, false, ℕ, List, Bool, Result, Ok, Err, OnOk, refl, ap, sym, subst, ◌∙◌, arith}
+use Rattle.std.proofs.Common.{◌≡◌, ◌≢◌, ◌⊎◌, ◌+◌, inl, inr, ⊎_elim, false, ℕ, List, Bool, Result, Ok, Err, OnOk, refl, ap, sym, subst, ◌∙◌, arith}
 use Rattle.ncc_schema.specs.Schema.{Place}
 use Rattle.ncc_layout.specs.Placed.{records_of_file}
 use Rattle.ncc_store.specs.Store.{LeavesOnly, Only, Unmoved}
 use Rattle.ncc_check.specs.Appending.{IsFull}
 use Rattle.ncc_check.specs.declared.append_error.AppendError.{AppendError}
 use Rattle.ncc_check.specs.declared.append_error.AppendError.TheVariants as errors
-use Rattle.ncc_cli.specs.Extending.{IsFilledUp}
+use Rattle.ncc_cli.specs.Extending.{IsFilledSome, IsFilledUp}
+use Rattle.std.specs.Prelude.{IfErr}
 use Rattle.ncc_store.proofs.Moments.{joined, stays}
-use Rattle.ncc_check.specs.Checks.{Refuses}
+use Rattle.ncc_check.specs.Checks.{Opens, Refuses}
 use Rattle.ncc_check.specs.Files.{store_of, schema_of, placed_of}
 use Rattle.ncc_check.specs.declared.fault.Refusal.{Refusal}
 use Rattle.ncc_build.specs.Dataset.{Dataset, IsDataset}
@@ -16,7 +17,7 @@ use Rattle.ncc_write.specs.Additions.{HoldsAll}
 use Rattle.ncc_write.specs.Extends.{Contains, ExtendsAs, HasRecords, HoldsSome, LeavesFills, filled_bytes, with_fills}
 use Rattle.ncc_write.proofs.MoreFills.{at_start}
 use Rattle.ncc_cli.specs.declared.answer.Answer.{Answer}
-use Rattle.ncc_cli.proofs.Extended.{Told, fault_went, filled_up, is_full, refused_for, none_more, passed_ok, stopped_went, went}
+use Rattle.ncc_cli.proofs.Extended.{Told, fault_went, filled_up, is_full, some_filled, refused_for, none_more, passed_ok, stopped_went, went}
 use Rattle.ncc_cli.proofs.extending.extend_engine.Goals as goal
 
 pub returns-in-Ok-clause-extends : goal.returns-in-Ok-clause-extends
@@ -141,3 +142,36 @@ returns-in-Ok-clause-untouched g c = λ told refused.
     (λ other. inl (subst (λ x. Unmoved g.S.Store.bytes g.S.Store.images g.S.Store.moment g.S.Store.images_since c.args.store x)
     (sym (c.into_store.ensures ∙ ap (λ x. store_of x) (unchanged why.2 other))) c.in-Ok.ensures.unmoved))
     (is_full e)
+
+pub returns-in-Ok-clause-settled : goal.returns-in-Ok-clause-settled
+returns-in-Ok-clause-settled g c = λ some passed.
+    let tells = subst (λ (a : Answer). Told c.extend-extended.result c.records.result (g.W.Sink.put c.args.sink.now) (g.W.Sink.put c.tell-answer.new.sink) a) passed c.tell-answer.ensures.tells in
+    subst (λ s. Only (g.S.Store.bytes s) (g.S.Store.images s)) (sym c.into_store.ensures)
+    (passed_ok c.extend-extended.result c.records.result _ _ tells (c.extend-extended.ensures.settled some))
+
+pub returns-in-Ok-clause-leaves : goal.returns-in-Ok-clause-leaves
+returns-in-Ok-clause-leaves g c = λ told.
+    let f = c.in-Ok.opened in
+    let s = schema_of f in
+    let p = placed_of f in
+    let new = c.extend-extended.new.file in
+    let same = c.in-Ok.ensures.unmoved.same in
+    let stays : new ≡ f → Unmoved g.S.Store.bytes g.S.Store.images g.S.Store.moment g.S.Store.images_since c.args.store c.into_store.result =
+    λ is. subst (λ x. Unmoved g.S.Store.bytes g.S.Store.images g.S.Store.moment g.S.Store.images_since c.args.store x)
+    (sym (c.into_store.ensures ∙ ap (λ x. store_of x) is)) c.in-Ok.ensures.unmoved in
+    let filled = subst (λ (b : List ℕ). (new ≡ f) ⊎ (∥ IsFilledSome b c.args.limit c.args.more (g.S.Store.bytes (store_of new)) ∥₁)) same
+    (some_filled (g.S.Store.bytes (store_of f)) c.args.limit s p
+    (subst (λ (b : List ℕ). Opens b c.args.limit s p) (sym same) (c.in-Ok.ensures.passes told)) c.args.more
+    c.extend-extended.result
+    (subst (λ (b : Bool). ExtendsAs b s p c.args.more c.extend-extended.result) c.in-Ok.ensures.fresh c.extend-extended.ensures.answer)
+    (schema_of new) (placed_of new) g.S.Store.tells_bytes (g.S.Store.bytes (store_of new)) told
+    (c.extend-extended.ensures.bytes told) c.extend-extended.ensures.partly (new ≡ f)
+    c.extend-extended.ensures.none c.extend-extended.ensures.unchanged) in
+    ⊎_elim (λ is. inl (stays is))
+    (λ some. inr (subst (λ x. ∥ IsFilledSome (g.S.Store.bytes c.args.store) c.args.limit c.args.more (g.S.Store.bytes x) ∥₁)
+    (sym c.into_store.ensures) some)) filled
+
+pub returns-in-Ok-clause-calls_refused : goal.returns-in-Ok-clause-calls_refused
+returns-in-Ok-clause-calls_refused g c = λ told fails.
+    let o = c.in-Ok.ensures.passes told in
+    absurd (fails (o.header, o.passes))
