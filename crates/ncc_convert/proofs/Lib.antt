@@ -1,0 +1,6 @@
+pub mod Planned
+mod Facing
+mod Pieces
+mod Going
+mod Moved
+mod Ending

@@ -1,0 +1,72 @@
+use Rattle.std.proofs.Common.{◌≡◌, ◌⊎◌, ◌-◌, ◌<◌, ◌≤◌, inl, inr, max, ℕ, None, Result, Err, OnErr, refl, sym, ap, subst, ◌∙◌, arith, rules}
+use Rattle.ncc_layout.specs.Placed.{file_length_of}
+use Rattle.ncc_schema.specs.declared.failed.Failed.{Failed}
+use Rattle.ncc_convert.specs.Copying.{HasFront}
+use Rattle.ncc_schema.specs.declared.schema.Schema.{Schema}
+use Rattle.ncc_check.specs.Files.{store_of, schema_of, placed_of}
+use Rattle.ncc_write.specs.Writer.{schema_in, sink_in, taken_in}
+use Rattle.ncc_write.specs.Writing.{data_length}
+use Rattle.ncc_convert.proofs.Moved.{copies_back, copies_there, front_back}
+use Rattle.ncc_convert.proofs.copying.copy_all.Goals as goal
+
+pub copy_piece-requires-clause-copies : goal.copy_piece-requires-clause-copies
+copy_piece-requires-clause-copies g c =
+    let at = c.loop-var.invariant in
+    let start = c.requires.copies.0 in (
+      start,
+      copies_there g.S.Store.tells_bytes (g.S.Store.bytes (store_of c.args.file.now)) (g.S.Store.bytes (store_of c.loop-var.file))
+          (schema_of c.args.file.now) (schema_of c.loop-var.file) (placed_of c.args.file.now) (placed_of c.loop-var.file)
+          at.unmoved.same at.schema at.placed start (g.W.Sink.put (sink_in c.loop-var.writer)) c.loop-var.writer
+          (at.copies start c.requires.copies.1),
+    )
+
+pub loop-var-smaller : goal.loop-var-smaller
+loop-var-smaller g c =
+    let same : data_length (schema_in c.copy_piece.new.writer) ≡ data_length (schema_in c.loop-var.writer) = ap data_length c.copy_piece.ensures.planned in
+    omega (arith, same, c.copy_piece.ensures.before, c.in_ok-copy_piece.ensures.more)
+
+pub loop-var-preserved : goal.loop-var-preserved
+loop-var-preserved g c =
+    let at = c.loop-var.invariant in
+    let one = c.copy_piece.ensures in
+    record {
+      room = one.room ∙ at.room;
+      copies = λ start copies.
+          let there = copies_there g.S.Store.tells_bytes (g.S.Store.bytes (store_of c.args.file.now)) (g.S.Store.bytes (store_of c.loop-var.file))
+          (schema_of c.args.file.now) (schema_of c.loop-var.file) (placed_of c.args.file.now) (placed_of c.loop-var.file)
+          at.unmoved.same at.schema at.placed start (g.W.Sink.put (sink_in c.loop-var.writer)) c.loop-var.writer (at.copies start copies) in
+          copies_back g.S.Store.tells_bytes (g.S.Store.bytes (store_of c.args.file.now)) (g.S.Store.bytes (store_of c.loop-var.file))
+          (schema_of c.args.file.now) (schema_of c.loop-var.file) (placed_of c.args.file.now) (placed_of c.loop-var.file)
+          at.unmoved.same at.schema at.placed start (g.W.Sink.put (sink_in c.copy_piece.new.writer)) c.copy_piece.new.writer
+          (c.in_ok-copy_piece.ensures.copies start there);
+      planned = one.planned ∙ at.planned;
+      schema = one.schema ∙ at.schema;
+      placed = one.placed ∙ at.placed;
+      reopen = one.reopen ∙ at.reopen;
+      unmoved = c.unmoved_calls_join.ensures (store_of c.args.file.now) (store_of c.loop-var.file) (store_of c.copy_piece.new.file) at.unmoved one.unmoved;
+      kept = λ image was. one.kept image (at.kept image was);
+      store = c.in_ok-copy_piece.ensures.count.0 ∙ at.store;
+      sink = c.in_ok-copy_piece.ensures.count.1 ∙ at.sink;
+      reach = omega (arith, one.reach, at.reach, ap file_length_of at.placed);
+    }
+
+pub returns-in_err-copy_piece-clause-stops : goal.returns-in_err-copy_piece-clause-stops
+returns-in_err-copy_piece-clause-stops g c = λ start copies.
+    let at = c.loop-var.invariant in
+    let there = copies_there g.S.Store.tells_bytes (g.S.Store.bytes (store_of c.args.file.now)) (g.S.Store.bytes (store_of c.loop-var.file))
+    (schema_of c.args.file.now) (schema_of c.loop-var.file) (placed_of c.args.file.now) (placed_of c.loop-var.file)
+    at.unmoved.same at.schema at.placed start (g.W.Sink.put (sink_in c.loop-var.writer)) c.loop-var.writer (at.copies start copies) in
+    let is : c.from_residual.result ≡ Err c.in_err-copy_piece.field-0.0 = search rules in
+    let front = front_back g.S.Store.tells_bytes (g.S.Store.bytes (store_of c.args.file.now)) (g.S.Store.bytes (store_of c.loop-var.file))
+    (schema_of c.args.file.now) (schema_of c.loop-var.file) (placed_of c.args.file.now) (placed_of c.loop-var.file)
+    at.unmoved.same at.schema at.placed start (g.W.Sink.put (sink_in c.copy_piece.new.writer))
+    (schema_in c.args.writer.now) (schema_in c.loop-var.writer) at.planned
+    (c.in_err-copy_piece.ensures.stops start there) in
+    subst (λ (r : Result (Unit {0}) Failed). OnErr r (HasFront g.S.Store.tells_bytes (g.S.Store.bytes (store_of c.args.file.now))
+    (schema_of c.args.file.now) (placed_of c.args.file.now) (schema_in c.args.writer.now) start (g.W.Sink.put (sink_in c.copy_piece.new.writer))))
+    (sym is) front
+
+pub returns-clause-all : goal.returns-clause-all
+returns-clause-all g c =
+    let none : c.expects.result ≡ None = search rules in
+    λ start w at. sym none ∙ c.expects.ensures start w at

@@ -1,0 +1,121 @@
+//! Copies the slabs of an open file to a writer.
+
+ghost use Rattle.std.specs.Prelude.{◌≡◌, ◌⊎◌, ◌<◌, ◌≤◌, max, ℕ, List, Option, None, length, IsOk, OnOk, OnErr};
+ghost use Rattle.ncc_values.specs.Failures.{Rose};
+ghost use Rattle.ncc_store.specs.Store.{Unmoved, KeepsImages};
+ghost use Rattle.ncc_layout.specs.Placed.{file_length_of};
+ghost use Rattle.ncc_build.specs.Building.{IsBuilt};
+ghost use Rattle.ncc_check.specs.Files.{store_of, schema_of, placed_of, must_reopen};
+ghost use Rattle.ncc_write.specs.Writer.{schema_in, sink_in, taken_in, Stands};
+ghost use Rattle.ncc_write.specs.Writing.{data_length, expected, Standing};
+ghost use Rattle.ncc_convert.specs.Copying.{Copies, CopyCounts, Expects, HasFront};
+ghost use Rattle.ncc_convert.specs.Found.{IsPlanned};
+
+use ncc_check::NcFile;
+use ncc_check::laws::{open_file_is_long, open_file_stands};
+use ncc_schema::{Failed, Sink};
+use ncc_slab::slab_place;
+use ncc_store::{Store, laws as store_laws};
+use ncc_write::FileWriter;
+use ncc_write::laws::{complete_when_taken, out_is_in_files};
+
+/// Copies a piece of the slab that comes next: from its next element on, as much as the buffer has room for. One call of
+/// the store.
+fn copy_piece<S: Store, W: Sink>(
+    file: &mut NcFile<S>,
+    writer: &mut FileWriter<W>,
+    buffer: &mut [u8],
+    var: usize,
+    number: u64,
+    left: u64,
+) -> Result<(), Failed>
+    requires room { length buffer.old ≡ 65536 }
+    requires planned { IsPlanned (schema_of file.old) (placed_of file.old) (schema_in writer.old) }
+    requires built { ∥ IsBuilt (schema_in writer.old) ∥₁ }
+    requires copies { (start : Option (List ℕ)) × Copies S.tells_bytes (S.bytes (store_of file.old))
+        (schema_of file.old) (placed_of file.old) start (W.put (sink_in writer.old)) writer.old }
+    requires next { Expects (W.put (sink_in writer.old)) writer.old var number left }
+    ensures copies { (start : Option (List ℕ)) → Copies S.tells_bytes (S.bytes (store_of file.old))
+        (schema_of file.old) (placed_of file.old) start (W.put (sink_in writer.old)) writer.old
+        → OnOk result (Copies S.tells_bytes (S.bytes (store_of file.old)) (schema_of file.old) (placed_of file.old)
+        start (W.put (sink_in writer.new)) writer.new) }
+    ensures stops { (start : Option (List ℕ)) → Copies S.tells_bytes (S.bytes (store_of file.old))
+        (schema_of file.old) (placed_of file.old) start (W.put (sink_in writer.old)) writer.old
+        → OnErr result (HasFront S.tells_bytes (S.bytes (store_of file.old)) (schema_of file.old) (placed_of file.old)
+        (schema_in writer.old) start (W.put (sink_in writer.new))) }
+    ensures before { taken_in writer.old < data_length (schema_in writer.old) }
+    ensures more { OnOk result (taken_in writer.old < taken_in writer.new) }
+    ensures planned { schema_in writer.new ≡ schema_in writer.old }
+    ensures room { length buffer.new ≡ length buffer.old }
+    ensures schema { schema_of file.new ≡ schema_of file.old }
+    ensures placed { placed_of file.new ≡ placed_of file.old }
+    ensures reopen { must_reopen file.new ≡ must_reopen file.old }
+    ensures unmoved { Unmoved S.bytes S.images S.moment S.images_since (store_of file.old) (store_of file.new) }
+    ensures kept { KeepsImages (S.images (store_of file.old)) (S.images (store_of file.new)) }
+    ensures count { CopyCounts (S.failures (store_of file.old)) (S.failures (store_of file.new))
+        (W.failures (sink_in writer.old)) (W.failures (sink_in writer.new)) result }
+    ensures reach { S.reach (store_of file.new)
+        ≤ max (S.reach (store_of file.old)) (file_length_of (placed_of file.old)) }
+{
+    open_file_stands(file);
+    open_file_is_long(file);
+    complete_when_taken();
+    out_is_in_files();
+    let placed = file.placed();
+    let place = match slab_place(placed, var, number) {
+        Some(place) => place,
+        None => unreachable!(),
+    };
+    let xtype = placed.xtype(var);
+    let size = xtype.size();
+    let from = place + placed.slab(var) - left * size as u64;
+    let count = left.min((buffer.len() / size) as u64) as usize;
+    let piece = &mut buffer[..count * size];
+    match file.fetch(from, piece) {
+        Ok(()) => {}
+        Err(_) => return Err(Failed),
+    }
+    match writer.put_bytes(xtype, piece) {
+        Ok(()) => Ok(()),
+        Err(_) => Err(Failed),
+    }
+}
+
+/// Copies all slabs that the writer expects.
+pub(crate) fn copy_all<S: Store, W: Sink>(
+    file: &mut NcFile<S>,
+    writer: &mut FileWriter<W>,
+    buffer: &mut [u8],
+) -> Result<(), Failed>
+    requires room { length buffer.old ≡ 65536 }
+    requires planned { IsPlanned (schema_of file.old) (placed_of file.old) (schema_in writer.old) }
+    requires built { ∥ IsBuilt (schema_in writer.old) ∥₁ }
+    requires copies { (start : Option (List ℕ)) × Copies S.tells_bytes (S.bytes (store_of file.old))
+        (schema_of file.old) (placed_of file.old) start (W.put (sink_in writer.old)) writer.old }
+    ensures copies { (start : Option (List ℕ)) → Copies S.tells_bytes (S.bytes (store_of file.old))
+        (schema_of file.old) (placed_of file.old) start (W.put (sink_in writer.old)) writer.old
+        → OnOk result (Copies S.tells_bytes (S.bytes (store_of file.old)) (schema_of file.old) (placed_of file.old)
+        start (W.put (sink_in writer.new)) writer.new) }
+    ensures stops { (start : Option (List ℕ)) → Copies S.tells_bytes (S.bytes (store_of file.old))
+        (schema_of file.old) (placed_of file.old) start (W.put (sink_in writer.old)) writer.old
+        → OnErr result (HasFront S.tells_bytes (S.bytes (store_of file.old)) (schema_of file.old) (placed_of file.old)
+        (schema_in writer.old) start (W.put (sink_in writer.new))) }
+    ensures all { OnOk result ((start : Option (List ℕ)) (w : Standing)
+        → Stands start (W.put (sink_in writer.new)) writer.new w → None ≡ expected w) }
+    ensures planned { schema_in writer.new ≡ schema_in writer.old }
+    ensures schema { schema_of file.new ≡ schema_of file.old }
+    ensures placed { placed_of file.new ≡ placed_of file.old }
+    ensures reopen { must_reopen file.new ≡ must_reopen file.old }
+    ensures unmoved { Unmoved S.bytes S.images S.moment S.images_since (store_of file.old) (store_of file.new) }
+    ensures kept { KeepsImages (S.images (store_of file.old)) (S.images (store_of file.new)) }
+    ensures count { CopyCounts (S.failures (store_of file.old)) (S.failures (store_of file.new))
+        (W.failures (sink_in writer.old)) (W.failures (sink_in writer.new)) result }
+    ensures reach { S.reach (store_of file.new)
+        ≤ max (S.reach (store_of file.old)) (file_length_of (placed_of file.old)) }
+{
+    store_laws::unmoved_calls_join::<S>();
+    while let Some((var, number, left)) = writer.expects() {
+        copy_piece(file, writer, buffer, var, number, left)?;
+    }
+    Ok(())
+}
