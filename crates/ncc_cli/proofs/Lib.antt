@@ -4,3 +4,4 @@ pub mod SentVerdict
 pub mod SentTable
 pub mod Extended
 pub mod Picked
+mod Converted

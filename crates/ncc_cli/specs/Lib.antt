@@ -4,3 +4,5 @@ pub mod Checking
 pub mod Selecting
 pub mod Extending
 pub mod Status
+pub mod Converting
+pub mod Planning

@@ -61,6 +61,21 @@ Status:
   2  the command line is wrong
   3  a device or memory failed";
 
+/// What the help of `convert` says of what it writes, and of statuses.
+const CONVERT_STATUSES: &str =
+    "The new file has the same dimensions, attributes, variables and values, each in a place of its
+own, and is on the disk when the line is printed. A refusal is the only line, and then no
+file is made; after a failure the new file is a beginning of what it would be.
+
+Status:
+  0  converted
+  1  the file has a fault or the version can't hold it, which is the only line
+  2  the command line is wrong
+  3  a device or memory failed";
+
+/// The versions by their numbers.
+const VERSIONS: [&str; 3] = ["1", "2", "5"];
+
 fn file_argument<'a>(alloc: Global) -> Arg<'a> {
     Arg::new(alloc, "FILE")
         .help("A netCDF classic file")
@@ -131,16 +146,41 @@ fn extend_command<'a>(alloc: Global) -> Result<Command<'a>, AllocError> {
         .arg(more)
 }
 
+fn convert_command<'a>(alloc: Global) -> Result<Command<'a>, AllocError> {
+    let version = Arg::new(alloc, "to")
+        .long("to")
+        .value_name("VERSION")
+        .help("The version: 1, 2 or 5")
+        .required(true)
+        .value_parser(&VERSIONS[..])
+        .action(ArgAction::Set);
+    let from = Arg::new(alloc, "IN")
+        .help("A netCDF classic file")
+        .required(true)
+        .action(ArgAction::Set);
+    let to = Arg::new(alloc, "OUT")
+        .help("The file that is made; it must not be there")
+        .required(true)
+        .action(ArgAction::Set);
+    Command::new(alloc, "convert")
+        .about("Writes what a file holds into a new file, in another version")
+        .after_help(CONVERT_STATUSES)
+        .arg(version)?
+        .arg(from)?
+        .arg(to)
+}
+
 /// The command line of `ncc`.
 pub fn command<'a>(alloc: Global) -> Result<Command<'a>, AllocError> {
     Command::new(alloc, "ncc")
         .bin_name("ncc")?
         .version("0.1.0")
-        .about("Checks, lists, reads and extends netCDF classic files")
+        .about("Checks, lists, reads, extends and converts netCDF classic files")
         .after_help(STATUSES)
         .subcommand_required(true)
         .arg_required_else_help(true)
         .subcommand(check_command(alloc)?)?
+        .subcommand(convert_command(alloc)?)?
         .subcommand(csv_command(alloc)?)?
         .subcommand(extend_command(alloc)?)?
         .subcommand(list_command(alloc)?)

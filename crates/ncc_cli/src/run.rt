@@ -16,6 +16,7 @@ ghost use Rattle.ncc_cli.specs.Selecting.{SelectsInto};
 use crate::answer::Answer;
 use crate::checking::check_engine;
 use crate::commands::{LIMIT, command};
+use crate::converting_files::convert_named;
 use crate::extending::extend_engine;
 use crate::finishing::{USAGE, explain, finish, flushed};
 use crate::listing::list_engine;
@@ -226,6 +227,7 @@ pub fn run<R: Files<File = File> + Clock + AllocGlobal, O: Write, E: Write>(
     match command.try_get_matches_from(line) {
         Ok(matches) => match matches.subcommand() {
             Some(("check", words)) => finish(check_named(rt, words, out), err),
+            Some(("convert", words)) => finish(convert_named(rt, words, out), err),
             Some(("csv", words)) => match pick_given(rt.alloc(), words) {
                 Ok(pick) => finish(csv(rt, words, pick, out, err, shown), err),
                 Err(fault) => refuse_words(fault, err),

@@ -1,5 +1,6 @@
 //! Lines, faults, values, verdicts, failing sources, stores and sinks, and whole runs.
 
+mod converts;
 mod extends;
 mod failures;
 mod faults;

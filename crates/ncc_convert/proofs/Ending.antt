@@ -16,7 +16,7 @@ use Rattle.ncc_schema.specs.declared.schema.Schema.{Schema}
 use Rattle.ncc_schema.proofs.Writing.{puts_none}
 use Rattle.ncc_layout.specs.Sizes.{slab}
 use Rattle.ncc_layout.specs.declared.placed_file.Placed.{Placed}
-use Rattle.ncc_build.specs.Dataset.{Dataset, IsDataset, Slab, as_version, data_of, in_order, slabs_of}
+use Rattle.ncc_build.specs.Dataset.{Dataset, IsDataset, Slab, data_of, in_order, slabs_of}
 use Rattle.ncc_build.specs.File.{file_of, header_of, padded}
 use Rattle.ncc_build.specs.declared.fault.WriteFault.{WriteFault}
 use Rattle.ncc_build.specs.declared.fault.WriteFault.TheVariants as fault
@@ -25,11 +25,10 @@ use Rattle.ncc_write.specs.Laws.{CompleteWhenTaken, DatasetTold, IsCompleted}
 use Rattle.ncc_write.specs.Writing.{IsExactly, IsFront, Next, StartFails, Standing, Went, data_length, dataset_of, expected, next_of, refuses_finish, refuses_unfinished, told}
 use Rattle.ncc_write.proofs.SlabsAt.{HasValues, all_have_values}
 use Rattle.ncc_convert.specs.Copying.{HasFront}
-use Rattle.ncc_convert.specs.Converting.{ConvertCounts, ConvertsAs, HasFile, IsWhole, fault_of}
+use Rattle.ncc_convert.specs.Converting.{ConvertCounts, ConvertsAs, HasFile, IsWhole, ReadsAs, fault_of}
 use Rattle.ncc_convert.specs.declared.converting.Fault.{Fault}
 use Rattle.ncc_convert.specs.declared.converting.Fault.TheVariants.{Memory}
-use Rattle.ncc_convert.specs.Found.{IsOf, IsPlanned}
-use Rattle.ncc_convert.proofs.Planned.{version_schema}
+use Rattle.ncc_convert.specs.Found.{IsOf}
 
 -- ---- all values
 
@@ -110,18 +109,14 @@ pub start_memory : (old new : Option (List ℕ)) (m n : ℕ) (header : List ℕ)
 start_memory old new m n header e fails = by_fault old new m n header (λ f. fault_of f ≡ Memory → f ≡ fault.Memory) e fails
     (λ memory is. refl) (λ device is. absurd (cc is))
 
-pub nothing_went : (tells : Bool) (file : List ℕ) (s : Schema) (p : Placed) (t : Schema) (put : Option (List ℕ))
-    → HasFront tells file s p t put put
-nothing_went tells file s p t put = record { is = λ told d is of. ([], puts_none put, (file_of (as_version d t.version), refl)) }
+pub nothing_went : (tells : Bool) (file : List ℕ) (p : Placed) (t : Schema) (put : Option (List ℕ))
+    → HasFront tells file p t put put
+nothing_went tells file p t put = record { is = λ told d is of. ([], puts_none put, (file_of d, refl)) }
 
-module _ (tells : Bool) (file : List ℕ) (s : Schema) (p : Placed) (t : Schema) (planned : IsPlanned s p t)
-    (old new : Option (List ℕ)) where
-  header_went : Went old new (λ out. IsFront out (header_of t)) → HasFront tells file s p t old new
+module _ (tells : Bool) (file : List ℕ) (p : Placed) (t : Schema) (old new : Option (List ℕ)) where
+  header_went : Went old new (λ out. IsFront out (header_of t)) → HasFront tells file p t old new
   header_went (out, puts, (rest, joined)) = record {
-    is = λ told d is of.
-        let e = as_version d t.version in
-        let header : header_of e.schema ≡ out ++ rest = ap header_of (version_schema true file s p t planned d of) ∙ joined in
-        (out, puts, front_of_file e out rest header);
+    is = λ told d is of. (out, puts, front_of_file d out rest (ap header_of of.schema_is ∙ joined));
   }
     where
       front_of_file : (e : Dataset) (out rest : List ℕ) → header_of e.schema ≡ out ++ rest → IsFront out (file_of e)
@@ -130,9 +125,9 @@ module _ (tells : Bool) (file : List ℕ) (s : Schema) (p : Placed) (t : Schema)
           (rest ++ rows, ap (λ (l : List ℕ). l ++ rows) header ∙ append_assoc out rest rows)
 
   pub start_failed : (m n : ℕ) (e : WriteFault) → StartFails old new m n (header_of t) e
-      → ConvertsAs tells file s p t old new (Err (fault_of e))
-  start_failed m n e fails = by_fault old new m n (header_of t) (λ f. ConvertsAs tells file s p t old new (Err (fault_of f))) e
-      fails (λ memory. subst (HasFront tells file s p t old) (sym memory.0) (nothing_went tells file s p t old))
+      → ConvertsAs tells file p t old new (Err (fault_of e))
+  start_failed m n e fails = by_fault old new m n (header_of t) (λ f. ConvertsAs tells file p t old new (Err (fault_of f))) e
+      fails (λ memory. subst (HasFront tells file p t old) (sym memory.0) (nothing_went tells file p t old))
       (λ device. header_went device.0)
 
 -- ---- the whole file
@@ -150,3 +145,14 @@ pub whole_file : (t : Schema) (limit : ℕ) (taken out : List ℕ)
     → length (header_of t) ≤ limit → ∥ IsCompleted t taken out ∥₁ → ∥ IsWhole t limit out ∥₁
 whole_file t limit taken out law enough completed =
     ∥∥₁_map (law t taken out limit completed enough) (λ passes. record { taken = taken; passes = passes })
+
+-- what was taken is the dataset of the open file, so that is what is read
+pub reads_as : (tells : Bool) (file : List ℕ) (p : Placed) (t : Schema) (limit : ℕ) (taken out : List ℕ)
+    → ∥ PassesAndReads (dataset_of t taken) t out limit ∥₁
+    → (IsTrue tells → (d : Dataset) → IsDataset d → IsOf file p t d → data_of d ≡ taken) → DatasetTold
+    → ReadsAs tells file p t limit out
+reads_as tells file p t limit taken out passes all law = record {
+  is = λ told d is of.
+      let same : dataset_of t taken ≡ d = ap₂ dataset_of (sym of.schema_is) (sym (all told d is of)) ∙ law d is in
+      subst (λ (e : Dataset). ∥ PassesAndReads e t out limit ∥₁) same passes;
+}

@@ -73,7 +73,7 @@ below_by a b not_most = by (ltb a b) refl
 
 module _ {W : Type 0} (b tells : Bool) (file : List ℕ) (s : Schema) (p : Placed) (start put : Option (List ℕ))
     (x : FileWriter W) (stands : ∥ StandsIn b file s p ∥₁) (planned : IsPlanned s p (schema_in x))
-    (copies : Copies tells file s p start put x) where
+    (copies : Copies tells file p start put x) where
   abbrev w : Standing
   w = copies.standing
 

@@ -1,9 +1,7 @@
 -- A writer takes the piece of a copy; and what went out where a call failed.
 use Rattle.std.proofs.Common.{◌≡◌, ℕ, ◌+◌, ◌*◌, ◌<◌, ◌≤◌, ◌++◌, ◌/◌, Bool, true, false, not, List, Option, Some, None, Err, length, refl, sym, ap, subst, ◌∙◌, arith, length-append}
-use Rattle.std.specs.Prelude.{ltb, if◌then◌else◌}
-use Rattle.std.proofs.lemmas.Bool.{eq-eqb, le-ltb}
 use Rattle.ncc_values.specs.Values.{bytes_of, count_of, type_of, values_of}
-use Rattle.ncc_values.specs.XType.{code_of, size_of}
+use Rattle.ncc_values.specs.XType.{size_of}
 use Rattle.ncc_values.specs.declared.values.Values.{Values}
 use Rattle.ncc_values.specs.declared.xtype.XType.{XType}
 use Rattle.ncc_values.specs.declared.xtype.XType.TheVariants.{Byte, Char, Short, Int, Float, Double, UByte, UShort, UInt, Int64, UInt64}
@@ -11,28 +9,16 @@ use Rattle.ncc_values.proofs.ValuesLemmas.{count_of-values_of, length-bytes_of, 
 use Rattle.ncc_schema.specs.declared.schema.Schema.{Schema}
 use Rattle.ncc_build.specs.Dataset.{Dataset, IsDataset, data_of}
 use Rattle.ncc_build.specs.File.{file_of}
-use Rattle.ncc_build.specs.Fill.{same_type}
 use Rattle.ncc_build.specs.declared.fault.WriteFault.{WriteFault}
-use Rattle.ncc_build.specs.declared.fault.WriteFault.TheVariants.{Device, Failed, TooManyValues, WrongType}
+use Rattle.ncc_build.specs.declared.fault.WriteFault.TheVariants.{Device}
 use Rattle.ncc_write.specs.Laws.{OutIsInFiles}
 use Rattle.ncc_write.specs.Outlet.{waiting}
 use Rattle.ncc_write.specs.Writer.{Stands}
-use Rattle.ncc_write.specs.Writing.{IsAnswer, IsFront, IsFrontOfFiles, IsOutBy, Next, Standing, Went, next_of, refuses_next, refuses_put}
+use Rattle.ncc_write.specs.Writing.{IsAnswer, IsFront, IsFrontOfFiles, IsOutBy, Next, Standing, Went, next_of, refuses_put}
 use Rattle.ncc_write.specs.declared.writer.FileWriter.{FileWriter}
+use Rattle.ncc_write.proofs.Refusing.{taken}
 
 -- ---- a piece isn't refused
-
-same_types : (t u : XType) → t ≡ u → same_type t u ≡ true
-same_types t u e = ap (λ (v : XType). same_type v u) e ∙ eq-eqb (code_of u) (code_of u) refl
-
-not_refused : (w : Standing) (v : Values) (n : Next) → w.failed ≡ false → next_of w.schema w.taken ≡ Some n
-    → type_of v ≡ n.slab.var.xtype → count_of v ≤ n.left → refuses_put w v ≡ None
-not_refused w v n goes next typed few =
-    ap (λ (b : Bool). if b then Some Failed else refuses_next (next_of w.schema w.taken) v) goes
-    ∙ ap (λ (o : Option Next). refuses_next o v) next
-    ∙ ap (λ (b : Bool). if not b then Some WrongType else if ltb n.left (count_of v) then Some TooManyValues else None)
-    (same_types (type_of v) n.slab.var.xtype typed)
-    ∙ ap (λ (b : Bool). if b then Some TooManyValues else None) (le-ltb n.left (count_of v) few)
 
 -- so an error is the sink's
 pub device_is : (w : Standing) (t : XType) (k : ℕ) (piece : List ℕ) (n : Next) → w.failed ≡ false
@@ -43,7 +29,7 @@ device_is w t k piece n goes next typed long few e answer =
     let v = values_of t piece in
     let count : count_of v ≡ k = count_of-values_of t k piece long in
     subst (λ (o : Option WriteFault). IsAnswer {T = Unit {0}} (λ (f : WriteFault). f) o (Err e))
-    (not_refused w v n goes next (type_of-values_of t piece ∙ typed) (omega (arith, count, few))) answer
+    (taken w v goes n next (type_of-values_of t piece ∙ typed) (omega (arith, count, few))) answer
 
 -- ---- how many bytes
 

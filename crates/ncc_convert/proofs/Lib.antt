@@ -4,3 +4,6 @@ mod Pieces
 mod Going
 mod Moved
 mod Ending
+mod FoundData
+mod PieceCounts
+mod PiecesLeft

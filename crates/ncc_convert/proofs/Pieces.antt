@@ -11,7 +11,7 @@ use Rattle.ncc_values.specs.declared.values.Values.{Values}
 use Rattle.ncc_values.specs.declared.xtype.XType.{XType}
 use Rattle.ncc_values.proofs.ValuesLemmas.{bytes-bytes_of, bytes_of-values_of}
 use Rattle.ncc_schema.specs.declared.schema.Schema.{Schema}
-use Rattle.ncc_schema.specs.Schema.{Place, Sound}
+use Rattle.ncc_schema.specs.Schema.{Place}
 use Rattle.ncc_layout.specs.declared.placed_file.Placed.{Placed}
 use Rattle.ncc_layout.specs.declared.placed_var.PlacedVar.{PlacedVar}
 use Rattle.ncc_layout.specs.Elements.{Inside, placed_with, var_at}
@@ -20,29 +20,20 @@ use Rattle.ncc_layout.specs.Plans.{known}
 use Rattle.ncc_layout.specs.Sizes.{slab}
 use Rattle.ncc_check.specs.Checks.{StandsIn}
 use Rattle.ncc_slab.specs.SlabPlaces.{slab_begin}
-use Rattle.ncc_build.specs.Dataset.{Dataset, IsDataset, as_version, data_of}
+use Rattle.ncc_build.specs.Dataset.{Dataset, IsDataset, data_of}
 use Rattle.ncc_write.specs.declared.writer.FileWriter.{FileWriter}
 use Rattle.ncc_write.specs.Holds.{bytes_at, stored_at, value_at, vars_of as vars_of_dataset}
 use Rattle.ncc_write.specs.Writer.{schema_in}
 use Rattle.ncc_write.specs.Writing.{IsFront, IsWhole, Standing, next_of}
 use Rattle.ncc_write.proofs.FileSlabs.{read_there, slab_is_held}
 use Rattle.ncc_write.proofs.NextPieces.{ComesFrom, comes_from}
+use Rattle.ncc_write.proofs.Taking.{bytes_behind, bytes_first}
 use Rattle.ncc_convert.specs.Copying.{Copies, Expects}
 use Rattle.ncc_convert.specs.Found.{IsOf, IsPlanned}
 use Rattle.ncc_convert.proofs.Facing.{Faces, faces, planned_is}
-use Rattle.ncc_convert.proofs.Planned.{is_version, many, places, vars_are, version_schema}
+use Rattle.ncc_convert.proofs.Planned.{many, places, vars_are}
 
 -- ---- bytes
-
-bytes_first : (n : ℕ) (bytes : List ℕ) → IsBytes bytes → IsBytes (take n bytes)
-bytes_first zero bytes are = tt
-bytes_first (suc n) [] are = tt
-bytes_first (suc n) (b ∷ bytes) are = (are.0, bytes_first n bytes are.1)
-
-bytes_behind : (n : ℕ) (bytes : List ℕ) → IsBytes bytes → IsBytes (drop n bytes)
-bytes_behind zero bytes are = are
-bytes_behind (suc n) [] are = tt
-bytes_behind (suc n) (b ∷ bytes) are = bytes_behind n bytes are.1
 
 -- with the next bytes a front is a longer front
 front_grows : (front whole piece : List ℕ) (m : ℕ) → IsFront front whole → piece ≡ take m (drop (length front) whole)
@@ -62,8 +53,8 @@ front_grows front whole piece m (rest, joined) is =
 
 module _ {W : Type 0} (b tells : Bool) (file : List ℕ) (s : Schema) (p : Placed) (start put : Option (List ℕ))
     (x : FileWriter W) (stands : ∥ StandsIn b file s p ∥₁) (planned : IsPlanned s p (schema_in x))
-    (copies : Copies tells file s p start put x) (var number left : ℕ) (next : Expects put x var number left)
-    (d : Dataset) (is : IsDataset d) (of : IsOf file s p d) (sound : Sound copies.standing.schema)
+    (copies : Copies tells file p start put x) (var number left : ℕ) (next : Expects put x var number left)
+    (d : Dataset) (is : IsDataset d) (of : IsOf file p copies.standing.schema d)
     (room : slab_begin (record_size_of_file p) (var_at (vars_of p) var) number + (var_at (vars_of p) var).extent.slab
     ≤ length file) where
   abbrev w : Standing
@@ -81,14 +72,11 @@ module _ {W : Type 0} (b tells : Bool) (file : List ℕ) (s : Schema) (p : Place
   planned_w : IsPlanned s p w.schema
   planned_w = planned_is b tells file s p start put x stands planned copies
 
-  abbrev e : Dataset
-  e = as_version d w.schema.version
+  same : d.schema ≡ w.schema
+  same = of.schema_is
 
-  same : e.schema ≡ w.schema
-  same = version_schema b file s p w.schema planned_w d of
-
-  from : ComesFrom e (drop (length w.taken) (data_of e)) f.n
-  from = comes_from e w.taken f.n (is_version b file s p w.schema planned_w d is of sound)
+  from : ComesFrom d (drop (length w.taken) (data_of d)) f.n
+  from = comes_from d w.taken f.n is
       (subst (λ (u : Schema). next_of u w.taken ≡ Some f.n) (sym same) f.next_is)
       (subst (λ (u : Schema). IsWhole u w.taken) (sym same) (copies.stands.whole copies.goes))
 
@@ -108,16 +96,16 @@ module _ {W : Type 0} (b tells : Bool) (file : List ℕ) (s : Schema) (p : Place
   held_by : (st : StandsIn b file s p) → IsHeld (var_at (vars_of p) f.n.slab.number) f.n.slab.in_record
   held_by st fits =
       let l = places b file s p w.schema planned_w st in
-      let vars : vars_of p ≡ vars_of_dataset e l = vars_are b file s p w.schema planned_w st
+      let vars : vars_of p ≡ vars_of_dataset d l = vars_are b file s p w.schema planned_w st
       ∙ ap (λ (u : Schema). placed_with u l (known u.count)) (sym same) in
       subst (λ (vs : List PlacedVar). slab_begin (record_size_of_file p) (var_at vs f.n.slab.number) f.n.slab.in_record
       + (var_at vs f.n.slab.number).extent.slab ≤ length file
       → ((index : List ℕ) → Inside (var_at vs f.n.slab.number).shape index
       → stored_at file (record_size_of_file p) (var_at vs f.n.slab.number) index
-      ≡ value_at e (var_at vs f.n.slab.number) f.n.slab.number index)
+      ≡ value_at d (var_at vs f.n.slab.number) f.n.slab.number index)
       → bytes_at file (slab_begin (record_size_of_file p) (var_at vs f.n.slab.number) f.n.slab.in_record)
       (var_at vs f.n.slab.number).extent.slab ≡ bytes_of from.values) (sym vars)
-      (slab_is_held file (record_size_of_file p) e f.n.slab from.values from.has l
+      (slab_is_held file (record_size_of_file p) d f.n.slab from.values from.has l
       (many b file s p w.schema planned_w st ∙ ap (λ (u : Schema). length u.vars) (sym same))) fits
       (λ index inside. of.values f.n.slab.number index below inside)
 
@@ -134,7 +122,7 @@ module _ {W : Type 0} (b tells : Bool) (file : List ℕ) (s : Schema) (p : Place
       ∙ ap (λ (t : XType). f.offset + left * size_of t) (sym f.xtype_is) ∙ f.left_are ∙ f.slab_is in
       omega (arith, from.left_are, left_is, ap (λ (u : Schema). slab u.dims f.n.slab.var) same)
 
-  size_is : slab e.schema.dims f.n.slab.var ≡ y.extent.slab
+  size_is : slab d.schema.dims f.n.slab.var ≡ y.extent.slab
   size_is = ap (λ (u : Schema). slab u.dims f.n.slab.var) same ∙ sym f.slab_is
 
   in_values : (m : ℕ) → f.offset + m ≤ y.extent.slab

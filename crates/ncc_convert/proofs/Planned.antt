@@ -5,17 +5,17 @@ use Rattle.std.proofs.Props.{props}
 use Rattle.ncc_values.specs.declared.version.Version.{Version}
 use Rattle.ncc_values.specs.declared.xtype.XType.{XType}
 use Rattle.ncc_schema.specs.declared.schema.Schema.{Schema}
-use Rattle.ncc_schema.specs.Schema.{Place, Sound, is_record_var, places_of, with_count}
+use Rattle.ncc_schema.specs.Schema.{Place, is_record_var, places_of, with_count}
 use Rattle.ncc_layout.specs.declared.placed_file.Placed.{Placed}
 use Rattle.ncc_layout.specs.Elements.{placed_with, var_at}
 use Rattle.ncc_layout.specs.Placed.{records_of_file, vars_of}
 use Rattle.ncc_layout.specs.Plans.{known}
 use Rattle.ncc_layout.specs.Sizes.{slab}
 use Rattle.ncc_check.specs.Checks.{StandsIn}
-use Rattle.ncc_build.specs.Dataset.{Dataset, IsDataset, Slab, as_version, with_version}
+use Rattle.ncc_build.specs.Dataset.{Slab, with_version}
 use Rattle.ncc_write.proofs.FileSlabs.{PlacedSlab, placed_slab}
 use Rattle.ncc_write.proofs.SlabsAt.{IsAmong}
-use Rattle.ncc_convert.specs.Found.{IsOf, IsPlanned, found_schema}
+use Rattle.ncc_convert.specs.Found.{IsPlanned, found_schema}
 
 module _ (b : Bool) (file : List ℕ) (s : Schema) (p : Placed) (t : Schema) (planned : IsPlanned s p t) where
   module _ (stands : StandsIn b file s p) where
@@ -49,21 +49,6 @@ module _ (b : Bool) (file : List ℕ) (s : Schema) (p : Placed) (t : Schema) (pl
 
     pub var_record : (var_at (vars_of p) c.number).extent.is_record ≡ is_record_var t.dims c.var
     var_record = ∥∥₁_elim stands (hlevel props) (λ (st : StandsIn b file s p). (placed_by st c among).record_is)
-
-  -- ---- the dataset in the planned version
-
-  pub version_schema : (d : Dataset) → IsOf file s p d → (as_version d t.version).schema ≡ t
-  version_schema d of = ap (λ (u : Schema). with_version u t.version) of.schema_is ∙ sym planned
-
-  pub is_version : (d : Dataset) → IsDataset d → IsOf file s p d → Sound t → IsDataset (as_version d t.version)
-  is_version d is of sound = record {
-    sound = subst Sound (sym (version_schema d of)) sound;
-    typed = record { dims = is.typed.dims; gatts = is.typed.gatts; vars = is.typed.vars };
-    counted = is.counted;
-    fixed = is.fixed;
-    records_number = is.records_number;
-    records = is.records;
-  }
 
 -- a schema with these versions and counts is planned
 pub planned_so : (s : Schema) (p : Placed) (v : Version) (t : Schema) → t ≡ with_count (with_version s v) (records_of_file p)

@@ -4,7 +4,7 @@ use Rattle.ncc_values.specs.Failures.{Rose}
 use Rattle.ncc_schema.specs.Device.{Puts}
 use Rattle.ncc_schema.specs.declared.schema.Schema.{Schema}
 use Rattle.ncc_layout.specs.declared.placed_file.Placed.{Placed}
-use Rattle.ncc_build.specs.Dataset.{Dataset, IsDataset, as_version}
+use Rattle.ncc_build.specs.Dataset.{Dataset, IsDataset}
 use Rattle.ncc_build.specs.File.{file_of, header_of}
 use Rattle.ncc_build.specs.declared.fault.WriteFault.{WriteFault}
 use Rattle.ncc_build.specs.declared.fault.WriteFault.TheVariants as write
@@ -15,22 +15,25 @@ use Rattle.ncc_convert.specs.Found.{IsOf}
 use Rattle.ncc_convert.specs.declared.converting.Fault.{Fault}
 use Rattle.ncc_convert.specs.declared.converting.Fault.TheVariants.{Device, Memory}
 
--- exactly the file of the dataset in the planned version went out
-pub record HasFile (told : Bool) (file : List ℕ) (s : Schema) (p : Placed) (planned : Schema)
-    (start put : Option (List ℕ)) : Type 0 where
-  pub is : IsTrue told → (d : Dataset) → IsDataset d → IsOf file s p d
-      → Puts start put (file_of (as_version d planned.version))
+-- exactly the file of the dataset by the planned schema went out
+pub record HasFile (told : Bool) (file : List ℕ) (p : Placed) (planned : Schema) (start put : Option (List ℕ))
+    : Type 0 where
+  pub is : IsTrue told → (d : Dataset) → IsDataset d → IsOf file p planned d → Puts start put (file_of d)
 
 -- by the answer
-abbrev pub ConvertsAs : (told : Bool) → (file : List ℕ) → Schema → Placed → (planned : Schema)
+abbrev pub ConvertsAs : (told : Bool) → (file : List ℕ) → Placed → (planned : Schema)
     → (start put : Option (List ℕ)) → Result (Unit {0}) Fault → Type 0
-ConvertsAs told file s p t start put (Ok x) = HasFile told file s p t start put
-ConvertsAs told file s p t start put (Err e) = HasFront told file s p t start put
+ConvertsAs told file p t start put (Ok x) = HasFile told file p t start put
+ConvertsAs told file p t start put (Err e) = HasFront told file p t start put
 
 -- what went out passes without a note, and whoever reads it reads what was written
 pub record IsWhole (t : Schema) (limit : ℕ) (out : List ℕ) : Type 0 where
   pub taken : List ℕ
   pub passes : PassesAndReads (dataset_of t taken) t out limit
+
+-- it reads back as the dataset of the open file
+pub record ReadsAs (told : Bool) (file : List ℕ) (p : Placed) (t : Schema) (limit : ℕ) (out : List ℕ) : Type 0 where
+  pub is : IsTrue told → (d : Dataset) → IsDataset d → IsOf file p t d → ∥ PassesAndReads d t out limit ∥₁
 
 -- a failure of the device is counted, of the store or of the sink, and nothing else
 abbrev pub ConvertCounts : (old_store new_store old_sink new_sink : ℕ) → Result (Unit {0}) Fault → Type 0

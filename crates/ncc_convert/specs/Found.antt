@@ -15,9 +15,9 @@ use Rattle.ncc_write.specs.Holds.{bytes_at, stored_at, value_at}
 abbrev pub found_schema : Schema → Placed → Schema
 found_schema s p = with_count s (records_of_file p)
 
--- the dataset of an open file: it has this schema, and the bytes of each element are those of its value
-pub record IsOf (file : List ℕ) (s : Schema) (p : Placed) (d : Dataset) : Type 0 where
-  pub schema_is : d.schema ≡ found_schema s p
+-- the dataset of an open file, by this schema: the bytes of each element in the file are those of its value
+pub record IsOf (file : List ℕ) (p : Placed) (t : Schema) (d : Dataset) : Type 0 where
+  pub schema_is : d.schema ≡ t
   pub values : (n : ℕ) (index : List ℕ) → n < length d.schema.vars → Inside (var_at (vars_of p) n).shape index
       → stored_at file (record_size_of_file p) (var_at (vars_of p) n) index ≡ value_at d (var_at (vars_of p) n) n index
 
@@ -30,6 +30,6 @@ abbrev pub slab_bytes : (file : List ℕ) → Placed → Slab → List ℕ
 slab_bytes file p b =
     let x = placed_of_slab p b in bytes_at file (slab_begin (record_size_of_file p) x b.in_record) x.extent.slab
 
--- a schema that says the same in its own version
+-- a schema that says the same as an open file's in its own version
 abbrev pub IsPlanned : Schema → Placed → (planned : Schema) → Type 0
 IsPlanned s p t = t ≡ with_version (found_schema s p) t.version

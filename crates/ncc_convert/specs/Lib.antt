@@ -1,3 +1,4 @@
 pub mod Found
 pub mod Copying
 pub mod Converting
+pub mod Lines

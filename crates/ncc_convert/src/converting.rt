@@ -1,17 +1,18 @@
 //! Writes the dataset of an open file in the version of a planned schema.
 
-ghost use Rattle.std.specs.Prelude.{◌≡◌, ◌≤◌, max, ℕ, Err, length, OnOk};
+ghost use Rattle.std.specs.Prelude.{◌≡◌, ◌+◌, ◌≤◌, max, ℕ, Err, length, OnOk};
 ghost use Rattle.ncc_build.specs.Builds.{schema_of as planned_schema};
+ghost use Rattle.ncc_build.specs.Dataset.{slabs_of};
 ghost use Rattle.ncc_build.specs.File.{header_of};
 ghost use Rattle.ncc_store.specs.Store.{Unmoved, KeepsImages};
 ghost use Rattle.ncc_layout.specs.Placed.{file_length_of};
 ghost use Rattle.ncc_check.specs.Files.{store_of, schema_of, placed_of, must_reopen};
 ghost use Rattle.ncc_write.specs.Writing.{Went};
-ghost use Rattle.ncc_convert.specs.Converting.{ConvertCounts, ConvertsAs, IsWhole, fault_of};
+ghost use Rattle.ncc_convert.specs.Converting.{ConvertCounts, ConvertsAs, IsWhole, ReadsAs, fault_of};
+ghost use Rattle.ncc_convert.specs.Copying.{pieces_of};
 ghost use Rattle.ncc_convert.specs.Found.{IsPlanned};
 
 use crate::copying::copy_all;
-use ncc_build::laws::built_is_writable;
 use ncc_check::NcFile;
 use ncc_schema::Sink;
 use ncc_store::Store;
@@ -43,7 +44,7 @@ fn fault_of(fault: WriteFault) -> Fault
 }
 
 /// Writes the file of what an open file holds, by a schema that says the same, in the schema's version. The slabs are
-/// read as the writer expects them, 65,536 bytes at most by a call of the store, and go out by their bytes. After an `Err`
+/// read as the writer expects them, each in pieces of 65,536 bytes, and go out by their bytes. After an `Err`
 /// a beginning of the file went out, after `Memory` nothing; all memory is taken before. The sink comes back.
 pub fn convert<S: Store, W: Sink + Drop>(
     alloc: Global,
@@ -52,10 +53,13 @@ pub fn convert<S: Store, W: Sink + Drop>(
     sink: W,
 ) -> (W, Result<(), Fault>)
     requires planned { IsPlanned (schema_of file.old) (placed_of file.old) (planned_schema built) }
-    ensures converts { ConvertsAs S.tells_bytes (S.bytes (store_of file.old)) (schema_of file.old) (placed_of file.old)
+    ensures converts { ConvertsAs S.tells_bytes (S.bytes (store_of file.old)) (placed_of file.old)
         (planned_schema built) (W.put sink) (W.put result.0) result.1 }
     ensures whole { OnOk result.1 ((limit : ℕ) → length (header_of (planned_schema built)) ≤ limit
         → Went (W.put sink) (W.put result.0) (λ out. ∥ IsWhole (planned_schema built) limit out ∥₁)) }
+    ensures reads { OnOk result.1 ((limit : ℕ) → length (header_of (planned_schema built)) ≤ limit
+        → Went (W.put sink) (W.put result.0) (ReadsAs S.tells_bytes (S.bytes (store_of file.old))
+        (placed_of file.old) (planned_schema built) limit)) }
     ensures memory { result.1 ≡ Err Fault.Memory → result.0 ≡ sink }
     ensures schema { schema_of file.new ≡ schema_of file.old }
     ensures placed { placed_of file.new ≡ placed_of file.old }
@@ -64,10 +68,11 @@ pub fn convert<S: Store, W: Sink + Drop>(
     ensures kept { KeepsImages (S.images (store_of file.old)) (S.images (store_of file.new)) }
     ensures count { ConvertCounts (S.failures (store_of file.old)) (S.failures (store_of file.new))
         (W.failures sink) (W.failures result.0) result.1 }
+    ensures calls { S.calls (store_of file.new) ≤ S.calls (store_of file.old)
+        + pieces_of (planned_schema built) (slabs_of (planned_schema built)) }
     ensures reach { S.reach (store_of file.new)
         ≤ max (S.reach (store_of file.old)) (file_length_of (placed_of file.old)) }
 {
-    built_is_writable(&built);
     dataset_told();
     complete_when_taken();
     headline();

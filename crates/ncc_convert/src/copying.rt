@@ -1,14 +1,13 @@
 //! Copies the slabs of an open file to a writer.
 
-ghost use Rattle.std.specs.Prelude.{◌≡◌, ◌⊎◌, ◌<◌, ◌≤◌, max, ℕ, List, Option, None, length, IsOk, OnOk, OnErr};
+ghost use Rattle.std.specs.Prelude.{◌≡◌, ◌⊎◌, ◌+◌, ◌<◌, ◌≤◌, max, ℕ, List, Option, None, length, IsOk, OnOk, OnErr};
 ghost use Rattle.ncc_values.specs.Failures.{Rose};
 ghost use Rattle.ncc_store.specs.Store.{Unmoved, KeepsImages};
 ghost use Rattle.ncc_layout.specs.Placed.{file_length_of};
-ghost use Rattle.ncc_build.specs.Building.{IsBuilt};
 ghost use Rattle.ncc_check.specs.Files.{store_of, schema_of, placed_of, must_reopen};
 ghost use Rattle.ncc_write.specs.Writer.{schema_in, sink_in, taken_in, Stands};
 ghost use Rattle.ncc_write.specs.Writing.{data_length, expected, Standing};
-ghost use Rattle.ncc_convert.specs.Copying.{Copies, CopyCounts, Expects, HasFront};
+ghost use Rattle.ncc_convert.specs.Copying.{Copies, CopyCounts, Expects, HasFront, pieces_left};
 ghost use Rattle.ncc_convert.specs.Found.{IsPlanned};
 
 use ncc_check::NcFile;
@@ -31,20 +30,20 @@ fn copy_piece<S: Store, W: Sink>(
 ) -> Result<(), Failed>
     requires room { length buffer.old ≡ 65536 }
     requires planned { IsPlanned (schema_of file.old) (placed_of file.old) (schema_in writer.old) }
-    requires built { ∥ IsBuilt (schema_in writer.old) ∥₁ }
-    requires copies { (start : Option (List ℕ)) × Copies S.tells_bytes (S.bytes (store_of file.old))
-        (schema_of file.old) (placed_of file.old) start (W.put (sink_in writer.old)) writer.old }
+    requires copies { (start : Option (List ℕ)) × Copies S.tells_bytes (S.bytes (store_of file.old)) (placed_of file.old)
+        start (W.put (sink_in writer.old)) writer.old }
     requires next { Expects (W.put (sink_in writer.old)) writer.old var number left }
-    ensures copies { (start : Option (List ℕ)) → Copies S.tells_bytes (S.bytes (store_of file.old))
-        (schema_of file.old) (placed_of file.old) start (W.put (sink_in writer.old)) writer.old
-        → OnOk result (Copies S.tells_bytes (S.bytes (store_of file.old)) (schema_of file.old) (placed_of file.old)
+    ensures copies { (start : Option (List ℕ)) → Copies S.tells_bytes (S.bytes (store_of file.old)) (placed_of file.old)
+        start (W.put (sink_in writer.old)) writer.old → OnOk result (Copies S.tells_bytes (S.bytes (store_of file.old)) (placed_of file.old)
         start (W.put (sink_in writer.new)) writer.new) }
-    ensures stops { (start : Option (List ℕ)) → Copies S.tells_bytes (S.bytes (store_of file.old))
-        (schema_of file.old) (placed_of file.old) start (W.put (sink_in writer.old)) writer.old
-        → OnErr result (HasFront S.tells_bytes (S.bytes (store_of file.old)) (schema_of file.old) (placed_of file.old)
+    ensures stops { (start : Option (List ℕ)) → Copies S.tells_bytes (S.bytes (store_of file.old)) (placed_of file.old)
+        start (W.put (sink_in writer.old)) writer.old → OnErr result (HasFront S.tells_bytes (S.bytes (store_of file.old)) (placed_of file.old)
         (schema_in writer.old) start (W.put (sink_in writer.new))) }
     ensures before { taken_in writer.old < data_length (schema_in writer.old) }
     ensures more { OnOk result (taken_in writer.old < taken_in writer.new) }
+    ensures some { 1 ≤ pieces_left writer.old }
+    ensures fewer { OnOk result (pieces_left writer.new + 1 ≤ pieces_left writer.old) }
+    ensures calls { S.calls (store_of file.new) ≤ S.calls (store_of file.old) + 1 }
     ensures planned { schema_in writer.new ≡ schema_in writer.old }
     ensures room { length buffer.new ≡ length buffer.old }
     ensures schema { schema_of file.new ≡ schema_of file.old }
@@ -89,16 +88,13 @@ pub(crate) fn copy_all<S: Store, W: Sink>(
 ) -> Result<(), Failed>
     requires room { length buffer.old ≡ 65536 }
     requires planned { IsPlanned (schema_of file.old) (placed_of file.old) (schema_in writer.old) }
-    requires built { ∥ IsBuilt (schema_in writer.old) ∥₁ }
-    requires copies { (start : Option (List ℕ)) × Copies S.tells_bytes (S.bytes (store_of file.old))
-        (schema_of file.old) (placed_of file.old) start (W.put (sink_in writer.old)) writer.old }
-    ensures copies { (start : Option (List ℕ)) → Copies S.tells_bytes (S.bytes (store_of file.old))
-        (schema_of file.old) (placed_of file.old) start (W.put (sink_in writer.old)) writer.old
-        → OnOk result (Copies S.tells_bytes (S.bytes (store_of file.old)) (schema_of file.old) (placed_of file.old)
+    requires copies { (start : Option (List ℕ)) × Copies S.tells_bytes (S.bytes (store_of file.old)) (placed_of file.old)
+        start (W.put (sink_in writer.old)) writer.old }
+    ensures copies { (start : Option (List ℕ)) → Copies S.tells_bytes (S.bytes (store_of file.old)) (placed_of file.old)
+        start (W.put (sink_in writer.old)) writer.old → OnOk result (Copies S.tells_bytes (S.bytes (store_of file.old)) (placed_of file.old)
         start (W.put (sink_in writer.new)) writer.new) }
-    ensures stops { (start : Option (List ℕ)) → Copies S.tells_bytes (S.bytes (store_of file.old))
-        (schema_of file.old) (placed_of file.old) start (W.put (sink_in writer.old)) writer.old
-        → OnErr result (HasFront S.tells_bytes (S.bytes (store_of file.old)) (schema_of file.old) (placed_of file.old)
+    ensures stops { (start : Option (List ℕ)) → Copies S.tells_bytes (S.bytes (store_of file.old)) (placed_of file.old)
+        start (W.put (sink_in writer.old)) writer.old → OnErr result (HasFront S.tells_bytes (S.bytes (store_of file.old)) (placed_of file.old)
         (schema_in writer.old) start (W.put (sink_in writer.new))) }
     ensures all { OnOk result ((start : Option (List ℕ)) (w : Standing)
         → Stands start (W.put (sink_in writer.new)) writer.new w → None ≡ expected w) }
@@ -110,6 +106,7 @@ pub(crate) fn copy_all<S: Store, W: Sink>(
     ensures kept { KeepsImages (S.images (store_of file.old)) (S.images (store_of file.new)) }
     ensures count { CopyCounts (S.failures (store_of file.old)) (S.failures (store_of file.new))
         (W.failures (sink_in writer.old)) (W.failures (sink_in writer.new)) result }
+    ensures calls { S.calls (store_of file.new) ≤ S.calls (store_of file.old) + pieces_left writer.old }
     ensures reach { S.reach (store_of file.new)
         ≤ max (S.reach (store_of file.old)) (file_length_of (placed_of file.old)) }
 {

@@ -3,8 +3,11 @@
 
 mod converting;
 mod copying;
+pub mod laws;
+mod lines;
 
 pub use converting::{Fault, convert};
+pub use lines::{send_converted, send_plan_refusal};
 
 #[cfg(test)]
 mod tests;

@@ -1,5 +1,8 @@
 //! Files in another version, byte for byte, and sinks that fail.
 
+mod memory;
+mod plans;
+
 use super::*;
 use ncc_check::open;
 use ncc_files::{

@@ -6,17 +6,17 @@ mod Rounds
 mod Positions
 mod Courses
 mod Going
-mod Refusing
+pub mod Refusing
 mod AllFills
 mod Ends
 mod BuiltFacts
 mod ReadBack
 mod Laying
 mod Telling
-mod Taking
-mod Ending
+pub mod Taking
+pub mod Ending
 mod Fronts
-mod Growing
+pub mod Growing
 mod OpenSizes
 mod Parts
 mod Paddings
@@ -44,8 +44,8 @@ mod PackedRecords
 mod GrownFiles
 mod StillRead
 mod FoundSlabs
-mod FoundDatasets
-mod FoundValues
+pub mod FoundDatasets
+pub mod FoundValues
 mod OpenedDatasets
 pub mod SlabsAt
 pub mod NextSlabs

@@ -14,7 +14,7 @@ use Rattle.ncc_write.proofs.Paddings.{type_is}
 
 -- ---- types
 
-is_same : (t u : XType) → t ≡ u → same_type t u ≡ true
+pub is_same : (t u : XType) → t ≡ u → same_type t u ≡ true
 is_same t u e = ap (λ (v : XType). same_type v u) e ∙ eq-eqb (code_of u) (code_of u) refl
 
 by_types : (t u : XType) (b : Bool) → same_type t u ≡ b → (t ≡ u → ⊥) → same_type t u ≡ false
@@ -54,7 +54,7 @@ module _ (w : Standing) (values : Values) (stands : w.failed ≡ false) where
         subst (λ (o : Option WriteFault). Answer o (Err TooManyValues))
         (sym (by_next w values (Some n) stands next ∙ judges n values true true (is_same (type_of values) n.slab.var.xtype same) (lt-ltb n.left (count_of values) many))) refl
 
-    taken : type_of values ≡ n.slab.var.xtype → count_of values ≤ n.left → refuses_put w values ≡ None
+    pub taken : type_of values ≡ n.slab.var.xtype → count_of values ≤ n.left → refuses_put w values ≡ None
     taken same room = by_next w values (Some n) stands next ∙ judges n values true false (is_same (type_of values) n.slab.var.xtype same) (le-ltb n.left (count_of values) room)
 
     pub takes : type_of values ≡ n.slab.var.xtype → count_of values ≤ n.left → (x : Unit {0}) → Answer (refuses_put w values) (Ok x)

@@ -3,10 +3,8 @@ use Rattle.std.proofs.Math.Logic.{∥∥₁_map}
 use Rattle.ncc_values.specs.Failures.{Rose}
 use Rattle.ncc_schema.specs.Device.{Puts}
 use Rattle.ncc_schema.specs.declared.schema.Schema.{Schema}
-use Rattle.ncc_schema.specs.Schema.{Sound}
-use Rattle.ncc_build.proofs.SoundProps.{sound_of}
 use Rattle.ncc_build.specs.Builds.{schema_of as planned_schema}
-use Rattle.ncc_build.specs.Dataset.{as_version, data_of}
+use Rattle.ncc_build.specs.Dataset.{Dataset, IsDataset, data_of}
 use Rattle.ncc_build.specs.File.{file_of, header_of}
 use Rattle.ncc_check.specs.Files.{store_of, schema_of, placed_of}
 use Rattle.ncc_write.specs.Laws.{IsCompleted}
@@ -16,8 +14,9 @@ use Rattle.ncc_convert.specs.Copying.{Copies, HasFront}
 use Rattle.ncc_convert.specs.Converting.{ConvertCounts, IsWhole}
 use Rattle.ncc_convert.specs.declared.converting.Fault.{Fault}
 use Rattle.ncc_convert.specs.declared.converting.Fault.TheVariants.{Memory}
-use Rattle.ncc_convert.proofs.Ending.{all_taken, is_the_file, not_unfinished, nothing_next, nothing_went, error_is, start_counts, start_failed, start_memory, whole_file}
-use Rattle.ncc_convert.proofs.Planned.{is_version, version_schema}
+use Rattle.ncc_convert.specs.Found.{IsOf}
+use Rattle.ncc_convert.proofs.Ending.{all_taken, is_the_file, not_unfinished, nothing_next, nothing_went, error_is, start_counts, start_failed, start_memory, whole_file, reads_as}
+use Rattle.ncc_convert.proofs.PiecesLeft.{at_start}
 use Rattle.ncc_convert.proofs.converting.convert.Goals as goal
 
 pub returns-in-Err-clause-converts : goal.returns-in-Err-clause-converts
@@ -29,7 +28,7 @@ returns-in-Err-clause-converts g c =
     let tells = g.S.Store.tells_bytes in
     let t = planned_schema c.args.built in
     let start = g.W.Sink.put c.args.sink in
-    (start_failed tells bytes s p t c.requires.planned start (g.W.Sink.put c.in-Err.sink) (g.W.Sink.failures c.args.sink) (g.W.Sink.failures c.in-Err.sink) c.in-Err.fault c.in-Err.ensures.refused)
+    (start_failed tells bytes p t start (g.W.Sink.put c.in-Err.sink) (g.W.Sink.failures c.args.sink) (g.W.Sink.failures c.in-Err.sink) c.in-Err.fault c.in-Err.ensures.refused)
 
 pub returns-in-Err-clause-memory : goal.returns-in-Err-clause-memory
 returns-in-Err-clause-memory g c =
@@ -66,7 +65,7 @@ returns-in-Ok-finish-clause-converts g c =
     let start = g.W.Sink.put c.args.sink in
     let x = c.in-Ok-start.writer in
     let stands = c.in-Ok-start.ensures.stands in
-    let first : Copies tells bytes s p start (g.W.Sink.put (sink_in x)) x = record {
+    let first : Copies tells bytes p start (g.W.Sink.put (sink_in x)) x = record {
       standing = starting t;
       stands = stands;
       goes = refl;
@@ -77,15 +76,12 @@ returns-in-Ok-finish-clause-converts g c =
     let w = last.standing in
     let schema_is : w.schema ≡ t = sym last.stands.schema ∙ c.copy_all.ensures.planned ∙ stands.schema in
     let none = nothing_next w last.goes (c.in-Ok-copy_all.ensures.all start w last.stands) in
-    let sound : Sound t = sound_of t c.built_is_writable.ensures.built in
     let went = c.in-Ok-finish.ensures.file start w last.stands in
     record {
       is = λ told d is of.
-          let e = as_version d t.version in
-          let e_is = is_version tells bytes s p t c.requires.planned d is of sound in
-          let same : e.schema ≡ w.schema = version_schema tells bytes s p t c.requires.planned d of ∙ sym schema_is in
-          let taken = all_taken e e_is w same (last.front told d is of) c.complete_when_taken.ensures none in
-          subst (Puts start (g.W.Sink.put c.in-Ok-finish.sink)) (is_the_file e e_is w same taken c.dataset_told.ensures went.0 went.2) went.1;
+          let of_w = subst (λ (u : Schema). IsOf bytes p u d) (sym schema_is) of in
+          let taken = all_taken d is w of_w.schema_is (last.front told d is of_w) c.complete_when_taken.ensures none in
+          subst (Puts start (g.W.Sink.put c.in-Ok-finish.sink)) (is_the_file d is w of_w.schema_is taken c.dataset_told.ensures went.0 went.2) went.1;
     }
 
 pub returns-in-Ok-finish-clause-whole : goal.returns-in-Ok-finish-clause-whole
@@ -99,7 +95,7 @@ returns-in-Ok-finish-clause-whole g c =
     let start = g.W.Sink.put c.args.sink in
     let x = c.in-Ok-start.writer in
     let stands = c.in-Ok-start.ensures.stands in
-    let first : Copies tells bytes s p start (g.W.Sink.put (sink_in x)) x = record {
+    let first : Copies tells bytes p start (g.W.Sink.put (sink_in x)) x = record {
       standing = starting t;
       stands = stands;
       goes = refl;
@@ -117,6 +113,40 @@ returns-in-Ok-finish-clause-whole g c =
       whole_file t limit w.taken went.0 c.headline.ensures.completed enough (subst (λ (u : Schema). ∥ IsCompleted u w.taken went.0 ∥₁) schema_is went.2),
     )
 
+pub returns-in-Ok-finish-clause-reads : goal.returns-in-Ok-finish-clause-reads
+returns-in-Ok-finish-clause-reads g c =
+    let file = c.args.file.now in
+    let s = schema_of file in
+    let p = placed_of file in
+    let bytes = g.S.Store.bytes (store_of file) in
+    let tells = g.S.Store.tells_bytes in
+    let t = planned_schema c.args.built in
+    let start = g.W.Sink.put c.args.sink in
+    let x = c.in-Ok-start.writer in
+    let stands = c.in-Ok-start.ensures.stands in
+    let first : Copies tells bytes p start (g.W.Sink.put (sink_in x)) x = record {
+      standing = starting t;
+      stands = stands;
+      goes = refl;
+      front = λ told d is of. (data_of d, refl);
+    } in
+    let y = c.copy_all.new.writer in
+    let last = c.in-Ok-copy_all.ensures.copies start first in
+    let w = last.standing in
+    let schema_is : w.schema ≡ t = sym last.stands.schema ∙ c.copy_all.ensures.planned ∙ stands.schema in
+    let none = nothing_next w last.goes (c.in-Ok-copy_all.ensures.all start w last.stands) in
+    let went = c.in-Ok-finish.ensures.file start w last.stands in
+    let whole = subst (λ (u : Schema). ∥ IsCompleted u w.taken went.0 ∥₁) schema_is went.2 in
+    λ limit enough. (
+      went.0,
+      went.1,
+      reads_as tells bytes p t limit w.taken went.0 (c.headline.ensures.completed t w.taken went.0 limit whole enough)
+          (λ told d is of.
+          let of_w = subst (λ (u : Schema). IsOf bytes p u d) (sym schema_is) of in
+          all_taken d is w of_w.schema_is (last.front told d is of_w) c.complete_when_taken.ensures none)
+          c.dataset_told.ensures,
+    )
+
 pub unreachable-requires : goal.unreachable-requires
 unreachable-requires g c =
     let file = c.args.file.now in
@@ -128,7 +158,7 @@ unreachable-requires g c =
     let start = g.W.Sink.put c.args.sink in
     let x = c.in-Ok-start.writer in
     let stands = c.in-Ok-start.ensures.stands in
-    let first : Copies tells bytes s p start (g.W.Sink.put (sink_in x)) x = record {
+    let first : Copies tells bytes p start (g.W.Sink.put (sink_in x)) x = record {
       standing = starting t;
       stands = stands;
       goes = refl;
@@ -152,7 +182,7 @@ returns-clause-converts g c =
     let start = g.W.Sink.put c.args.sink in
     let x = c.in-Ok-start.writer in
     let stands = c.in-Ok-start.ensures.stands in
-    let first : Copies tells bytes s p start (g.W.Sink.put (sink_in x)) x = record {
+    let first : Copies tells bytes p start (g.W.Sink.put (sink_in x)) x = record {
       standing = starting t;
       stands = stands;
       goes = refl;
@@ -160,8 +190,8 @@ returns-clause-converts g c =
     } in
     let y = c.copy_all.new.writer in
     let planned : schema_in x ≡ t = stands.schema in
-    subst (λ q. HasFront tells bytes s p t start (g.W.Sink.put q)) (sym c.into_sink.ensures)
-    (subst (λ (u : Schema). HasFront tells bytes s p u start (g.W.Sink.put (sink_in y))) planned (c.in-Err-copy_all.ensures.stops start first))
+    subst (λ q. HasFront tells bytes p t start (g.W.Sink.put q)) (sym c.into_sink.ensures)
+    (subst (λ (u : Schema). HasFront tells bytes p u start (g.W.Sink.put (sink_in y))) planned (c.in-Err-copy_all.ensures.stops start first))
 
 pub returns-clause-count : goal.returns-clause-count
 returns-clause-count g c =
@@ -178,3 +208,15 @@ returns-clause-count g c =
     (λ store. inl (store.0, sink ∙ store.1 ∙ before))
     (λ other. inr (other.0, subst (λ (n : ℕ). Rose n (g.W.Sink.failures c.into_sink.result)) before (subst (Rose (g.W.Sink.failures (sink_in c.in-Ok-start.writer))) (sym sink) other.1)))
     c.in-Err-copy_all.ensures.count
+
+pub returns-in-Ok-finish-clause-calls : goal.returns-in-Ok-finish-clause-calls
+returns-in-Ok-finish-clause-calls g c =
+    let x = c.in-Ok-start.writer in
+    let t = planned_schema c.args.built in
+    omega (arith, c.copy_all.ensures.calls, at_start (g.W.Sink.put c.args.sink) (g.W.Sink.put (sink_in x)) x t c.in-Ok-start.ensures.stands)
+
+pub returns-clause-calls : goal.returns-clause-calls
+returns-clause-calls g c =
+    let x = c.in-Ok-start.writer in
+    let t = planned_schema c.args.built in
+    omega (arith, c.copy_all.ensures.calls, at_start (g.W.Sink.put c.args.sink) (g.W.Sink.put (sink_in x)) x t c.in-Ok-start.ensures.stands)

@@ -15,8 +15,8 @@ copy_piece-requires-clause-copies g c =
     let start = c.requires.copies.0 in (
       start,
       copies_there g.S.Store.tells_bytes (g.S.Store.bytes (store_of c.args.file.now)) (g.S.Store.bytes (store_of c.loop-var.file))
-          (schema_of c.args.file.now) (schema_of c.loop-var.file) (placed_of c.args.file.now) (placed_of c.loop-var.file)
-          at.unmoved.same at.schema at.placed start (g.W.Sink.put (sink_in c.loop-var.writer)) c.loop-var.writer
+          (placed_of c.args.file.now) (placed_of c.loop-var.file)
+          at.unmoved.same at.placed start (g.W.Sink.put (sink_in c.loop-var.writer)) c.loop-var.writer
           (at.copies start c.requires.copies.1),
     )
 
@@ -33,11 +33,11 @@ loop-var-preserved g c =
       room = one.room ∙ at.room;
       copies = λ start copies.
           let there = copies_there g.S.Store.tells_bytes (g.S.Store.bytes (store_of c.args.file.now)) (g.S.Store.bytes (store_of c.loop-var.file))
-          (schema_of c.args.file.now) (schema_of c.loop-var.file) (placed_of c.args.file.now) (placed_of c.loop-var.file)
-          at.unmoved.same at.schema at.placed start (g.W.Sink.put (sink_in c.loop-var.writer)) c.loop-var.writer (at.copies start copies) in
+          (placed_of c.args.file.now) (placed_of c.loop-var.file)
+          at.unmoved.same at.placed start (g.W.Sink.put (sink_in c.loop-var.writer)) c.loop-var.writer (at.copies start copies) in
           copies_back g.S.Store.tells_bytes (g.S.Store.bytes (store_of c.args.file.now)) (g.S.Store.bytes (store_of c.loop-var.file))
-          (schema_of c.args.file.now) (schema_of c.loop-var.file) (placed_of c.args.file.now) (placed_of c.loop-var.file)
-          at.unmoved.same at.schema at.placed start (g.W.Sink.put (sink_in c.copy_piece.new.writer)) c.copy_piece.new.writer
+          (placed_of c.args.file.now) (placed_of c.loop-var.file)
+          at.unmoved.same at.placed start (g.W.Sink.put (sink_in c.copy_piece.new.writer)) c.copy_piece.new.writer
           (c.in_ok-copy_piece.ensures.copies start there);
       planned = one.planned ∙ at.planned;
       schema = one.schema ∙ at.schema;
@@ -47,6 +47,7 @@ loop-var-preserved g c =
       kept = λ image was. one.kept image (at.kept image was);
       store = c.in_ok-copy_piece.ensures.count.0 ∙ at.store;
       sink = c.in_ok-copy_piece.ensures.count.1 ∙ at.sink;
+      calls = omega (arith, at.calls, one.calls, c.in_ok-copy_piece.ensures.fewer);
       reach = omega (arith, one.reach, at.reach, ap file_length_of at.placed);
     }
 
@@ -54,16 +55,16 @@ pub returns-in_err-copy_piece-clause-stops : goal.returns-in_err-copy_piece-clau
 returns-in_err-copy_piece-clause-stops g c = λ start copies.
     let at = c.loop-var.invariant in
     let there = copies_there g.S.Store.tells_bytes (g.S.Store.bytes (store_of c.args.file.now)) (g.S.Store.bytes (store_of c.loop-var.file))
-    (schema_of c.args.file.now) (schema_of c.loop-var.file) (placed_of c.args.file.now) (placed_of c.loop-var.file)
-    at.unmoved.same at.schema at.placed start (g.W.Sink.put (sink_in c.loop-var.writer)) c.loop-var.writer (at.copies start copies) in
+    (placed_of c.args.file.now) (placed_of c.loop-var.file)
+    at.unmoved.same at.placed start (g.W.Sink.put (sink_in c.loop-var.writer)) c.loop-var.writer (at.copies start copies) in
     let is : c.from_residual.result ≡ Err c.in_err-copy_piece.field-0.0 = search rules in
     let front = front_back g.S.Store.tells_bytes (g.S.Store.bytes (store_of c.args.file.now)) (g.S.Store.bytes (store_of c.loop-var.file))
-    (schema_of c.args.file.now) (schema_of c.loop-var.file) (placed_of c.args.file.now) (placed_of c.loop-var.file)
-    at.unmoved.same at.schema at.placed start (g.W.Sink.put (sink_in c.copy_piece.new.writer))
+    (placed_of c.args.file.now) (placed_of c.loop-var.file)
+    at.unmoved.same at.placed start (g.W.Sink.put (sink_in c.copy_piece.new.writer))
     (schema_in c.args.writer.now) (schema_in c.loop-var.writer) at.planned
     (c.in_err-copy_piece.ensures.stops start there) in
     subst (λ (r : Result (Unit {0}) Failed). OnErr r (HasFront g.S.Store.tells_bytes (g.S.Store.bytes (store_of c.args.file.now))
-    (schema_of c.args.file.now) (placed_of c.args.file.now) (schema_in c.args.writer.now) start (g.W.Sink.put (sink_in c.copy_piece.new.writer))))
+    (placed_of c.args.file.now) (schema_in c.args.writer.now) start (g.W.Sink.put (sink_in c.copy_piece.new.writer))))
     (sym is) front
 
 pub returns-clause-all : goal.returns-clause-all

@@ -1,0 +1,117 @@
+//! Converting a file into a new one.
+
+ghost use Rattle.ncc_build.specs.Builds.{schema_of as planned_schema};
+ghost use Rattle.ncc_check.specs.Files.{schema_of, placed_of};
+ghost use Rattle.ncc_convert.specs.Found.{IsPlanned};
+
+use crate::answer::{Answer, answered};
+use crate::commands::LIMIT;
+use crate::converting::convert_engine;
+use crate::finishing::flushed;
+use crate::planning::plan;
+use clap::ArgMatches;
+use ncc_check::{NcFile, Refusal, open};
+use ncc_convert::send_converted;
+use ncc_header::{Sink, WriteSink};
+use ncc_lines::send_file_fault;
+use ncc_store::{FileStore, Store};
+use ncc_values::Version;
+use ncc_write::Built;
+use std::alloc::Global;
+use std::fs::File;
+use std::io::{BufWriter, Write};
+use std::rt::Files;
+
+/// Writes what an open file holds into a new file, by a schema that was planned for it. The file is on the disk where it
+/// passed.
+fn convert_into<R: Files<File = File> + AllocGlobal, S: Store>(
+    rt: &R,
+    file: &mut NcFile<S>,
+    built: Built,
+    path: &str,
+) -> Answer
+    requires planned { IsPlanned (schema_of file.old) (placed_of file.old) (planned_schema built) }
+{
+    let Ok(out) = File::create_new(rt, path) else {
+        return Answer::Device;
+    };
+    let (target, answer) = convert_engine(rt.alloc(), file, built, WriteSink::new(out));
+    if answer == Answer::Passed && target.into_inner().sync_all().is_err() {
+        return Answer::Device;
+    }
+    answer
+}
+
+/// Converts an open file, and writes the line that says so; or the line of what is against it, and then there is no new
+/// file.
+fn convert_file<R: Files<File = File> + AllocGlobal, S: Store, W: Sink>(
+    rt: &R,
+    file: &mut NcFile<S>,
+    version: Version,
+    path: &str,
+    sink: &mut W,
+) -> Answer {
+    let built = match plan(rt.alloc(), file, version, sink) {
+        Ok(built) => built,
+        Err(answer) => return answer,
+    };
+    match convert_into(rt, file, built, path) {
+        Answer::Passed => answered(send_converted(version, sink), Answer::Passed),
+        answer => answer,
+    }
+}
+
+/// The line of a file that can't be opened, and what that comes to.
+fn refused<W: Sink>(alloc: Global, refusal: Refusal, sink: &mut W) -> Answer {
+    match refusal {
+        Refusal::Fault(fault) => answered(send_file_fault(alloc, fault, sink), Answer::Refused),
+        Refusal::Device => Answer::Device,
+        Refusal::Memory => Answer::Memory,
+    }
+}
+
+/// Converts a file into a new one.
+fn convert<R: Files<File = File> + AllocGlobal, O: Write>(
+    rt: &R,
+    from: &str,
+    version: Version,
+    to: &str,
+    out: &mut O,
+) -> Answer {
+    let Ok(store) = FileStore::open(rt, from, false) else {
+        return Answer::Device;
+    };
+    let Ok(writer) = BufWriter::new(rt.alloc(), out) else {
+        return Answer::Memory;
+    };
+    let mut sink = WriteSink::new(writer);
+    let answer = match open(rt.alloc(), store, LIMIT) {
+        Ok(opened) => {
+            let mut file = opened;
+            convert_file(rt, &mut file, version, to, &mut sink)
+        }
+        Err((_, refusal)) => refused(rt.alloc(), refusal, &mut sink),
+    };
+    let mut writer = sink.into_inner();
+    flushed(&mut writer, answer)
+}
+
+/// The version of this word.
+fn version_of(word: &str) -> Version {
+    match word {
+        "1" => Version::V1,
+        "2" => Version::V2,
+        _ => Version::V5,
+    }
+}
+
+/// Converts the file that these words name, as they say.
+pub fn convert_named<R: Files<File = File> + AllocGlobal, O: Write>(
+    rt: &R,
+    words: &ArgMatches,
+    out: &mut O,
+) -> Answer {
+    let version = version_of(words.get_str("to").unwrap_or(""));
+    let from = words.get_str("IN").unwrap_or("");
+    convert(rt, from, version, words.get_str("OUT").unwrap_or(""), out)
+}
