@@ -70,6 +70,23 @@ fn refused<W: Sink>(alloc: Global, refusal: Refusal, sink: &mut W) -> Answer {
     }
 }
 
+/// Opens a store and converts its file; or writes the line of the file's fault.
+fn convert_store<R: Files<File = File> + AllocGlobal, S: Store + Drop, W: Sink>(
+    rt: &R,
+    store: S,
+    version: Version,
+    path: &str,
+    sink: &mut W,
+) -> Answer {
+    match open(rt.alloc(), store, LIMIT) {
+        Ok(opened) => {
+            let mut file = opened;
+            convert_file(rt, &mut file, version, path, sink)
+        }
+        Err((_, refusal)) => refused(rt.alloc(), refusal, sink),
+    }
+}
+
 /// Converts a file into a new one.
 fn convert<R: Files<File = File> + AllocGlobal, O: Write>(
     rt: &R,
@@ -85,13 +102,7 @@ fn convert<R: Files<File = File> + AllocGlobal, O: Write>(
         return Answer::Memory;
     };
     let mut sink = WriteSink::new(writer);
-    let answer = match open(rt.alloc(), store, LIMIT) {
-        Ok(opened) => {
-            let mut file = opened;
-            convert_file(rt, &mut file, version, to, &mut sink)
-        }
-        Err((_, refusal)) => refused(rt.alloc(), refusal, &mut sink),
-    };
+    let answer = convert_store(rt, store, version, to, &mut sink);
     let mut writer = sink.into_inner();
     flushed(&mut writer, answer)
 }

@@ -349,7 +349,8 @@ Status:
     let found = outcome(&rt, "ncc --help")?;
     assert_eq!(rt; found.status, 0);
     assert!(rt; found.err.is_empty());
-    let first = b"Checks, lists, reads, extends and converts netCDF classic files\n\nUsage: ncc <COMMAND>\n";
+    let first =
+        b"Checks, lists, reads, extends and converts netCDF classic files\n\nUsage: ncc <COMMAND>\n";
     assert!(rt; found.out.as_slice().starts_with(first));
     let last = b"  2  the command line is wrong\n  3  a device or memory failed\n";
     assert!(rt; found.out.as_slice().ends_with(last));
