@@ -2,9 +2,11 @@
 //! the store, stores that fail, whole slabs, and a sweep over selections of all kinds.
 
 mod failing;
+mod files;
 mod helpers;
 mod memory;
 mod parts;
+mod plans;
 mod readers;
 mod records;
 mod refusals;
@@ -12,3 +14,4 @@ mod rows;
 mod slabs;
 mod sweep;
 mod types;
+mod wanted;

@@ -4,12 +4,15 @@ ghost use Rattle.std.specs.Prelude.{◌≡◌};
 ghost use Rattle.ncc_store.specs.Store.{Unmoved, KeepsImages};
 ghost use Rattle.ncc_check.specs.Files.{store_of, schema_of, placed_of, must_reopen};
 
-use super::helpers::*;
-use crate::{Slab, SlabFault, SlabParts, SlabReader, read_slab};
+use super::files::open_file;
+use super::helpers::{Pick, reads, slab};
+use super::parts::{DOUBLES, HUNDRED};
+use crate::{Slab, SlabFault, SlabParts, SlabReader};
 use ncc_check::NcFile;
-use ncc_store::Store;
+use ncc_store::{MemStore, Store};
 use ncc_values::Values;
 use std::alloc::Global;
+use std::process::Abort;
 use std::test::*;
 
 /// The first part of a selection, by a reader that has ended. Whatever it answers, the file stays what it was.
@@ -34,35 +37,71 @@ fn first_part<S: Store>(
     Ok(values)
 }
 
-/// How many values of a line of 10,000 doubles a first part has, behind one of another selection and a refusal.
-fn lengths_in_turn(alloc: Global) -> Result<[usize; 2], SlabFault> {
-    let bytes = line(alloc, 10_000, 6, 8)?;
-    let mut file = file_of(alloc, &bytes)?;
-    let last = first_part(alloc, &mut file, 0, &slab(alloc, &[9_000], &[1_000], &[1])?)?;
-    match first_part(alloc, &mut file, 1, &slab(alloc, &[0], &[1], &[1])?) {
-        Ok(_) => Ok([0, 0]),
-        Err(SlabFault::NoVariable) => {
-            let first = first_part(alloc, &mut file, 0, &slab(alloc, &[0], &[10_000], &[1])?)?;
-            Ok([last.len(), first.len()])
-        }
-        Err(fault) => Err(fault),
+/// A selection of a variable, and how many values a first part has or why there is none.
+type Row = (usize, Pick, Result<usize, SlabFault>);
+
+/// Of a line of 10,000 doubles, one after another.
+const IN_TURN: [Row; 3] = [
+    (0, [&[9_000], &[1_000], &[1]], Ok(1_000)),
+    (1, [&[0], &[1], &[1]], Err(SlabFault::NoVariable)),
+    (0, [&[0], &[10_000], &[1]], Ok(8_192)),
+];
+
+/// How many values a first part has.
+fn first_length<S: Store>(
+    alloc: Global,
+    file: &mut NcFile<S>,
+    var: usize,
+    pick: Pick,
+) -> Result<usize, SlabFault> {
+    let slab = slab(alloc, pick)?;
+    let values = first_part(alloc, file, var, &slab)?;
+    Ok(values.len())
+}
+
+/// Whether a first part has so many values.
+fn has_length<S: Store>(alloc: Global, file: &mut NcFile<S>, row: Row) -> bool {
+    let (var, pick, length) = row;
+    first_length(alloc, file, var, pick) == length
+}
+
+/// All first parts have so many values.
+fn have_lengths<R: Abort + AllocGlobal>(rt: &R, file: &mut NcFile<MemStore>, rows: &[Row]) {
+    for (number, row) in rows.iter().enumerate() {
+        assert!(rt; has_length(rt.alloc(), file, *row), "row {number}");
     }
 }
 
 #[test]
 fn a_file_is_used_again_behind_its_reader(rt: HostRuntime) -> Result<(), Fail> {
-    let alloc = rt.alloc();
-    assert!(rt; lengths_in_turn(alloc) == Ok([1_000, 8_192]));
+    let mut file = open_file(rt.alloc(), &DOUBLES)?;
+    have_lengths(&rt, &mut file, &IN_TURN);
     Ok(())
 }
 
+/// Whether a first part has the values that are read at once behind it.
+fn is_read_at_once<S: Store>(
+    alloc: Global,
+    file: &mut NcFile<S>,
+    slab: &Slab,
+) -> Result<bool, SlabFault> {
+    let part = first_part(alloc, file, 0, slab)?;
+    reads(alloc, file, slab, &part)
+}
+
+/// Whether that holds of a hundred values.
+fn of_a_hundred(alloc: Global, slab: &Slab) -> Result<bool, SlabFault> {
+    let mut file = open_file(alloc, &HUNDRED)?;
+    is_read_at_once(alloc, &mut file, slab)
+}
+
+/// Whether that holds of every third of them.
+fn of_every_third(alloc: Global) -> Result<bool, SlabFault> {
+    let slab = slab(alloc, [&[2], &[30], &[3]])?;
+    of_a_hundred(alloc, &slab)
+}
+
 #[test]
-fn an_ended_reader_reads_what_is_read_at_once(rt: HostRuntime) -> Result<(), Fail> {
-    let alloc = rt.alloc();
-    let bytes = line(alloc, 100, 4, 4)?;
-    let every_third = slab(alloc, &[2], &[30], &[3])?;
-    let mut file = file_of(alloc, &bytes)?;
-    let part = first_part(alloc, &mut file, 0, &every_third);
-    assert!(rt; part == read_slab(alloc, &mut file, 0, &every_third));
-    Ok(())
+fn an_ended_reader_reads_what_is_read_at_once(rt: HostRuntime) {
+    assert!(rt; of_every_third(rt.alloc()) == Ok(true));
 }

@@ -1,87 +1,96 @@
 //! Selections that are refused, and those that aren't quite.
 
-use super::helpers::*;
+use super::files::open_file;
+use super::helpers::{Pick, slab};
+use super::rows::TABLE;
 use crate::SlabFault::*;
-use crate::{Places, Slab, SlabFault};
+use crate::{Places, SlabFault};
 use ncc_check::NcFile;
 use ncc_store::MemStore;
-use std::alloc::Global;
+use std::alloc::{AllocError, Global};
+use std::process::Abort;
 use std::test::*;
 
-/// Why a selection of int m(y, x) is refused.
-fn fault(alloc: Global, file: &NcFile<MemStore>, var: usize, slab: &Slab) -> Option<SlabFault> {
-    match Places::new(alloc, file.placed(), var, slab) {
-        Ok(_) => None,
-        Err(fault) => Some(fault),
+/// The starts, counts and strides of a selection of the table, and why it is refused.
+type Row = ([[u64; 2]; 3], Option<SlabFault>);
+
+const ROWS: [Row; 14] = [
+    ([[0, 0], [2, 3], [1, 1]], None),
+    // Strides come before ends.
+    ([[9, 0], [2, 3], [1, 0]], Some(ZeroStride(1))),
+    ([[0, 0], [2, 3], [0, 0]], Some(ZeroStride(0))),
+    ([[0, 0], [1, 0], [0, 1]], Some(ZeroStride(0))),
+    // Last indices.
+    ([[1, 0], [2, 3], [1, 1]], Some(Outside(0))),
+    ([[0, 1], [2, 2], [1, 2]], Some(Outside(1))),
+    ([[2, 3], [1, 1], [1, 1]], Some(Outside(0))),
+    // Nothing from the end on.
+    ([[2, 3], [0, 0], [1, 1]], None),
+    ([[2, 4], [0, 0], [1, 1]], Some(Outside(1))),
+    ([[0, 0], [0, 4], [1, 1]], Some(Outside(1))),
+    // Numbers of 64 bits don't wrap.
+    ([[1, 1], [2, 2], [1 << 63, u64::MAX]], Some(Outside(0))),
+    ([[0, 1], [2, 3], [1, 1 << 63]], Some(Outside(1))),
+    ([[0, 0], [u64::MAX, 1], [u64::MAX, 1]], Some(Outside(0))),
+    ([[0, u64::MAX], [2, 1], [1, 1]], Some(Outside(1))),
+];
+
+/// Selections of other variables or ranks.
+const OTHERS: [(usize, Pick, SlabFault); 4] = [
+    (1, [&[0, 0], &[2, 3], &[1, 1]], NoVariable),
+    (0, [&[0], &[2, 3], &[1, 1]], RankMismatch),
+    (0, [&[0, 0], &[2, 3, 1], &[1, 1]], RankMismatch),
+    (0, [&[0, 0], &[2, 3], &[0]], RankMismatch),
+];
+
+/// Why a selection with these starts, counts and strides is refused.
+fn fault(
+    alloc: Global,
+    file: &NcFile<MemStore>,
+    var: usize,
+    pick: [&[u64]; 3],
+) -> Result<Option<SlabFault>, AllocError> {
+    let slab = slab(alloc, pick)?;
+    match Places::new(alloc, file.placed(), var, &slab) {
+        Ok(_) => Ok(None),
+        Err(fault) => Ok(Some(fault)),
+    }
+}
+
+/// All selections are refused so.
+fn all_are_refused<R: Abort + AllocGlobal>(rt: &R, file: &NcFile<MemStore>, rows: &[Row]) {
+    for (number, ([start, count, stride], wanted)) in rows.iter().enumerate() {
+        assert!(rt;
+            fault(rt.alloc(), file, 0, [start, count, stride]) == Ok(*wanted),
+            "row {number}"
+        );
     }
 }
 
 #[test]
-fn ranks(rt: HostRuntime) -> Result<(), Fail> {
-    let alloc = rt.alloc();
-    let file = file_of(alloc, &table(alloc)?)?;
-    let whole = slab(alloc, &[0, 0], &[2, 3], &[1, 1])?;
-    assert!(rt; fault(alloc, &file, 0, &whole) == None);
-    assert!(rt; fault(alloc, &file, 1, &whole) == Some(NoVariable));
-    let one = slab(alloc, &[0], &[2, 3], &[1, 1])?;
-    assert!(rt; fault(alloc, &file, 0, &one) == Some(RankMismatch));
-    let two = slab(alloc, &[0, 0], &[2, 3, 1], &[1, 1])?;
-    assert!(rt; fault(alloc, &file, 0, &two) == Some(RankMismatch));
-    let three = slab(alloc, &[0, 0], &[2, 3], &[0])?;
-    assert!(rt; fault(alloc, &file, 0, &three) == Some(RankMismatch));
+fn refused_selections(rt: HostRuntime) -> Result<(), Fail> {
+    let file = open_file(rt.alloc(), &TABLE)?;
+    all_are_refused(&rt, &file, &ROWS);
     Ok(())
 }
 
-#[test]
-fn strides_come_before_ends(rt: HostRuntime) -> Result<(), Fail> {
-    let alloc = rt.alloc();
-    let file = file_of(alloc, &table(alloc)?)?;
-    let second = slab(alloc, &[9, 0], &[2, 3], &[1, 0])?;
-    assert!(rt; fault(alloc, &file, 0, &second) == Some(ZeroStride(1)));
-    let both = slab(alloc, &[0, 0], &[2, 3], &[0, 0])?;
-    assert!(rt; fault(alloc, &file, 0, &both) == Some(ZeroStride(0)));
-    let single = slab(alloc, &[0, 0], &[1, 0], &[0, 1])?;
-    assert!(rt; fault(alloc, &file, 0, &single) == Some(ZeroStride(0)));
-    Ok(())
+/// All selections are refused so.
+fn others_are_refused<R: Abort + AllocGlobal>(
+    rt: &R,
+    file: &NcFile<MemStore>,
+    rows: &[(usize, Pick, SlabFault)],
+) {
+    for (number, (var, pick, wanted)) in rows.iter().enumerate() {
+        assert!(rt;
+            fault(rt.alloc(), file, *var, *pick) == Ok(Some(*wanted)),
+            "row {number}"
+        );
+    }
 }
 
 #[test]
-fn last_indices(rt: HostRuntime) -> Result<(), Fail> {
-    let alloc = rt.alloc();
-    let file = file_of(alloc, &table(alloc)?)?;
-    let past = slab(alloc, &[1, 0], &[2, 3], &[1, 1])?;
-    assert!(rt; fault(alloc, &file, 0, &past) == Some(Outside(0)));
-    let inner = slab(alloc, &[0, 1], &[2, 2], &[1, 2])?;
-    assert!(rt; fault(alloc, &file, 0, &inner) == Some(Outside(1)));
-    let both = slab(alloc, &[2, 3], &[1, 1], &[1, 1])?;
-    assert!(rt; fault(alloc, &file, 0, &both) == Some(Outside(0)));
-    Ok(())
-}
-
-#[test]
-fn nothing_from_the_end(rt: HostRuntime) -> Result<(), Fail> {
-    let alloc = rt.alloc();
-    let file = file_of(alloc, &table(alloc)?)?;
-    let at = slab(alloc, &[2, 3], &[0, 0], &[1, 1])?;
-    assert!(rt; fault(alloc, &file, 0, &at) == None);
-    let past = slab(alloc, &[2, 4], &[0, 0], &[1, 1])?;
-    assert!(rt; fault(alloc, &file, 0, &past) == Some(Outside(1)));
-    let none = slab(alloc, &[0, 0], &[0, 4], &[1, 1])?;
-    assert!(rt; fault(alloc, &file, 0, &none) == Some(Outside(1)));
-    Ok(())
-}
-
-#[test]
-fn numbers_of_64_bits_do_not_wrap(rt: HostRuntime) -> Result<(), Fail> {
-    let alloc = rt.alloc();
-    let file = file_of(alloc, &table(alloc)?)?;
-    let stride = slab(alloc, &[1, 1], &[2, 2], &[1 << 63, u64::MAX])?;
-    assert!(rt; fault(alloc, &file, 0, &stride) == Some(Outside(0)));
-    let wraps = slab(alloc, &[0, 1], &[2, 3], &[1, 1 << 63])?;
-    assert!(rt; fault(alloc, &file, 0, &wraps) == Some(Outside(1)));
-    let count = slab(alloc, &[0, 0], &[u64::MAX, 1], &[u64::MAX, 1])?;
-    assert!(rt; fault(alloc, &file, 0, &count) == Some(Outside(0)));
-    let start = slab(alloc, &[0, u64::MAX], &[2, 1], &[1, 1])?;
-    assert!(rt; fault(alloc, &file, 0, &start) == Some(Outside(1)));
+fn refused_variables_and_ranks(rt: HostRuntime) -> Result<(), Fail> {
+    let file = open_file(rt.alloc(), &TABLE)?;
+    others_are_refused(&rt, &file, &OTHERS);
     Ok(())
 }
