@@ -4,4 +4,3 @@ pub mod SentVerdict
 pub mod SentTable
 pub mod Extended
 pub mod Picked
-mod Converted

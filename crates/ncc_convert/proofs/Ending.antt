@@ -1,5 +1,5 @@
 -- A copy that has taken all values, and what went out of it.
-use Rattle.std.proofs.Common.{◌≡◌, inr, ℕ, ◌+◌, ◌*◌, ◌≤◌, Bool, true, false, IsTrue, List, [], ◌∷◌, ◌++◌, Option, Some, None, Result, Ok, Err, length, refl, sym, ap, ap₂, subst, ◌∙◌, arith, append_assoc, length-append}
+use Rattle.std.proofs.Common.{◌≡◌, inr, ℕ, ◌+◌, ◌*◌, ◌≤◌, Bool, false, IsTrue, List, [], ◌∷◌, ◌++◌, Option, Some, None, Result, Ok, Err, length, refl, sym, ap, ap₂, subst, ◌∙◌, arith, append_assoc, length-append}
 use Rattle.std.specs.Prelude.{sum_by, zip, if◌then◌else◌}
 use Rattle.std.specs.List.{AllZip, flat_map}
 use Rattle.std.proofs.Math.Logic.{∥∥₁_elim, ∥∥₁_map}
@@ -11,7 +11,6 @@ use Rattle.ncc_values.specs.XType.{size_of}
 use Rattle.ncc_values.specs.declared.values.Values.{Values}
 use Rattle.ncc_values.specs.declared.xtype.XType.{XType}
 use Rattle.ncc_values.proofs.ValuesLemmas.{length-bytes_of}
-use Rattle.ncc_schema.specs.Device.{Puts}
 use Rattle.ncc_schema.specs.declared.schema.Schema.{Schema}
 use Rattle.ncc_schema.proofs.Writing.{puts_none}
 use Rattle.ncc_layout.specs.Sizes.{slab}
@@ -25,7 +24,7 @@ use Rattle.ncc_write.specs.Laws.{CompleteWhenTaken, DatasetTold, IsCompleted}
 use Rattle.ncc_write.specs.Writing.{IsExactly, IsFront, Next, StartFails, Standing, Went, data_length, dataset_of, expected, next_of, refuses_finish, refuses_unfinished, told}
 use Rattle.ncc_write.proofs.SlabsAt.{HasValues, all_have_values}
 use Rattle.ncc_convert.specs.Copying.{HasFront}
-use Rattle.ncc_convert.specs.Converting.{ConvertCounts, ConvertsAs, HasFile, IsWhole, ReadsAs, fault_of}
+use Rattle.ncc_convert.specs.Converting.{ConvertCounts, ConvertsAs, IsWhole, ReadsAs, fault_of}
 use Rattle.ncc_convert.specs.declared.converting.Fault.{Fault}
 use Rattle.ncc_convert.specs.declared.converting.Fault.TheVariants.{Memory}
 use Rattle.ncc_convert.specs.Found.{IsOf}

@@ -7,7 +7,6 @@ use Rattle.ncc_values.specs.declared.xtype.XType.{XType}
 use Rattle.ncc_schema.specs.declared.schema.Schema.{Schema}
 use Rattle.ncc_schema.specs.Schema.{is_record_var}
 use Rattle.ncc_layout.specs.declared.placed_file.Placed.{Placed}
-use Rattle.ncc_layout.specs.declared.placed_var.PlacedVar.{PlacedVar}
 use Rattle.ncc_layout.specs.Elements.{var_at}
 use Rattle.ncc_layout.specs.Placed.{records_of_file, vars_of}
 use Rattle.ncc_layout.specs.Plans.{known}
@@ -23,7 +22,7 @@ use Rattle.ncc_write.proofs.NextSlabs.{IsNext, is_next}
 use Rattle.ncc_write.proofs.SlabsAt.{IsAmong}
 use Rattle.ncc_write.proofs.TakenIn.{taken_is}
 use Rattle.ncc_convert.specs.Copying.{Copies, Expects}
-use Rattle.ncc_convert.specs.Found.{IsPlanned, found_schema}
+use Rattle.ncc_convert.specs.Found.{IsPlanned}
 use Rattle.ncc_convert.proofs.Planned.{var_record, var_slab, var_there, var_xtype}
 
 -- ---- the slab that comes next

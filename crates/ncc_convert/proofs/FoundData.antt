@@ -9,13 +9,13 @@ use Rattle.ncc_layout.specs.declared.placed_file.Placed.{Placed}
 use Rattle.ncc_layout.specs.declared.placed_var.PlacedVar.{PlacedVar}
 use Rattle.ncc_layout.specs.Elements.{Inside, var_at}
 use Rattle.ncc_layout.specs.Extents.{record_count}
-use Rattle.ncc_layout.specs.Placed.{record_size_of_file, records_of_file, vars_of}
+use Rattle.ncc_layout.specs.Placed.{record_size_of_file, records_of_file}
 use Rattle.ncc_check.specs.Checks.{Opens}
 use Rattle.ncc_build.specs.Dataset.{Dataset, IsDataset, as_version, with_version}
 use Rattle.ncc_write.specs.Holds.{stored_at, value_at, vars_of as vars_of_dataset}
 use Rattle.ncc_write.proofs.FoundDatasets.{HasRoom, dataset_in, is_dataset}
 use Rattle.ncc_write.proofs.FoundValues.{values_held}
-use Rattle.ncc_convert.specs.Found.{IsOf, IsPlanned, found_schema}
+use Rattle.ncc_convert.specs.Found.{IsOf, IsPlanned}
 
 module _ (bytes : List ℕ) (limit : ℕ) (s : Schema) (p : Placed) (opens : Opens bytes limit s p) (are : IsBytes bytes) where
   abbrev h : Header

@@ -1,12 +1,10 @@
 -- A writer takes the piece of a copy; and what went out where a call failed.
-use Rattle.std.proofs.Common.{◌≡◌, ℕ, ◌+◌, ◌*◌, ◌<◌, ◌≤◌, ◌++◌, ◌/◌, Bool, true, false, not, List, Option, Some, None, Err, length, refl, sym, ap, subst, ◌∙◌, arith, length-append}
+use Rattle.std.proofs.Common.{◌≡◌, ℕ, ◌+◌, ◌*◌, ◌<◌, ◌≤◌, ◌++◌, ◌/◌, Bool, true, false, List, Option, Some, Err, length, sym, ap, subst, ◌∙◌, arith}
 use Rattle.ncc_values.specs.Values.{bytes_of, count_of, type_of, values_of}
 use Rattle.ncc_values.specs.XType.{size_of}
-use Rattle.ncc_values.specs.declared.values.Values.{Values}
 use Rattle.ncc_values.specs.declared.xtype.XType.{XType}
 use Rattle.ncc_values.specs.declared.xtype.XType.TheVariants.{Byte, Char, Short, Int, Float, Double, UByte, UShort, UInt, Int64, UInt64}
 use Rattle.ncc_values.proofs.ValuesLemmas.{count_of-values_of, length-bytes_of, type_of-values_of}
-use Rattle.ncc_schema.specs.declared.schema.Schema.{Schema}
 use Rattle.ncc_build.specs.Dataset.{Dataset, IsDataset, data_of}
 use Rattle.ncc_build.specs.File.{file_of}
 use Rattle.ncc_build.specs.declared.fault.WriteFault.{WriteFault}

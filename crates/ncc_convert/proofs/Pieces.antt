@@ -1,5 +1,5 @@
 -- The piece that a copy takes next, of the values of the file's dataset.
-use Rattle.std.proofs.Common.{◌≡◌, ℕ, zero, suc, ◌+◌, ◌*◌, ◌<◌, ◌≤◌, Bool, IsTrue, List, [], ◌∷◌, ◌++◌, Option, Some, length, take, drop, refl, sym, ap, subst, ◌∙◌, arith, append_assoc, length-append}
+use Rattle.std.proofs.Common.{◌≡◌, ℕ, ◌+◌, ◌*◌, ◌<◌, ◌≤◌, Bool, IsTrue, List, ◌∷◌, ◌++◌, Option, Some, length, take, drop, sym, ap, subst, ◌∙◌, arith, append_assoc, length-append}
 use Rattle.std.proofs.Math.Logic.{∥∥₁_elim}
 use Rattle.std.proofs.Math.Seq.{drop-append-add}
 use Rattle.std.proofs.Props.{props}
@@ -7,11 +7,9 @@ use Rattle.std.proofs.lemmas.List.{take-append-drop}
 use Rattle.ncc_values.specs.Numbers.{IsBytes}
 use Rattle.ncc_values.specs.Values.{bytes_of, values_of}
 use Rattle.ncc_values.specs.XType.{size_of}
-use Rattle.ncc_values.specs.declared.values.Values.{Values}
 use Rattle.ncc_values.specs.declared.xtype.XType.{XType}
 use Rattle.ncc_values.proofs.ValuesLemmas.{bytes-bytes_of, bytes_of-values_of}
 use Rattle.ncc_schema.specs.declared.schema.Schema.{Schema}
-use Rattle.ncc_schema.specs.Schema.{Place}
 use Rattle.ncc_layout.specs.declared.placed_file.Placed.{Placed}
 use Rattle.ncc_layout.specs.declared.placed_var.PlacedVar.{PlacedVar}
 use Rattle.ncc_layout.specs.Elements.{Inside, placed_with, var_at}

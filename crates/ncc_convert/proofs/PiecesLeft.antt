@@ -7,7 +7,7 @@ use Rattle.ncc_values.specs.declared.xtype.XType.{XType}
 use Rattle.ncc_schema.specs.declared.schema.Schema.{Schema}
 use Rattle.ncc_build.specs.Dataset.{slabs_of}
 use Rattle.ncc_write.specs.declared.writer.FileWriter.{FileWriter}
-use Rattle.ncc_write.specs.Writer.{Stands, schema_in, taken_in}
+use Rattle.ncc_write.specs.Writer.{Stands, schema_in}
 use Rattle.ncc_write.specs.Writing.{Next, Standing, next_of, starting}
 use Rattle.ncc_write.proofs.TakenIn.{taken_is}
 use Rattle.ncc_convert.specs.Copying.{pieces_behind, pieces_left, pieces_of}

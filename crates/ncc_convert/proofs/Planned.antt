@@ -1,9 +1,8 @@
 -- A planned schema, and the variables of the open file that it is planned for.
-use Rattle.std.proofs.Common.{◌≡◌, ℕ, ◌<◌, Bool, List, length, refl, sym, ap, subst, ◌∙◌}
+use Rattle.std.proofs.Common.{◌≡◌, ℕ, ◌<◌, Bool, List, length, sym, ap, subst, ◌∙◌}
 use Rattle.std.proofs.Math.Logic.{∥∥₁_elim}
 use Rattle.std.proofs.Props.{props}
 use Rattle.ncc_values.specs.declared.version.Version.{Version}
-use Rattle.ncc_values.specs.declared.xtype.XType.{XType}
 use Rattle.ncc_schema.specs.declared.schema.Schema.{Schema}
 use Rattle.ncc_schema.specs.Schema.{Place, is_record_var, places_of, with_count}
 use Rattle.ncc_layout.specs.declared.placed_file.Placed.{Placed}

@@ -1,15 +1,15 @@
 -- What a copy of an open file in another version leaves.
-use Rattle.std.specs.Prelude.{◌≡◌, ◌⊎◌, ℕ, Bool, IsTrue, List, Option, Result, Ok, Err, length}
+use Rattle.std.specs.Prelude.{◌≡◌, ◌⊎◌, ℕ, Bool, IsTrue, List, Option, Result, Ok, Err}
 use Rattle.ncc_values.specs.Failures.{Rose}
 use Rattle.ncc_schema.specs.Device.{Puts}
 use Rattle.ncc_schema.specs.declared.schema.Schema.{Schema}
 use Rattle.ncc_layout.specs.declared.placed_file.Placed.{Placed}
 use Rattle.ncc_build.specs.Dataset.{Dataset, IsDataset}
-use Rattle.ncc_build.specs.File.{file_of, header_of}
+use Rattle.ncc_build.specs.File.{file_of}
 use Rattle.ncc_build.specs.declared.fault.WriteFault.{WriteFault}
 use Rattle.ncc_build.specs.declared.fault.WriteFault.TheVariants as write
 use Rattle.ncc_write.specs.Headline.{PassesAndReads}
-use Rattle.ncc_write.specs.Writing.{Went, dataset_of}
+use Rattle.ncc_write.specs.Writing.{dataset_of}
 use Rattle.ncc_convert.specs.Copying.{HasFront}
 use Rattle.ncc_convert.specs.Found.{IsOf}
 use Rattle.ncc_convert.specs.declared.converting.Fault.{Fault}

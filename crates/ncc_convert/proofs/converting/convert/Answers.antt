@@ -1,21 +1,20 @@
-use Rattle.std.proofs.Common.{◌≡◌, ◌⊎◌, ⊎_elim, inl, inr, false, ℕ, List, [], Option, None, Result, Err, length, refl, sym, ap, subst, ◌∙◌, arith, rules}
-use Rattle.std.proofs.Math.Logic.{∥∥₁_map}
+use Rattle.std.proofs.Common.{◌≡◌, ◌⊎◌, ⊎_elim, inl, inr, ℕ, Err, refl, sym, ap, subst, ◌∙◌, arith}
 use Rattle.ncc_values.specs.Failures.{Rose}
 use Rattle.ncc_schema.specs.Device.{Puts}
 use Rattle.ncc_schema.specs.declared.schema.Schema.{Schema}
 use Rattle.ncc_build.specs.Builds.{schema_of as planned_schema}
-use Rattle.ncc_build.specs.Dataset.{Dataset, IsDataset, data_of}
-use Rattle.ncc_build.specs.File.{file_of, header_of}
+use Rattle.ncc_build.specs.Dataset.{data_of}
+use Rattle.ncc_build.specs.File.{header_of}
 use Rattle.ncc_check.specs.Files.{store_of, schema_of, placed_of}
 use Rattle.ncc_write.specs.Laws.{IsCompleted}
 use Rattle.ncc_write.specs.Writer.{schema_in, sink_in}
 use Rattle.ncc_write.specs.Writing.{starting}
 use Rattle.ncc_convert.specs.Copying.{Copies, HasFront}
-use Rattle.ncc_convert.specs.Converting.{ConvertCounts, IsWhole}
+use Rattle.ncc_convert.specs.Converting.{ConvertCounts}
 use Rattle.ncc_convert.specs.declared.converting.Fault.{Fault}
 use Rattle.ncc_convert.specs.declared.converting.Fault.TheVariants.{Memory}
 use Rattle.ncc_convert.specs.Found.{IsOf}
-use Rattle.ncc_convert.proofs.Ending.{all_taken, is_the_file, not_unfinished, nothing_next, nothing_went, error_is, start_counts, start_failed, start_memory, whole_file, reads_as}
+use Rattle.ncc_convert.proofs.Ending.{all_taken, is_the_file, not_unfinished, nothing_next, error_is, start_counts, start_failed, start_memory, whole_file, reads_as}
 use Rattle.ncc_convert.proofs.PiecesLeft.{at_start}
 use Rattle.ncc_convert.proofs.converting.convert.Goals as goal
 

@@ -1,10 +1,9 @@
-use Rattle.std.proofs.Common.{◌≡◌, ◌⊎◌, ◌-◌, ◌<◌, ◌≤◌, inl, inr, max, ℕ, None, Result, Err, OnErr, refl, sym, ap, subst, ◌∙◌, arith, rules}
+use Rattle.std.proofs.Common.{◌≡◌, ◌-◌, None, Result, Err, OnErr, sym, ap, subst, ◌∙◌, arith, rules}
 use Rattle.ncc_layout.specs.Placed.{file_length_of}
 use Rattle.ncc_schema.specs.declared.failed.Failed.{Failed}
 use Rattle.ncc_convert.specs.Copying.{HasFront}
-use Rattle.ncc_schema.specs.declared.schema.Schema.{Schema}
-use Rattle.ncc_check.specs.Files.{store_of, schema_of, placed_of}
-use Rattle.ncc_write.specs.Writer.{schema_in, sink_in, taken_in}
+use Rattle.ncc_check.specs.Files.{store_of, placed_of}
+use Rattle.ncc_write.specs.Writer.{schema_in, sink_in}
 use Rattle.ncc_write.specs.Writing.{data_length}
 use Rattle.ncc_convert.proofs.Moved.{copies_back, copies_there, front_back}
 use Rattle.ncc_convert.proofs.copying.copy_all.Goals as goal

@@ -1,4 +1,4 @@
-use Rattle.std.proofs.Common.{◌≡◌, inr, ◌+◌, ◌-◌, ◌*◌, ◌++◌, ◌<◌, ◌≤◌, ◌/◌, min, max, false, ℕ, List, Option, Err, length, length-append, take, drop, Fits, w64, refl, sym, ap, ap₂, subst, ◌∙◌, arith, rules}
+use Rattle.std.proofs.Common.{◌≡◌, inr, ◌+◌, ◌-◌, ◌*◌, ◌++◌, ◌<◌, ◌≤◌, ◌/◌, min, false, ℕ, Err, length, length-append, take, drop, sym, ap, ap₂, subst, ◌∙◌, arith, rules}
 use Rattle.std.proofs.lemmas.List.{length-take}
 use Rattle.std.proofs.lemmas.Nat.{mul-le}
 use Rattle.ncc_values.specs.XType.{size_of}
@@ -14,8 +14,8 @@ use Rattle.ncc_build.specs.Dataset.{data_of}
 use Rattle.ncc_build.specs.declared.fault.WriteFault.{WriteFault}
 use Rattle.ncc_build.specs.declared.fault.WriteFault.TheVariants.{Device}
 use Rattle.ncc_write.specs.Holds.{bytes_at}
-use Rattle.ncc_write.specs.Writer.{schema_in, sink_in, taken_in}
-use Rattle.ncc_write.specs.Writing.{CountsFailure, IsFront, Standing, StandsAfter, Went, as_failed, with_values}
+use Rattle.ncc_write.specs.Writer.{sink_in, taken_in}
+use Rattle.ncc_write.specs.Writing.{CountsFailure, IsFront, Standing, StandsAfter, as_failed, with_values}
 use Rattle.ncc_write.proofs.TakenIn.{taken_is}
 use Rattle.ncc_convert.specs.Found.{IsOf}
 use Rattle.ncc_convert.proofs.Facing.{before, faces}
