@@ -26,3 +26,8 @@ least() {
     for _ in 1 2 3 4 5 6 7; do best=$(lesser "$best" "$(once "$@")"); done
     echo "$best"
 }
+
+# The median of an odd number of numbers.
+median() {
+    printf '%s\n' "$@" | sort -n | sed -n "$((($# + 1) / 2))p"
+}

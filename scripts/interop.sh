@@ -1,6 +1,7 @@
 #!/usr/bin/env bash
 # Other tools read the files that the libraries write, and `ncc` reads those that `ncgen` writes: in each version, with
-# the same values. Of Debian's netcdf-bin, pnetcdf-bin and python3-scipy it takes what is there, and says what it
+# the same values. Of a file of `ncgen` or of SciPy that `ncc convert` wrote in another version they say what they said
+# before. Of Debian's netcdf-bin, pnetcdf-bin and python3-scipy it takes what is there, and says what it
 # skipped. The words are the programs ncc and example_write; without them both are proved and built.
 # The last line is `N passed, M failed`.
 set -uo pipefail
@@ -198,6 +199,172 @@ if has ncgen; then
     ncgen -k "${kinds[version]}" -o again.nc grid.cdl
     count "ncgen writes the bytes of the grid in CDF-$version" "" "$(cmp again.nc "v$version/grid.nc" 2>&1)"
   done
+fi
+
+# ---- files of ncgen and of SciPy that are converted: what is said of them before and after
+
+cat > attributes.cdl <<'END'
+netcdf attributes {
+dimensions: time = UNLIMITED ; x = 3 ; y = 2 ;
+variables:
+  double time(time) ; time:units = "days since 2000-01-01" ;
+  byte mask(y, x) ; mask:flags = 1b, -1b ; mask:_FillValue = -9b ;
+  short packed(time, y, x) ; packed:scale_factor = 0.01 ; packed:_FillValue = -999s ; packed:range = -32768s, 32767s ;
+  int scalar ; scalar:least = -2147483648 ; scalar:empty = "" ;
+  char name(time, x) ; name:note = "two\nlines" ;
+  float level(x) ; level:range = 0.f, 1e30f ;
+  :title = "attributes of each type" ; :version = 3 ;
+data:
+  time = 0.5, 1.5, 2.5 ; mask = 1, 0, -1, 127, -128, _ ; scalar = 7 ; name = "abcdefghi" ; level = 1.5, -2, 0 ;
+  packed = 1, 2, 3, 4, 5, 6, _, _, _, -32768, 32767, 0, 7, 8, 9, 10, 11, 12 ;
+}
+END
+cat > empty.cdl <<'END'
+netcdf empty {
+dimensions: time = UNLIMITED ; x = 3 ;
+variables: int fixed(x) ; short s(time, x) ; s:units = "m" ; byte b(time) ;
+data: fixed = 1, 2, 3 ;
+}
+END
+# A lone record variable of each type.
+lone=(byte char short int float double)
+for type in "${lone[@]}"; do
+  values='1, 2, 3, 4, 5, 6, 7, 8, 9'
+  if [ "$type" = char ]; then values='"abcdefghi"'; fi
+  cat > "lone_$type.cdl" <<END
+netcdf lone_$type {
+dimensions: time = UNLIMITED ; x = 3 ;
+variables: $type v(time, x) ; int fixed ;
+data: v = $values ; fixed = 7 ;
+}
+END
+done
+
+# Files that SciPy writes: of several record variables, without records, of fixed variables, and of a lone record
+# variable of each type. A scalar beside record variables, or two of these without records, SciPy 1.10.1 puts wrongly.
+cat > write.py <<'END'
+import numpy
+from scipy.io import netcdf_file
+
+TYPES = {"b": "byte", "c": "char", "h": "short", "i": "int", "f": "float", "d": "double"}
+
+
+def values(code, *shape):
+    count = int(numpy.prod(shape))
+    if code == "c":
+        return numpy.frombuffer(bytes(97 + i for i in range(count)), "S1").reshape(shape)
+    return (numpy.arange(count) * 3 - 7).astype(code).reshape(shape)
+
+
+def write(name, version, records, fixed, kept):
+    with netcdf_file(f"v{version}/{name}.nc", "w", version=version) as file:
+        file.title = "from SciPy"
+        file.numbers = numpy.array([1, -2, 3], "i2")
+        file.createDimension("time", None)
+        file.createDimension("x", 3)
+        for code in fixed:
+            variable = file.createVariable("fixed_" + TYPES[code], code, ("x",))
+            variable[:] = values(code, 3)
+            variable.scale = numpy.float32(0.5)
+        if not kept:
+            file.createVariable("scalar", "i", ()).assignValue(7)
+        for code in kept:
+            variable = file.createVariable("record_" + TYPES[code], code, ("time", "x"))
+            variable.units = "m"
+            if records:
+                variable[:] = values(code, records, 3)
+
+
+for version in (1, 2):
+    write("scipy_several", version, 3, "bchifd", "bchifd")
+    write("scipy_empty", version, 0, "ic", "d")
+    write("scipy_fixed", version, 0, "bchifd", "")
+    for code, kind in TYPES.items():
+        write("scipy_lone_" + kind, version, 3, "b", code)
+END
+# Reads lines of a case and two files, and has for each file what SciPy says of it.
+cat > seen.py <<'END'
+import sys
+from scipy.io import netcdf_file
+
+
+def shown(attributes):
+    for name, value in attributes.items():
+        yield name, str(getattr(value, "dtype", "text")), value.tolist() if hasattr(value, "tolist") else value
+
+
+def seen(path):
+    try:
+        with netcdf_file(path, mmap=False) as file:
+            parts = [dict(file.dimensions), *shown(file._attributes)]
+            for name, variable in file.variables.items():
+                parts += [name, variable.dimensions, variable.typecode(), variable[...].tolist()]
+                parts += shown(variable._attributes)
+            return repr(parts)
+    except Exception as error:
+        return f"{path}: {error!r}"
+
+
+for line in sys.stdin:
+    case, before, after = line.rstrip("\n").split("|")
+    print(case, seen(before), seen(after), sep="|")
+END
+
+# What ncdump says of a file, but for its name.
+dumped() {
+  ncdump "$1" 2>&1 | tail -n +2
+}
+
+# The cases of a file NAME of a VERSION that is converted to each of the versions that follow. What SciPy is to read is
+# noted; in the place of a file in CDF-5, which it doesn't read, it reads that of the same text in CDF-1.
+converted() {
+  local name=$1 from=$2 file=v$2/$1.nc checked dumped= to new case
+  shift 2
+  checked=$("$ncc" check "$file" | sed -n '1s/^ok CDF-.//p')
+  if command -v ncdump > /dev/null; then dumped=$(dumped "$file"); fi
+  for to in "$@"; do
+    new=new/${name}_${from}_$to.nc
+    case="$name from CDF-$from to CDF-$to"
+    count "ncc converts $case" "ok CDF-$to" "$("$ncc" convert --to "$to" "$file" "$new" 2>&1)"
+    count "ncc checks $case" "ok CDF-$to$checked" "$("$ncc" check "$new")"
+    if command -v ncdump > /dev/null; then
+      count "ncdump names $case" "${kinds[to]}" "$(ncdump -k "$new")"
+      count "ncdump reads $case" "$dumped" "$(dumped "$new")"
+    fi
+    if command -v ncvalidator > /dev/null; then
+      count "ncvalidator passes $case" 0 "$(ncvalidator -q "$new" > /dev/null 2>&1; echo $?)"
+    fi
+    if [ "$to" != 5 ]; then echo "$case|v${from/5/1}/$name.nc|$new" >> pairs; fi
+  done
+}
+
+mkdir new
+: > pairs
+if command -v ncgen > /dev/null; then
+  for name in grid fixed one several attributes empty "${lone[@]/#/lone_}"; do
+    for version in 1 2 5; do ncgen -k "${kinds[version]}" -o "v$version/$name.nc" "$name.cdl"; done
+    for version in 1 2 5; do
+      converted "$name" "$version" 1 2 5
+      for to in 1 2 5; do
+        count "$name from CDF-$version to CDF-$to has the bytes of ncgen" "" \
+          "$(cmp "new/${name}_${version}_$to.nc" "v$to/$name.nc" 2>&1)"
+      done
+    done
+  done
+  converted wide 5 5
+  for to in 1 2; do
+    count "ncc refuses wide from CDF-5 to CDF-$to" "refused TypeForVersion 1 absent" \
+      "$("$ncc" convert --to "$to" v5/wide.nc new/wide.nc 2>&1) $? $([ -e new/wide.nc ] || echo absent)"
+  done
+fi
+if [ -n "$python" ]; then
+  "$python" write.py
+  for file in v1/scipy_*.nc; do
+    for version in 1 2; do converted "$(basename "$file" .nc)" "$version" 1 2 5; done
+  done
+  while IFS='|' read -r case before after; do
+    count "SciPy reads $case" "$before" "$after"
+  done < <("$python" seen.py < pairs)
 fi
 
 echo "$passed passed, $failed failed"

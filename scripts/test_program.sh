@@ -5,7 +5,7 @@
 set -uo pipefail
 top=$(cd "$(dirname "$0")/.." && pwd)
 folder=$(mktemp -d)
-trap 'rm -rf "$folder"' EXIT
+trap 'umount "$folder/full" 2> /dev/null; rm -rf "$folder"' EXIT
 if [ $# -gt 0 ]; then
   ncc=$(realpath "$1") || exit 1
 else
@@ -79,12 +79,12 @@ expect "an empty file to check" 1 "fault EndsEarly at 0" "" check nothing.nc
 expect "a header of the given limit" 0 "ok CDF-1 records 0 variables 0" "" check --max-header 32 empty.nc
 expect "a header past the given limit" 1 "fault HeaderTooLong at 28" "" check --max-header 31 empty.nc
 expect "version" 0 "ncc 0.1.0" "" --version
-expect_first "help" 0 "Checks, lists, reads and extends netCDF classic files" "" --help
+expect_first "help" 0 "Checks, lists, reads, extends and converts netCDF classic files" "" --help
 expect_first "help of list" 0 "Lists what the header of a file says" "" list --help
 expect_first "help of check" 0 "Says whether a file is sound, and what is unusual in it" "" check --help
 expect_first "help of csv" 0 "Prints the values of a variable, or of a selection of them" "" csv --help
 expect_first "help by a word" 0 "Lists what the header of a file says" "" help list
-expect_first "no word" 2 "" "Checks, lists, reads and extends netCDF classic files"
+expect_first "no word" 2 "" "Checks, lists, reads, extends and converts netCDF classic files"
 expect_first "no such command" 2 "" "error: unrecognized subcommand 'lst'" lst ocean.nc
 expect_first "no file" 2 "" "error: the following required arguments were not provided:" list
 expect_first "no file to check" 2 "" "error: the following required arguments were not provided:" check
@@ -152,7 +152,11 @@ for file in ocean.nc bad_magic_1.nc; do
   count "csv $file, full output" "3 error device" "$? $(cat err)"
   "$ncc" extend "$file" 0 > /dev/full 2> err
   count "extend $file, full output" "3 error device" "$? $(cat err)"
+  "$ncc" convert --to 5 "$file" "new_$file" > /dev/full 2> err
+  count "convert $file, full output" "3 error device" "$? $(cat err)"
 done
+count "convert of a fault makes no file, full output" absent "$([ -e new_bad_magic_1.nc ] || echo absent)"
+rm -f new_ocean.nc
 "$ncc" list --help > /dev/full 2> err
 count "help, full output" "3 error device" "$? $(cat err)"
 "$ncc" list not_there.nc > out 2> /dev/full
@@ -211,6 +215,208 @@ expect_first "extend by no number" 2 "" "error: invalid value 'x' for '<N>': inv
 expect_first "extend by what" 2 "" "error: the following required arguments were not provided:" extend two.nc
 expect_first "help of extend" 0 "Adds records of fill values to a file" "" extend --help
 
+# ---- files in another version
+
+# The case of a FILE that is converted to a VERSION: its line, and the bytes of another file.
+converts() {
+  rm -f new.nc
+  expect "convert $1 to CDF-$2" 0 "ok CDF-$2" "" convert --to "$2" "$1" new.nc
+  count "convert $1 to CDF-$2: the bytes of $3" "" "$(cmp new.nc "$3" 2>&1)"
+}
+
+# The case of a FILE that is converted to a VERSION, and from there to its OWN: its bytes are the same.
+there_and_back() {
+  rm -f middle.nc
+  expect "convert $1 to CDF-$2" 0 "ok CDF-$2" "" convert --to "$2" "$1" middle.nc
+  rm -f new.nc
+  expect "convert $1 to CDF-$2 and back" 0 "ok CDF-$3" "" convert --to "$3" middle.nc new.nc
+  count "convert $1 to CDF-$2 and back: its bytes" "" "$(cmp new.nc "$1" 2>&1)"
+}
+
+# The case NAME of a FILE that isn't converted to a VERSION: STATUS, OUT and ERR, and no file is made.
+makes_none() {
+  rm -f new.nc
+  expect "$1" "$4" "$5" "$6" convert --to "$3" "$2" new.nc
+  count "$1: no file is made" absent "$([ -e new.nc ] || echo absent)"
+}
+
+# A copy of a FILE, as the last word, with these bytes at an OFFSET.
+changed() {
+  cp "$1" "$4"
+  printf "$3" | dd of="$4" bs=1 seek="$2" conv=notrunc status=none
+}
+
+# kinds and lone are one dataset each, in three versions.
+for name in kinds lone; do
+  for from in 1 2 5; do
+    for to in 1 2 5; do converts "${name}_$from.nc" "$to" "${name}_$to.nc"; done
+  done
+done
+for to in 1 2 5; do
+  for file in empty tiny grid ocean; do there_and_back "$file.nc" "$to" 1; done
+done
+there_and_back counts.nc 5 5
+
+# A file that is still written, with a part of a record behind those that are whole.
+for name in kinds lone; do
+  for from in 1 2 5; do
+    mark='\xff\xff\xff\xff'
+    if [ "$from" = 5 ]; then mark=$mark$mark; fi
+    changed "${name}_$from.nc" 4 "$mark" streaming.nc
+    printf '\1' >> streaming.nc
+    for to in 1 2 5; do converts streaming.nc "$to" "${name}_$to.nc"; done
+  done
+done
+
+# The standard's example with a padding of its header, a tag of an empty list, a vsize and a padding of its values that
+# aren't those of a canonical file; with a gap before its values and bytes behind them; and without its last padding.
+changed tiny.nc 50 '\1' rough.nc
+changed rough.nc 60 '\0\0\0\x0c' rougher.nc
+changed rougher.nc 72 '\0\0\0\x08' rough.nc
+changed rough.nc 90 '\1\2' rougher.nc
+converts rougher.nc 1 tiny.nc
+{
+  head -c 76 tiny.nc
+  printf '\0\0\0\x58\1\2\3\4\5\6\7\x08'
+  tail -c 12 tiny.nc
+  printf '\1\2\3'
+} > apart.nc
+converts apart.nc 1 tiny.nc
+head -c 90 tiny.nc > cut.nc
+converts cut.nc 1 tiny.nc
+# The int a behind the byte b, and what they are in CDF-2.
+{
+  printf 'CDF\1\0\0\0\0\0\0\0\0\0\0\0\0\0\0\0\0\0\0\0\0\0\0\0\x0b\0\0\0\2'
+  printf '\0\0\0\1a\0\0\0\0\0\0\0\0\0\0\0\0\0\0\0\0\0\0\4\0\0\0\4\0\0\0\x64'
+  printf '\0\0\0\1b\0\0\0\0\0\0\0\0\0\0\0\0\0\0\0\0\0\0\1\0\0\0\4\0\0\0\x60'
+  printf '\6\0\0\0\0\0\0\5'
+} > other.nc
+{
+  printf 'CDF\2\0\0\0\0\0\0\0\0\0\0\0\0\0\0\0\0\0\0\0\0\0\0\0\x0b\0\0\0\2'
+  printf '\0\0\0\1a\0\0\0\0\0\0\0\0\0\0\0\0\0\0\0\0\0\0\4\0\0\0\4\0\0\0\0\0\0\0\x68'
+  printf '\0\0\0\1b\0\0\0\0\0\0\0\0\0\0\0\0\0\0\0\0\0\0\1\0\0\0\4\0\0\0\0\0\0\0\x6c'
+  printf '\0\0\0\5\6\x81\x81\x81'
+} > in_order.nc
+converts other.nc 2 in_order.nc
+
+# Files that don't pass, and what a version can't hold.
+for file in bad_*.nc; do makes_none "convert $file" "$file" 1 1 "$(cat "$top/examples/${file%.nc}.checked")" ""; done
+makes_none "convert an empty file" nothing.nc 2 1 "fault EndsEarly at 0" ""
+for to in 1 2; do makes_none "convert counts.nc to CDF-$to" counts.nc "$to" 1 "refused TypeForVersion" ""; done
+for to in 1 2 5; do
+  makes_none "convert noted.nc to CDF-$to" noted.nc "$to" 1 "refused DuplicateName" ""
+  for name in 'a\/b' '.ab' 'ab '; do
+    sed "s/dim/$name/" tiny.nc > named.nc
+    makes_none "convert a dimension '$name' to CDF-$to" named.nc "$to" 1 "refused BadName" ""
+  done
+done
+sed 's/vx/v\//' tiny.nc > named.nc
+makes_none "convert a variable v/" named.nc 2 1 "refused BadName" ""
+# A ubyte of CDF-5.
+{
+  printf 'CDF\5\0\0\0\0\0\0\0\0\0\0\0\0\0\0\0\0\0\0\0\0\0\0\0\0\0\0\0\0\0\0\0\0\0\0\0\x0b\0\0\0\0\0\0\0\1'
+  printf '\0\0\0\0\0\0\0\1u\0\0\0\0\0\0\0\0\0\0\0\0\0\0\0\0\0\0\0\0\0\0\0\0\0\0\7\0\0\0\0\0\0\0\4\0\0\0\0\0\0\0\x64'
+  printf '\7\xff\xff\xff'
+} > ubyte.nc
+for to in 1 2; do makes_none "convert a ubyte to CDF-$to" ubyte.nc "$to" 1 "refused TypeForVersion" ""; done
+converts ubyte.nc 5 ubyte.nc
+# A dimension of length 2^31, which a header of CDF-1 can tell too, though none is written so.
+{
+  printf 'CDF\5\0\0\0\0\0\0\0\0\0\0\0\x0a\0\0\0\0\0\0\0\1\0\0\0\0\0\0\0\1x\0\0\0'
+  printf '\0\0\0\0\x80\0\0\0\0\0\0\0\0\0\0\0\0\0\0\0\0\0\0\0\0\0\0\0\0\0\0\0'
+} > long_5.nc
+{
+  printf 'CDF\1\0\0\0\0\0\0\0\x0a\0\0\0\1\0\0\0\1x\0\0\0\x80\0\0\0'
+  printf '\0\0\0\0\0\0\0\0\0\0\0\0\0\0\0\0'
+} > long_1.nc
+for to in 1 2; do
+  for from in 1 5; do
+    makes_none "convert a length of 2^31 from CDF-$from to CDF-$to" "long_$from.nc" "$to" 1 "refused CountForVersion" ""
+  done
+done
+for from in 1 5; do converts "long_$from.nc" 5 long_5.nc; done
+# 2^31 records of nothing.
+changed empty.nc 4 '\x80\0\0\0' records_of_nothing.nc
+makes_none "convert 2^31 records to CDF-2" records_of_nothing.nc 2 1 "refused CountForVersion" ""
+# The bytes a(x), with x of length 2^31 - 4, and b behind them, in CDF-2.
+{
+  printf 'CDF\2\0\0\0\0\0\0\0\x0a\0\0\0\1\0\0\0\1x\0\0\0\x7f\xff\xff\xfc\0\0\0\0\0\0\0\0\0\0\0\x0b\0\0\0\2'
+  printf '\0\0\0\1a\0\0\0\0\0\0\1\0\0\0\0\0\0\0\0\0\0\0\0\0\0\0\1\x7f\xff\xff\xfc\0\0\0\0\0\0\0\x78'
+  printf '\0\0\0\1b\0\0\0\0\0\0\0\0\0\0\0\0\0\0\0\0\0\0\1\0\0\0\4\0\0\0\0\x80\0\0\x74'
+} > far.nc
+truncate -s 2147483768 far.nc
+count "check of a begin past 2^31" "ok CDF-2 records 0 variables 2" "$("$ncc" check --strict far.nc)"
+makes_none "convert a begin past 2^31 to CDF-1" far.nc 1 1 "refused OffsetForVersion" ""
+# The doubles a(y, x) of 2^32 bytes and b behind them, in CDF-5.
+{
+  printf 'CDF\5\0\0\0\0\0\0\0\0\0\0\0\x0a\0\0\0\0\0\0\0\2'
+  printf '\0\0\0\0\0\0\0\1y\0\0\0\0\0\0\0\0\1\0\0\0\0\0\0\0\0\0\1x\0\0\0\0\0\0\0\0\0\x20\0'
+  printf '\0\0\0\0\0\0\0\0\0\0\0\0\0\0\0\x0b\0\0\0\0\0\0\0\2'
+  printf '\0\0\0\0\0\0\0\1a\0\0\0\0\0\0\0\0\0\0\2\0\0\0\0\0\0\0\0\0\0\0\0\0\0\0\1'
+  printf '\0\0\0\0\0\0\0\0\0\0\0\0\0\0\0\6\0\0\0\1\0\0\0\0\0\0\0\0\0\0\0\xf8'
+  printf '\0\0\0\0\0\0\0\1b\0\0\0\0\0\0\0\0\0\0\0\0\0\0\0\0\0\0\0\0\0\0\0\0\0\0\6'
+  printf '\0\0\0\0\0\0\0\x08\0\0\0\1\0\0\0\xf8'
+} > wide.nc
+truncate -s 4294967552 wide.nc
+count "check of 2^32 bytes" "ok CDF-5 records 0 variables 2" "$("$ncc" check --strict wide.nc)"
+for to in 1 2; do makes_none "convert 2^32 bytes to CDF-$to" wide.nc "$to" 1 "refused SizeForVersion" ""; done
+rm -f far.nc wide.nc
+
+# A file that is there stays as it is, whatever the answer.
+cp lone_5.nc there.nc
+expect "convert to a file that is there" 3 "" "error device" convert --to 2 tiny.nc there.nc
+expect "convert a file to itself" 3 "" "error device" convert --to 5 there.nc there.nc
+expect "convert what is refused to a file that is there" 1 "refused TypeForVersion" "" convert --to 1 counts.nc there.nc
+expect "convert a fault to a file that is there" 1 "fault Truncated at 60" "" convert --to 1 bad_truncated_1.nc there.nc
+count "the file that is there" "" "$(cmp there.nc lone_5.nc 2>&1)"
+ln -s nowhere.nc link.nc
+expect "convert to a link to no file" 3 "" "error device" convert --to 2 tiny.nc link.nc
+count "convert to a link to no file: no file is made" absent "$([ -e nowhere.nc ] || echo absent)"
+expect "convert to a folder" 3 "" "error device" convert --to 2 tiny.nc .
+expect "convert into no folder" 3 "" "error device" convert --to 2 tiny.nc not_there/new.nc
+expect "convert to an empty name" 3 "" "error device" convert --to 2 tiny.nc ""
+makes_none "convert no such file" not_there.nc 1 3 "" "error device"
+makes_none "convert a folder" . 1 3 "" "error device"
+
+# The new file is whole where only its line can't be written.
+rm -f new.nc
+"$ncc" convert --to 5 kinds_1.nc new.nc > /dev/full 2> err
+count "convert, full output" "3 error device" "$? $(cat err)"
+count "convert, full output: the file" "" "$(cmp new.nc kinds_5.nc 2>&1)"
+rm -f new.nc
+"$ncc" convert --to 5 kinds_1.nc new.nc <&- >&- 2> err
+count "convert, closed input and output" "3 error device" "$? $(cat err)"
+count "convert, closed input and output: the file" "" "$(cmp new.nc kinds_5.nc 2>&1)"
+
+# The case of a file of 1 to so many bytes, which is a beginning of long.nc.
+begins() {
+  local length
+  length=$(wc -c < "$2" | tr -d ' ')
+  count "$1: its length" true "$([ "$length" -gt 0 ] && [ "$length" -le "$3" ] && echo true || echo "$length")"
+  count "$1: a beginning of the file" "" "$(cmp -n "$length" "$2" long.nc 2>&1)"
+}
+converts long.nc 1 long.nc
+rm -f new.nc
+(trap '' XFSZ; ulimit -f 100; "$ncc" convert --to 1 long.nc new.nc > out 2> err)
+count "convert past the limit of files" "3  error device" "$? $(cat out) $(cat err)"
+begins "convert past the limit of files" new.nc 102400
+mkdir full
+if mount -t tmpfs -o size=64k tmpfs full 2> /dev/null; then
+  expect "convert to a full disk" 3 "" "error device" convert --to 1 long.nc full/new.nc
+  begins "convert to a full disk" full/new.nc 65536
+  umount full
+else
+  echo "skipped a full disk: none can be mounted"
+fi
+
+expect_first "convert to no version" 2 "" "error: the following required arguments were not provided:" convert tiny.nc new.nc
+expect_first "convert to CDF-3" 2 "" "error: invalid value '3' for '--to <VERSION>'" convert --to 3 tiny.nc new.nc
+expect_first "convert to what" 2 "" "error: the following required arguments were not provided:" convert --to 1 tiny.nc
+expect_first "convert of three files" 2 "" "error: unexpected argument 'new.nc' found" convert --to 1 tiny.nc there.nc new.nc
+expect_first "help of convert" 0 "Writes what a file holds into a new file, in another version" "" convert --help
+"$ncc" --help > out
+count "help names convert" 1 "$(grep -c '^  convert  ' out)"
+
 # ---- headers at the limit, and 4 bytes past it, where the last field is: its 48 bytes besides the values are
 # the fields, and the lines are 57 bytes besides them
 
@@ -227,6 +433,8 @@ count "a header of 67,108,864 bytes" "0 67108864 $((67108864 - 48 + 57)) " \
   "$? $(wc -c < at_the_limit.nc | tr -d ' ') $(wc -c < out | tr -d ' ') $(cat err)"
 head_of $((67108864 - 44)) > past_the_limit.nc
 expect "a header of 67,108,868 bytes" 1 "fault HeaderTooLong at 67108864" "" list past_the_limit.nc
+converts at_the_limit.nc 1 at_the_limit.nc
+makes_none "convert a header of 67,108,868 bytes" past_the_limit.nc 1 1 "fault HeaderTooLong at 67108864" ""
 expect "check of a header of 67,108,864 bytes" 0 "ok CDF-1 records 0 variables 0" "" check at_the_limit.nc
 expect "check of a header of 67,108,868 bytes" 1 "fault HeaderTooLong at 67108864" "" check past_the_limit.nc
 expect "check of it with a greater limit" 0 "ok CDF-1 records 0 variables 0" "" \
