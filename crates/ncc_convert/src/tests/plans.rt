@@ -56,6 +56,9 @@ const ROWS: [Row; 7] = [
 /// The open file of this header and this length.
 fn long_file(alloc: Global, words: &[u32], length: u64) -> Option<NcFile<LongStore>> {
     let front = bytes_of(alloc, words).ok()?;
+    if front.len() as u64 > length {
+        return None;
+    }
     open(alloc, LongStore::new(front, length), LIMIT).ok()
 }
 
