@@ -1,7 +1,6 @@
 //! `convert`: what a file holds, in another version.
 
-ghost use Rattle.std.specs.Prelude.{◌≡◌, ◌⊎◌, ◌+◌, ◌≤◌, max, ℕ, length};
-ghost use Rattle.ncc_values.specs.Failures.{Rose};
+ghost use Rattle.std.specs.Prelude.{◌≡◌, ◌+◌, ◌≤◌, max, ℕ, length};
 ghost use Rattle.ncc_build.specs.Builds.{schema_of as planned_schema};
 ghost use Rattle.ncc_build.specs.Dataset.{slabs_of};
 ghost use Rattle.ncc_build.specs.File.{header_of};
@@ -9,29 +8,18 @@ ghost use Rattle.ncc_store.specs.Store.{Unmoved, KeepsImages};
 ghost use Rattle.ncc_layout.specs.Placed.{file_length_of};
 ghost use Rattle.ncc_check.specs.Files.{store_of, schema_of, placed_of, must_reopen};
 ghost use Rattle.ncc_write.specs.Writing.{Went};
-ghost use Rattle.ncc_convert.specs.Converting.{IsWhole, ReadsAs};
+ghost use Rattle.ncc_convert.specs.Converting.{IsSomeFile, ReadsAs};
 ghost use Rattle.ncc_convert.specs.Copying.{pieces_of};
 ghost use Rattle.ncc_convert.specs.Found.{IsPlanned};
-ghost use Rattle.ncc_cli.specs.Converting.{ConvertsInto, conversion};
+ghost use Rattle.ncc_cli.specs.Converting.{ConversionCounts, ConvertsInto};
 
-use crate::answer::Answer;
+use crate::answer::{Answer, answered};
 use ncc_check::NcFile;
-use ncc_convert::{Fault, convert};
+use ncc_convert::convert;
 use ncc_header::Sink;
 use ncc_store::Store;
 use ncc_write::Built;
 use std::alloc::Global;
-
-/// What a conversion comes to.
-fn converted(done: Result<(), Fault>) -> Answer
-    ensures { result ≡ conversion done }
-{
-    match done {
-        Ok(()) => Answer::Passed,
-        Err(Fault::Device) => Answer::Device,
-        Err(Fault::Memory) => Answer::Memory,
-    }
-}
 
 /// Writes the file of what an open file holds, by a schema that was planned for it, and prints nothing. After a failure
 /// a beginning of that file went out, and after want of memory nothing, since all memory is taken before.
@@ -44,16 +32,14 @@ pub fn convert_engine<S: Store, W: Sink + Drop>(
     requires planned { IsPlanned (schema_of file.old) (placed_of file.old) (planned_schema built) }
     ensures converts { ConvertsInto S.tells_bytes (S.bytes (store_of file.old)) (placed_of file.old)
         (planned_schema built) (W.put sink) (W.put result.0) result.1 }
-    ensures whole { result.1 ≡ Answer.Passed → (limit : ℕ) → length (header_of (planned_schema built)) ≤ limit
-        → Went (W.put sink) (W.put result.0) (λ out. ∥ IsWhole (planned_schema built) limit out ∥₁) }
+    ensures whole { result.1 ≡ Answer.Passed
+        → Went (W.put sink) (W.put result.0) (λ out. ∥ IsSomeFile (planned_schema built) out ∥₁) }
     ensures reads { result.1 ≡ Answer.Passed → (limit : ℕ) → length (header_of (planned_schema built)) ≤ limit
         → Went (W.put sink) (W.put result.0) (ReadsAs S.tells_bytes (S.bytes (store_of file.old))
         (placed_of file.old) (planned_schema built) limit) }
-    ensures memory { result.1 ≡ Answer.Memory → result.0 ≡ sink }
-    ensures quiet { (result.1 ≡ Answer.Device → ⊥) → (S.failures (store_of file.new) ≡ S.failures (store_of file.old))
-        × (W.failures result.0 ≡ W.failures sink) }
-    ensures device { result.1 ≡ Answer.Device → Rose (S.failures (store_of file.old)) (S.failures (store_of file.new))
-        ⊎ Rose (W.failures sink) (W.failures result.0) }
+    ensures memory { result.1 ≡ Answer.Memory → (result.0 ≡ sink) × (file.new ≡ file.old) }
+    ensures count { ConversionCounts (S.failures (store_of file.old)) (S.failures (store_of file.new))
+        (W.failures sink) (W.failures result.0) result.1 }
     ensures schema { schema_of file.new ≡ schema_of file.old }
     ensures placed { placed_of file.new ≡ placed_of file.old }
     ensures reopen { must_reopen file.new ≡ must_reopen file.old }
@@ -65,5 +51,5 @@ pub fn convert_engine<S: Store, W: Sink + Drop>(
         ≤ max (S.reach (store_of file.old)) (file_length_of (placed_of file.old)) }
 {
     let (sink, done) = convert(alloc, file, built, sink);
-    (sink, converted(done))
+    (sink, answered(done, Answer::Passed))
 }

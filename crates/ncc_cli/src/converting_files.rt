@@ -1,8 +1,17 @@
 //! Converting a file into a new one.
 
+ghost use Rattle.std.specs.Prelude.{◌≡◌, ◌≢◌, ℕ, List, IsTrue, codes};
+ghost use Rattle.ncc_schema.specs.Device.{Puts};
+ghost use Rattle.ncc_layout.specs.Placed.{records_of_file};
+ghost use Rattle.ncc_check.specs.declared.fault.FileFault.{FileFault};
+ghost use Rattle.ncc_lines.specs.Verdicts.{file_fault_line};
+ghost use Rattle.ncc_build.specs.declared.fault.WriteFault.{WriteFault};
 ghost use Rattle.ncc_build.specs.Builds.{schema_of as planned_schema};
 ghost use Rattle.ncc_check.specs.Files.{schema_of, placed_of};
 ghost use Rattle.ncc_convert.specs.Found.{IsPlanned};
+ghost use Rattle.ncc_convert.specs.Lines.{converted_line, plan_line};
+ghost use Rattle.ncc_cli.specs.Converting.{IsRefusalLine};
+ghost use Rattle.ncc_cli.specs.Planning.{IsAgainst};
 
 use crate::answer::{Answer, answered};
 use crate::commands::LIMIT;
@@ -31,6 +40,7 @@ fn convert_into<R: Files<File = File> + AllocGlobal, S: Store>(
     path: &str,
 ) -> Answer
     requires planned { IsPlanned (schema_of file.old) (placed_of file.old) (planned_schema built) }
+    ensures { result ≢ Answer.Refused }
 {
     let Ok(out) = File::create_new(rt, path) else {
         return Answer::Device;
@@ -50,7 +60,12 @@ fn convert_file<R: Files<File = File> + AllocGlobal, S: Store, W: Sink>(
     version: Version,
     path: &str,
     sink: &mut W,
-) -> Answer {
+) -> Answer
+    ensures passed { result ≡ Answer.Passed → Puts (W.put sink.old) (W.put sink.new) (converted_line version) }
+    ensures refused { result ≡ Answer.Refused → (f : WriteFault)
+        × IsAgainst version (schema_of file.old) (records_of_file (placed_of file.old)) f
+        × Puts (W.put sink.old) (W.put sink.new) (plan_line f) }
+{
     let built = match plan(rt.alloc(), file, version, sink) {
         Ok(built) => built,
         Err(answer) => return answer,
@@ -62,7 +77,11 @@ fn convert_file<R: Files<File = File> + AllocGlobal, S: Store, W: Sink>(
 }
 
 /// The line of a file that can't be opened, and what that comes to.
-fn refused<W: Sink>(alloc: Global, refusal: Refusal, sink: &mut W) -> Answer {
+fn refused<W: Sink>(alloc: Global, refusal: Refusal, sink: &mut W) -> Answer
+    ensures passed { result ≢ Answer.Passed }
+    ensures told { result ≡ Answer.Refused → (f : FileFault) × (refusal ≡ Refusal.Fault f)
+        × Puts (W.put sink.old) (W.put sink.new) (file_fault_line f) }
+{
     match refusal {
         Refusal::Fault(fault) => answered(send_file_fault(alloc, fault, sink), Answer::Refused),
         Refusal::Device => Answer::Device,
@@ -77,7 +96,11 @@ fn convert_store<R: Files<File = File> + AllocGlobal, S: Store + Drop, W: Sink>(
     version: Version,
     path: &str,
     sink: &mut W,
-) -> Answer {
+) -> Answer
+    ensures passed { result ≡ Answer.Passed → Puts (W.put sink.old) (W.put sink.new) (converted_line version) }
+    ensures refused { IsTrue S.tells_bytes → result ≡ Answer.Refused → (text : List ℕ)
+        × Puts (W.put sink.old) (W.put sink.new) text × IsRefusalLine (S.bytes store) LIMIT version text }
+{
     match open(rt.alloc(), store, LIMIT) {
         Ok(opened) => {
             let mut file = opened;
@@ -108,7 +131,11 @@ fn convert<R: Files<File = File> + AllocGlobal, O: Write>(
 }
 
 /// The version of this word.
-fn version_of(word: &str) -> Version {
+fn version_of(word: &str) -> Version
+    ensures one { word.now ≡ codes "1" → result ≡ Version.V1 }
+    ensures two { word.now ≡ codes "2" → result ≡ Version.V2 }
+    ensures five { word.now ≡ codes "5" → result ≡ Version.V5 }
+{
     match word {
         "1" => Version::V1,
         "2" => Version::V2,

@@ -1,8 +1,8 @@
 -- A copy that has taken all values, and what went out of it.
-use Rattle.std.proofs.Common.{◌≡◌, inr, ℕ, ◌+◌, ◌*◌, ◌≤◌, Bool, false, IsTrue, List, [], ◌∷◌, ◌++◌, Option, Some, None, Result, Ok, Err, length, refl, sym, ap, ap₂, subst, ◌∙◌, arith, append_assoc, length-append}
+use Rattle.std.proofs.Common.{◌≡◌, inr, ℕ, ◌+◌, ◌*◌, Bool, false, IsTrue, List, [], ◌∷◌, ◌++◌, Option, Some, None, Result, Ok, Err, length, refl, sym, ap, ap₂, subst, ◌∙◌, arith, append_assoc, length-append}
 use Rattle.std.specs.Prelude.{sum_by, zip, if◌then◌else◌}
 use Rattle.std.specs.List.{AllZip, flat_map}
-use Rattle.std.proofs.Math.Logic.{∥∥₁_elim, ∥∥₁_map}
+use Rattle.std.proofs.Math.Logic.{∥∥₁_elim}
 use Rattle.std.proofs.Props.{props}
 use Rattle.std.proofs.lemmas.List.{append-nil, nil_from_length}
 use Rattle.std.proofs.lemmas.List.Sums.{sum_by-cons}
@@ -24,9 +24,9 @@ use Rattle.ncc_write.specs.Laws.{CompleteWhenTaken, DatasetTold, IsCompleted}
 use Rattle.ncc_write.specs.Writing.{IsExactly, IsFront, Next, StartFails, Standing, Went, data_length, dataset_of, expected, next_of, refuses_finish, refuses_unfinished, told}
 use Rattle.ncc_write.proofs.SlabsAt.{HasValues, all_have_values}
 use Rattle.ncc_convert.specs.Copying.{HasFront}
-use Rattle.ncc_convert.specs.Converting.{ConvertCounts, ConvertsAs, IsWhole, ReadsAs, fault_of}
-use Rattle.ncc_convert.specs.declared.converting.Fault.{Fault}
-use Rattle.ncc_convert.specs.declared.converting.Fault.TheVariants.{Memory}
+use Rattle.ncc_convert.specs.Converting.{ConvertCounts, ConvertsAs, ReadsAs, halt_of}
+use Rattle.ncc_lines.specs.declared.halt.Halt.{Halt}
+use Rattle.ncc_lines.specs.declared.halt.Halt.TheVariants.{Memory}
 use Rattle.ncc_convert.specs.Found.{IsOf}
 
 -- ---- all values
@@ -99,13 +99,13 @@ by_fault old new m n header P fault.Failed fails memory device = absurd fails
 by_fault old new m n header P fault.Complete fails memory device = absurd fails
 
 pub start_counts : (old new : Option (List ℕ)) (k m n : ℕ) (header : List ℕ) (e : WriteFault)
-    → StartFails old new m n header e → ConvertCounts k k m n (Err (fault_of e))
-start_counts old new k m n header e fails = by_fault old new m n header (λ f. ConvertCounts k k m n (Err (fault_of f))) e fails
+    → StartFails old new m n header e → ConvertCounts k k m n (Err (halt_of e))
+start_counts old new k m n header e fails = by_fault old new m n header (λ f. ConvertCounts k k m n (Err (halt_of f))) e fails
     (λ memory. (refl, memory.1)) (λ device. inr (refl, device.1))
 
 pub start_memory : (old new : Option (List ℕ)) (m n : ℕ) (header : List ℕ) (e : WriteFault)
-    → StartFails old new m n header e → fault_of e ≡ Memory → e ≡ fault.Memory
-start_memory old new m n header e fails = by_fault old new m n header (λ f. fault_of f ≡ Memory → f ≡ fault.Memory) e fails
+    → StartFails old new m n header e → halt_of e ≡ Memory → e ≡ fault.Memory
+start_memory old new m n header e fails = by_fault old new m n header (λ f. halt_of f ≡ Memory → f ≡ fault.Memory) e fails
     (λ memory is. refl) (λ device is. absurd (cc is))
 
 pub nothing_went : (tells : Bool) (file : List ℕ) (p : Placed) (t : Schema) (put : Option (List ℕ))
@@ -124,26 +124,19 @@ module _ (tells : Bool) (file : List ℕ) (p : Placed) (t : Schema) (old new : O
           (rest ++ rows, ap (λ (l : List ℕ). l ++ rows) header ∙ append_assoc out rest rows)
 
   pub start_failed : (m n : ℕ) (e : WriteFault) → StartFails old new m n (header_of t) e
-      → ConvertsAs tells file p t old new (Err (fault_of e))
-  start_failed m n e fails = by_fault old new m n (header_of t) (λ f. ConvertsAs tells file p t old new (Err (fault_of f))) e
+      → ConvertsAs tells file p t old new (Err (halt_of e))
+  start_failed m n e fails = by_fault old new m n (header_of t) (λ f. ConvertsAs tells file p t old new (Err (halt_of f))) e
       fails (λ memory. subst (HasFront tells file p t old) (sym memory.0) (nothing_went tells file p t old))
       (λ device. header_went device.0)
 
 -- ---- the whole file
 
-abbrev error_or : Fault → Result (Unit {0}) Fault → Fault
+abbrev error_or : Halt → Result (Unit {0}) Halt → Halt
 error_or f (Ok x) = f
 error_or f (Err h) = h
 
-pub error_is : (f h : Fault) → ◌≡◌ {A = Result (Unit {0}) Fault} (Err f) (Err h) → f ≡ h
+pub error_is : (f h : Halt) → ◌≡◌ {A = Result (Unit {0}) Halt} (Err f) (Err h) → f ≡ h
 error_is f h e = ap (error_or f) e
-
-pub whole_file : (t : Schema) (limit : ℕ) (taken out : List ℕ)
-    → ((s : Schema) (taken file : List ℕ) (limit : ℕ) → ∥ IsCompleted s taken file ∥₁ → length (header_of s) ≤ limit
-    → ∥ PassesAndReads (dataset_of s taken) s file limit ∥₁)
-    → length (header_of t) ≤ limit → ∥ IsCompleted t taken out ∥₁ → ∥ IsWhole t limit out ∥₁
-whole_file t limit taken out law enough completed =
-    ∥∥₁_map (law t taken out limit completed enough) (λ passes. record { taken = taken; passes = passes })
 
 -- what was taken is the dataset of the open file, so that is what is read
 pub reads_as : (tells : Bool) (file : List ℕ) (p : Placed) (t : Schema) (limit : ℕ) (taken out : List ℕ)

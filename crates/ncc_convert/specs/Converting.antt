@@ -8,12 +8,12 @@ use Rattle.ncc_build.specs.Dataset.{Dataset, IsDataset}
 use Rattle.ncc_build.specs.File.{file_of}
 use Rattle.ncc_build.specs.declared.fault.WriteFault.{WriteFault}
 use Rattle.ncc_build.specs.declared.fault.WriteFault.TheVariants as write
+use Rattle.ncc_lines.specs.declared.halt.Halt.{Halt}
+use Rattle.ncc_lines.specs.declared.halt.Halt.TheVariants.{Device, Memory}
 use Rattle.ncc_write.specs.Headline.{PassesAndReads}
-use Rattle.ncc_write.specs.Writing.{dataset_of}
+use Rattle.ncc_write.specs.Laws.{IsCompleted}
 use Rattle.ncc_convert.specs.Copying.{HasFront}
 use Rattle.ncc_convert.specs.Found.{IsOf}
-use Rattle.ncc_convert.specs.declared.converting.Fault.{Fault}
-use Rattle.ncc_convert.specs.declared.converting.Fault.TheVariants.{Device, Memory}
 
 -- exactly the file of the dataset by the planned schema went out
 pub record HasFile (told : Bool) (file : List ℕ) (p : Placed) (planned : Schema) (start put : Option (List ℕ))
@@ -22,25 +22,25 @@ pub record HasFile (told : Bool) (file : List ℕ) (p : Placed) (planned : Schem
 
 -- by the answer
 abbrev pub ConvertsAs : (told : Bool) → (file : List ℕ) → Placed → (planned : Schema)
-    → (start put : Option (List ℕ)) → Result (Unit {0}) Fault → Type 0
+    → (start put : Option (List ℕ)) → Result (Unit {0}) Halt → Type 0
 ConvertsAs told file p t start put (Ok x) = HasFile told file p t start put
 ConvertsAs told file p t start put (Err e) = HasFront told file p t start put
 
--- what went out passes without a note, and whoever reads it reads what was written
-pub record IsWhole (t : Schema) (limit : ℕ) (out : List ℕ) : Type 0 where
+-- what went out is the file of some dataset by this schema
+pub record IsSomeFile (t : Schema) (out : List ℕ) : Type 0 where
   pub taken : List ℕ
-  pub passes : PassesAndReads (dataset_of t taken) t out limit
+  pub completed : IsCompleted t taken out
 
--- it reads back as the dataset of the open file
+-- it passes without a note, and reads back as the dataset of the open file
 pub record ReadsAs (told : Bool) (file : List ℕ) (p : Placed) (t : Schema) (limit : ℕ) (out : List ℕ) : Type 0 where
   pub is : IsTrue told → (d : Dataset) → IsDataset d → IsOf file p t d → ∥ PassesAndReads d t out limit ∥₁
 
 -- a failure of the device is counted, of the store or of the sink, and nothing else
-abbrev pub ConvertCounts : (old_store new_store old_sink new_sink : ℕ) → Result (Unit {0}) Fault → Type 0
+abbrev pub ConvertCounts : (old_store new_store old_sink new_sink : ℕ) → Result (Unit {0}) Halt → Type 0
 ConvertCounts m n i j (Err Device) = (Rose m n × (j ≡ i)) ⊎ ((n ≡ m) × Rose i j)
 ConvertCounts m n i j result = (n ≡ m) × (j ≡ i)
 
 -- why a writer didn't start
-abbrev pub fault_of : WriteFault → Fault
-fault_of write.Memory = Memory
-fault_of other = Device
+abbrev pub halt_of : WriteFault → Halt
+halt_of write.Memory = Memory
+halt_of other = Device

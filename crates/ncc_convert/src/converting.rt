@@ -8,38 +8,29 @@ ghost use Rattle.ncc_store.specs.Store.{Unmoved, KeepsImages};
 ghost use Rattle.ncc_layout.specs.Placed.{file_length_of};
 ghost use Rattle.ncc_check.specs.Files.{store_of, schema_of, placed_of, must_reopen};
 ghost use Rattle.ncc_write.specs.Writing.{Went};
-ghost use Rattle.ncc_convert.specs.Converting.{ConvertCounts, ConvertsAs, IsWhole, ReadsAs, fault_of};
+ghost use Rattle.ncc_convert.specs.Converting.{ConvertCounts, ConvertsAs, IsSomeFile, ReadsAs, halt_of};
 ghost use Rattle.ncc_convert.specs.Copying.{pieces_of};
 ghost use Rattle.ncc_convert.specs.Found.{IsPlanned};
 
 use crate::copying::copy_all;
 use ncc_check::NcFile;
+use ncc_lines::Halt;
 use ncc_schema::Sink;
 use ncc_store::Store;
 use ncc_write::laws::{complete_when_taken, dataset_told};
 use ncc_write::{Built, FileWriter, WriteFault, headline};
 use std::alloc::Global;
-use thiserror::Error;
 
 /// How many bytes are read at once.
 const BUFFER: usize = 65_536;
 
-/// What kept a file from being written whole.
-#[derive(Clone, Copy, Debug, PartialEq, Eq, Error)]
-pub enum Fault {
-    #[error("Device")]
-    Device,
-    #[error("Memory")]
-    Memory,
-}
-
 /// Why a writer didn't start.
-fn fault_of(fault: WriteFault) -> Fault
-    ensures { result ≡ fault_of fault }
+fn halt_of(fault: WriteFault) -> Halt
+    ensures { result ≡ halt_of fault }
 {
     match fault {
-        WriteFault::Memory => Fault::Memory,
-        _ => Fault::Device,
+        WriteFault::Memory => Halt::Memory,
+        _ => Halt::Device,
     }
 }
 
@@ -51,16 +42,16 @@ pub fn convert<S: Store, W: Sink + Drop>(
     file: &mut NcFile<S>,
     built: Built,
     sink: W,
-) -> (W, Result<(), Fault>)
+) -> (W, Result<(), Halt>)
     requires planned { IsPlanned (schema_of file.old) (placed_of file.old) (planned_schema built) }
     ensures converts { ConvertsAs S.tells_bytes (S.bytes (store_of file.old)) (placed_of file.old)
         (planned_schema built) (W.put sink) (W.put result.0) result.1 }
-    ensures whole { OnOk result.1 ((limit : ℕ) → length (header_of (planned_schema built)) ≤ limit
-        → Went (W.put sink) (W.put result.0) (λ out. ∥ IsWhole (planned_schema built) limit out ∥₁)) }
+    ensures whole { OnOk result.1
+        (Went (W.put sink) (W.put result.0) (λ out. ∥ IsSomeFile (planned_schema built) out ∥₁)) }
     ensures reads { OnOk result.1 ((limit : ℕ) → length (header_of (planned_schema built)) ≤ limit
         → Went (W.put sink) (W.put result.0) (ReadsAs S.tells_bytes (S.bytes (store_of file.old))
         (placed_of file.old) (planned_schema built) limit)) }
-    ensures memory { result.1 ≡ Err Fault.Memory → result.0 ≡ sink }
+    ensures memory { result.1 ≡ Err Halt.Memory → (result.0 ≡ sink) × (file.new ≡ file.old) }
     ensures schema { schema_of file.new ≡ schema_of file.old }
     ensures placed { placed_of file.new ≡ placed_of file.old }
     ensures reopen { must_reopen file.new ≡ must_reopen file.old }
@@ -77,17 +68,17 @@ pub fn convert<S: Store, W: Sink + Drop>(
     complete_when_taken();
     headline();
     let Ok(mut buffer) = vec![in alloc; 0; BUFFER] else {
-        return (sink, Err(Fault::Memory));
+        return (sink, Err(Halt::Memory));
     };
     let mut writer = match FileWriter::start(alloc, built, sink) {
         Ok(writer) => writer,
-        Err((sink, fault)) => return (sink, Err(fault_of(fault))),
+        Err((sink, fault)) => return (sink, Err(halt_of(fault))),
     };
     match copy_all(file, &mut writer, &mut buffer) {
         Ok(()) => match writer.finish() {
             Ok(sink) => (sink, Ok(())),
             Err(_) => unreachable!(),
         },
-        Err(_) => (writer.into_sink(), Err(Fault::Device)),
+        Err(_) => (writer.into_sink(), Err(Halt::Device)),
     }
 }

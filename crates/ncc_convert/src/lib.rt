@@ -6,7 +6,7 @@ mod copying;
 pub mod laws;
 mod lines;
 
-pub use converting::{Fault, convert};
+pub use converting::convert;
 pub use lines::{send_converted, send_plan_refusal};
 
 #[cfg(test)]

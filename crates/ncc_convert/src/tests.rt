@@ -9,6 +9,7 @@ use ncc_files::{
     FIXED, FIXED_IN_CDF_2, FIXED_IN_CDF_5, LIMIT, RECORDS, RECORDS_DATA, TWO_RECORD_VARIABLES,
     bytes_of, with_byte,
 };
+use ncc_lines::Halt;
 use ncc_schema::{FuseSink, Sink, WriteSink};
 use ncc_store::MemStore;
 use ncc_values::Version;
@@ -84,7 +85,7 @@ fn convert_to<W: Sink + Drop>(
     bytes: Vec<u8>,
     version: Version,
     sink: W,
-) -> Option<(W, Result<(), Fault>)> {
+) -> Option<(W, Result<(), Halt>)> {
     let Ok(opened) = open(alloc, MemStore::new(bytes), LIMIT) else {
         return None;
     };
@@ -125,11 +126,7 @@ fn sinks_that_fail(rt: HostRuntime) -> Result<(), Fail> {
         let sink = FuseSink::new(WriteSink::new(Vec::new(alloc)), calls, 65_536);
         match convert_to(alloc, bytes, Version::V2, sink) {
             Some((sink, result)) => {
-                let wanted = if calls < 2 {
-                    Err(Fault::Device)
-                } else {
-                    Ok(())
-                };
+                let wanted = if calls < 2 { Err(Halt::Device) } else { Ok(()) };
                 assert!(rt; result == wanted);
                 let out = sink.into_inner().into_inner();
                 assert!(rt; out.as_slice() == whole.as_slice().split_at(length).0);

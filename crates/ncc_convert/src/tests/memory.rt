@@ -5,9 +5,10 @@ ghost use Rattle.ncc_build.specs.Builds.{schema_of as planned_schema};
 ghost use Rattle.ncc_check.specs.Files.{schema_of, placed_of};
 ghost use Rattle.ncc_convert.specs.Found.{IsPlanned};
 
-use super::super::{Fault, convert};
+use super::super::convert;
 use ncc_check::{NcFile, open};
 use ncc_files::{FIXED, FIXED_IN_CDF_2, LIMIT, bytes_of};
+use ncc_lines::Halt;
 use ncc_schema::WriteSink;
 use ncc_store::MemStore;
 use ncc_values::Version;
@@ -51,7 +52,7 @@ fn converts_without_memory(rt: HostRuntime) {
     };
     let (sink, result) = convert(rt.alloc(), &mut file, built, sink);
     let out = sink.into_inner();
-    if result == Err(Fault::Memory) {
+    if result == Err(Halt::Memory) {
         assert!(rt; out.is_empty());
         return;
     }

@@ -1,4 +1,5 @@
 use Rattle.std.proofs.Common.{◌≡◌, ◌⊎◌, ⊎_elim, inl, inr, ℕ, Err, refl, sym, ap, subst, ◌∙◌, arith}
+use Rattle.std.proofs.Math.Logic.{∥∥₁_map}
 use Rattle.ncc_values.specs.Failures.{Rose}
 use Rattle.ncc_schema.specs.Device.{Puts}
 use Rattle.ncc_schema.specs.declared.schema.Schema.{Schema}
@@ -11,10 +12,10 @@ use Rattle.ncc_write.specs.Writer.{schema_in, sink_in}
 use Rattle.ncc_write.specs.Writing.{starting}
 use Rattle.ncc_convert.specs.Copying.{Copies, HasFront}
 use Rattle.ncc_convert.specs.Converting.{ConvertCounts}
-use Rattle.ncc_convert.specs.declared.converting.Fault.{Fault}
-use Rattle.ncc_convert.specs.declared.converting.Fault.TheVariants.{Memory}
+use Rattle.ncc_lines.specs.declared.halt.Halt.{Halt}
+use Rattle.ncc_lines.specs.declared.halt.Halt.TheVariants.{Memory}
 use Rattle.ncc_convert.specs.Found.{IsOf}
-use Rattle.ncc_convert.proofs.Ending.{all_taken, is_the_file, not_unfinished, nothing_next, error_is, start_counts, start_failed, start_memory, whole_file, reads_as}
+use Rattle.ncc_convert.proofs.Ending.{all_taken, is_the_file, not_unfinished, nothing_next, error_is, start_counts, start_failed, start_memory, reads_as}
 use Rattle.ncc_convert.proofs.PiecesLeft.{at_start}
 use Rattle.ncc_convert.proofs.converting.convert.Goals as goal
 
@@ -38,8 +39,11 @@ returns-in-Err-clause-memory g c =
     let tells = g.S.Store.tells_bytes in
     let t = planned_schema c.args.built in
     let start = g.W.Sink.put c.args.sink in
-    λ memory. c.in-Err.ensures.untouched (start_memory start (g.W.Sink.put c.in-Err.sink) (g.W.Sink.failures c.args.sink) (g.W.Sink.failures c.in-Err.sink) (header_of t) c.in-Err.fault c.in-Err.ensures.refused
-    (sym c.fault_of.ensures ∙ error_is c.fault_of.result Memory memory))
+    λ memory. (
+      c.in-Err.ensures.untouched (start_memory start (g.W.Sink.put c.in-Err.sink) (g.W.Sink.failures c.args.sink) (g.W.Sink.failures c.in-Err.sink) (header_of t) c.in-Err.fault c.in-Err.ensures.refused
+          (sym c.halt_of.ensures ∙ error_is c.halt_of.result Memory memory)),
+      refl,
+    )
 
 pub returns-in-Err-clause-count : goal.returns-in-Err-clause-count
 returns-in-Err-clause-count g c =
@@ -50,7 +54,7 @@ returns-in-Err-clause-count g c =
     let tells = g.S.Store.tells_bytes in
     let t = planned_schema c.args.built in
     let start = g.W.Sink.put c.args.sink in
-    subst (λ (f : Fault). ConvertCounts (g.S.Store.failures (store_of file)) (g.S.Store.failures (store_of file)) (g.W.Sink.failures c.args.sink) (g.W.Sink.failures c.in-Err.sink) (Err f)) (sym c.fault_of.ensures)
+    subst (λ (f : Halt). ConvertCounts (g.S.Store.failures (store_of file)) (g.S.Store.failures (store_of file)) (g.W.Sink.failures c.args.sink) (g.W.Sink.failures c.in-Err.sink) (Err f)) (sym c.halt_of.ensures)
     (start_counts start (g.W.Sink.put c.in-Err.sink) (g.S.Store.failures (store_of file)) (g.W.Sink.failures c.args.sink) (g.W.Sink.failures c.in-Err.sink) (header_of t) c.in-Err.fault c.in-Err.ensures.refused)
 
 pub returns-in-Ok-finish-clause-converts : goal.returns-in-Ok-finish-clause-converts
@@ -105,11 +109,11 @@ returns-in-Ok-finish-clause-whole g c =
     let w = last.standing in
     let schema_is : w.schema ≡ t = sym last.stands.schema ∙ c.copy_all.ensures.planned ∙ stands.schema in
     let none = nothing_next w last.goes (c.in-Ok-copy_all.ensures.all start w last.stands) in
-    let went = c.in-Ok-finish.ensures.file start w last.stands in
-    λ limit enough. (
+    let went = c.in-Ok-finish.ensures.file start w last.stands in (
       went.0,
       went.1,
-      whole_file t limit w.taken went.0 c.headline.ensures.completed enough (subst (λ (u : Schema). ∥ IsCompleted u w.taken went.0 ∥₁) schema_is went.2),
+      ∥∥₁_map (subst (λ (u : Schema). ∥ IsCompleted u w.taken went.0 ∥₁) schema_is went.2)
+          (λ completed. record { taken = w.taken; completed = completed }),
     )
 
 pub returns-in-Ok-finish-clause-reads : goal.returns-in-Ok-finish-clause-reads
