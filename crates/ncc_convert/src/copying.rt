@@ -30,14 +30,16 @@ fn copy_piece<S: Store, W: Sink>(
 ) -> Result<(), Failed>
     requires room { length buffer.old ≡ 65536 }
     requires planned { IsPlanned (schema_of file.old) (placed_of file.old) (schema_in writer.old) }
-    requires copies { (start : Option (List ℕ)) × Copies S.tells_bytes (S.bytes (store_of file.old)) (placed_of file.old)
-        start (W.put (sink_in writer.old)) writer.old }
+    requires copies { (start : Option (List ℕ)) × Copies S.tells_bytes (S.bytes (store_of file.old))
+        (placed_of file.old) start (W.put (sink_in writer.old)) writer.old }
     requires next { Expects (W.put (sink_in writer.old)) writer.old var number left }
-    ensures copies { (start : Option (List ℕ)) → Copies S.tells_bytes (S.bytes (store_of file.old)) (placed_of file.old)
-        start (W.put (sink_in writer.old)) writer.old → OnOk result (Copies S.tells_bytes (S.bytes (store_of file.old)) (placed_of file.old)
+    ensures copies { (start : Option (List ℕ)) → Copies S.tells_bytes (S.bytes (store_of file.old))
+        (placed_of file.old) start (W.put (sink_in writer.old)) writer.old
+        → OnOk result (Copies S.tells_bytes (S.bytes (store_of file.old)) (placed_of file.old)
         start (W.put (sink_in writer.new)) writer.new) }
-    ensures stops { (start : Option (List ℕ)) → Copies S.tells_bytes (S.bytes (store_of file.old)) (placed_of file.old)
-        start (W.put (sink_in writer.old)) writer.old → OnErr result (HasFront S.tells_bytes (S.bytes (store_of file.old)) (placed_of file.old)
+    ensures stops { (start : Option (List ℕ)) → Copies S.tells_bytes (S.bytes (store_of file.old))
+        (placed_of file.old) start (W.put (sink_in writer.old)) writer.old
+        → OnErr result (HasFront S.tells_bytes (S.bytes (store_of file.old)) (placed_of file.old)
         (schema_in writer.old) start (W.put (sink_in writer.new))) }
     ensures before { taken_in writer.old < data_length (schema_in writer.old) }
     ensures more { OnOk result (taken_in writer.old < taken_in writer.new) }
@@ -88,13 +90,15 @@ pub(crate) fn copy_all<S: Store, W: Sink>(
 ) -> Result<(), Failed>
     requires room { length buffer.old ≡ 65536 }
     requires planned { IsPlanned (schema_of file.old) (placed_of file.old) (schema_in writer.old) }
-    requires copies { (start : Option (List ℕ)) × Copies S.tells_bytes (S.bytes (store_of file.old)) (placed_of file.old)
-        start (W.put (sink_in writer.old)) writer.old }
-    ensures copies { (start : Option (List ℕ)) → Copies S.tells_bytes (S.bytes (store_of file.old)) (placed_of file.old)
-        start (W.put (sink_in writer.old)) writer.old → OnOk result (Copies S.tells_bytes (S.bytes (store_of file.old)) (placed_of file.old)
+    requires copies { (start : Option (List ℕ)) × Copies S.tells_bytes (S.bytes (store_of file.old))
+        (placed_of file.old) start (W.put (sink_in writer.old)) writer.old }
+    ensures copies { (start : Option (List ℕ)) → Copies S.tells_bytes (S.bytes (store_of file.old))
+        (placed_of file.old) start (W.put (sink_in writer.old)) writer.old
+        → OnOk result (Copies S.tells_bytes (S.bytes (store_of file.old)) (placed_of file.old)
         start (W.put (sink_in writer.new)) writer.new) }
-    ensures stops { (start : Option (List ℕ)) → Copies S.tells_bytes (S.bytes (store_of file.old)) (placed_of file.old)
-        start (W.put (sink_in writer.old)) writer.old → OnErr result (HasFront S.tells_bytes (S.bytes (store_of file.old)) (placed_of file.old)
+    ensures stops { (start : Option (List ℕ)) → Copies S.tells_bytes (S.bytes (store_of file.old))
+        (placed_of file.old) start (W.put (sink_in writer.old)) writer.old
+        → OnErr result (HasFront S.tells_bytes (S.bytes (store_of file.old)) (placed_of file.old)
         (schema_in writer.old) start (W.put (sink_in writer.new))) }
     ensures all { OnOk result ((start : Option (List ℕ)) (w : Standing)
         → Stands start (W.put (sink_in writer.new)) writer.new w → None ≡ expected w) }
