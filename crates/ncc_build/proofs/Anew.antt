@@ -1,9 +1,10 @@
 -- A schema built anew: a run over items, each refused or added, and the items of a schema one by one.
-use Rattle.std.proofs.Common.{◌≡◌, ℕ, zero, suc, ◌+◌, ◌<◌, Bool, List, [], ◌∷◌, ◌++◌, length, get_or, drop, Option, Some, None, Result, Ok, Err, inl, inr, refl, sym, ap, subst, ◌∙◌, add-one, drop-cons, append_assoc}
+use Rattle.std.proofs.Common.{◌≡◌, ◌↔◌, ℕ, zero, suc, ◌+◌, ◌<◌, List, [], ◌∷◌, ◌++◌, length, get_or, drop, Option, Some, None, Result, Ok, Err, inl, inr, refl, sym, ap, subst, ◌∙◌, add-one, drop-cons, append_assoc}
 use Rattle.std.specs.Prelude.{◌⊎◌}
 use Rattle.std.specs.Result.{IsErrAnd}
 use Rattle.std.proofs.lemmas.Result.{err_from_is_err_and}
 use Rattle.std.proofs.lemmas.List.{append-nil}
+use Rattle.ncc_values.specs.Name.{is_name}
 use Rattle.ncc_values.specs.declared.values.Values.{Values}
 use Rattle.ncc_values.specs.declared.version.Version.{Version}
 use Rattle.ncc_schema.specs.declared.schema.Attr.{Attr}
@@ -102,38 +103,51 @@ attrs_of_last s x (a ∷ attrs) =
 pub whole_is : (s : Schema) (x : Var) → with_attrs (with_var s x.name x.xtype x.dims) (length s.vars) x.attrs ≡ with_whole s x
 whole_is s x = attrs_of_last s (record { name = x.name; dims = x.dims; attrs = []; xtype = x.xtype }) x.attrs
 
-pub vars_more : (fits : List ℕ → Bool) (s : Schema) (x : Var) (vars : List Var) → refuses_vars fits s (x ∷ vars) ≡ or_else (refuses_whole fits s x) (refuses_vars fits (with_whole s x) vars)
-vars_more fits s x vars =
-    sym (or_else_assoc (refuses_var (fits x.name) s x.name x.xtype x.dims) (refuses_attrs fits (with_var s x.name x.xtype x.dims) (length s.vars) x.attrs) (refuses_vars fits (with_whole s x) vars))
+pub vars_more : (s : Schema) (x : Var) (vars : List Var) → refuses_vars s (x ∷ vars) ≡ or_else (refuses_whole s x) (refuses_vars (with_whole s x) vars)
+vars_more s x vars =
+    sym (or_else_assoc (refuses_var (is_name x.name) s x.name x.xtype x.dims) (refuses_attrs (with_var s x.name x.xtype x.dims) (length s.vars) x.attrs) (refuses_vars (with_whole s x) vars))
 
 -- ---- the build
 
 -- how many records there were doesn't matter to it
-fails_as : (s : Schema) (n : ℕ) (e : WriteFault) → BuildFails (with_count s 0) n e → BuildFails s n e
-fails_as s n BadName h = h
-fails_as s n DuplicateName h = h
-fails_as s n TwoRecordDims h = h
-fails_as s n BadDimId h = h
-fails_as s n RecordDimNotFirst h = h
-fails_as s n TypeForVersion h = h
-fails_as s n CountForVersion h = h
-fails_as s n OffsetForVersion h = h
-fails_as s n SizeForVersion h = h
-fails_as s n WrongType h = h
-fails_as s n TooManyValues h = h
-fails_as s n Unfinished h = h
-fails_as s n Failed h = h
-fails_as s n Complete h = h
-fails_as s n Device h = h
-fails_as s n Memory h = h
+fails_same : (s : Schema) (n : ℕ) (e : WriteFault) → BuildFails (with_count s 0) n e ↔ BuildFails s n e
+fails_same s n BadName = ((λ h. h), (λ h. h))
+fails_same s n DuplicateName = ((λ h. h), (λ h. h))
+fails_same s n TwoRecordDims = ((λ h. h), (λ h. h))
+fails_same s n BadDimId = ((λ h. h), (λ h. h))
+fails_same s n RecordDimNotFirst = ((λ h. h), (λ h. h))
+fails_same s n TypeForVersion = ((λ h. h), (λ h. h))
+fails_same s n CountForVersion = ((λ h. h), (λ h. h))
+fails_same s n OffsetForVersion = ((λ h. h), (λ h. h))
+fails_same s n SizeForVersion = ((λ h. h), (λ h. h))
+fails_same s n WrongType = ((λ h. h), (λ h. h))
+fails_same s n TooManyValues = ((λ h. h), (λ h. h))
+fails_same s n Unfinished = ((λ h. h), (λ h. h))
+fails_same s n Failed = ((λ h. h), (λ h. h))
+fails_same s n Complete = ((λ h. h), (λ h. h))
+fails_same s n Device = ((λ h. h), (λ h. h))
+fails_same s n Memory = ((λ h. h), (λ h. h))
 
-build_refused : (s now : Schema) (n : ℕ) (e : WriteFault) (P Q : Type 0) → now ≡ with_count s 0 → Q → (e ≡ Memory) ⊎ BuildFails now n e → (e ≡ Memory) ⊎ (P ⊎ (Q × BuildFails s n e))
-build_refused s now n e P Q grown q (inl memory) = inl memory
-build_refused s now n e P Q grown q (inr fails) = inr (inr (q, fails_as s n e (subst (λ (t : Schema). BuildFails t n e) grown fails)))
+-- all calls passed, and gave this schema
+module _ (v w : Version) (s now : Schema) (n : ℕ) (same : w ≡ v) (none : refuses_schema w s ≡ None)
+    (grown : now ≡ with_count (with_version s w) 0) where
+  none_here : refuses_schema v s ≡ None
+  none_here = subst (λ (u : Version). refuses_schema u s ≡ None) same none
 
--- the build is refused where no call was
-pub refused_last : (T : Type 0) (fits : List ℕ → Bool) (v w : Version) (s now : Schema) (n : ℕ) (e : WriteFault) → w ≡ v → refuses_schema fits w s ≡ None → now ≡ with_count (with_version s w) 0 → BuildFailsOr now n e
-    → RebuildsAs {T = T} fits v s n (Err e)
-refused_last T fits v w s now n e same none grown fails =
-    build_refused (with_version s v) now n e (refuses_schema fits v s ≡ Some e) (refuses_schema fits v s ≡ None)
-    (subst (λ (u : Version). now ≡ with_count (with_version s u) 0) same grown) (subst (λ (u : Version). refuses_schema fits u s ≡ None) same none) fails
+  now_is : now ≡ with_count (with_version s v) 0
+  now_is = subst (λ (u : Version). now ≡ with_count (with_version s u) 0) same grown
+
+  build_refused : (e : WriteFault) (P Q : Type 0) → Q → BuildFailsOr now n e
+      → (e ≡ Memory) ⊎ (P ⊎ (Q × BuildFails (with_version s v) n e))
+  build_refused e P Q q (inl memory) = inl memory
+  build_refused e P Q q (inr fails) =
+      inr (inr (q, (fails_same (with_version s v) n e).0 (subst (λ (t : Schema). BuildFails t n e) now_is fails)))
+
+  -- the build is refused where no call was
+  pub refused_last : (T : Type 0) (e : WriteFault) → BuildFailsOr now n e → RebuildsAs {T = T} v s n (Err e)
+  refused_last T e fails =
+      build_refused e (refuses_schema v s ≡ Some e) (refuses_schema v s ≡ None) none_here fails
+
+  pub rebuilt_so : (T : Type 0) (b : T) → ((f : WriteFault) → BuildFails now n f → ⊥) → RebuildsAs v s n (Ok b)
+  rebuilt_so T b passes =
+      (none_here, λ f h. passes f (subst (λ (t : Schema). BuildFails t n f) (sym now_is) ((fails_same (with_version s v) n f).1 h)))

@@ -7,3 +7,4 @@ mod Passing
 mod Refusals
 pub mod SoundProps
 pub mod Tables
+mod Unrefused

@@ -1,7 +1,7 @@
 -- Which call of a builder is refused, and with which answer, over the schema that the calls before gave.
 use Rattle.std.specs.Prelude.{◌≡◌, ◌⊎◌, Result, Ok, Err, ℕ, zero, suc, ◌+◌, ◌<◌, ◌≤◌, ◌==◌, ◌&&◌, ◌||◌, ltb, leb, not, Bool, false, Option, Some, None, List, [], ◌∷◌, ◌++◌, length, map, get_or, if◌then◌else◌, is_none}
 use Rattle.std.specs.List.{AllByRecursion, list_any}
-use Rattle.ncc_values.specs.Name.{FitsAsName}
+use Rattle.ncc_values.specs.Name.{FitsAsName, is_name}
 use Rattle.ncc_values.specs.Values.{type_of, count_of}
 use Rattle.ncc_values.specs.XType.{code_of, type_of_code}
 use Rattle.ncc_values.specs.declared.values.Values.{Values}
@@ -216,25 +216,25 @@ abbrev pub or_else : Option WriteFault → Option WriteFault → Option WriteFau
 or_else None later = later
 or_else (Some f) later = Some f
 
--- the first refusal of these dimensions, behind those of s; fits is the rule of names
-abbrev pub refuses_dims : (fits : List ℕ → Bool) → Schema → List Dim → Option WriteFault
-refuses_dims fits s [] = None
-refuses_dims fits s (d ∷ dims) =
-    or_else (refuses_dim (fits d.name) s d.name d.length)
-    (refuses_dims fits (with_dim s d.name d.length) dims)
+-- the first refusal of these dimensions, behind those of s
+abbrev pub refuses_dims : Schema → List Dim → Option WriteFault
+refuses_dims s [] = None
+refuses_dims s (d ∷ dims) =
+    or_else (refuses_dim (is_name d.name) s d.name d.length)
+    (refuses_dims (with_dim s d.name d.length) dims)
 
-abbrev pub refuses_globals : (fits : List ℕ → Bool) → Schema → List Attr → Option WriteFault
-refuses_globals fits s [] = None
-refuses_globals fits s (a ∷ attrs) =
-    or_else (refuses_global (fits a.name) s a.name a.values)
-    (refuses_globals fits (with_global s a.name a.values) attrs)
+abbrev pub refuses_globals : Schema → List Attr → Option WriteFault
+refuses_globals s [] = None
+refuses_globals s (a ∷ attrs) =
+    or_else (refuses_global (is_name a.name) s a.name a.values)
+    (refuses_globals (with_global s a.name a.values) attrs)
 
 -- of these attributes of a variable
-abbrev pub refuses_attrs : (fits : List ℕ → Bool) → Schema → (var : ℕ) → List Attr → Option WriteFault
-refuses_attrs fits s n [] = None
-refuses_attrs fits s n (a ∷ attrs) =
-    or_else (refuses_attr (fits a.name) s n a.name a.values)
-    (refuses_attrs fits (with_attr s n a.name a.values) n attrs)
+abbrev pub refuses_attrs : Schema → (var : ℕ) → List Attr → Option WriteFault
+refuses_attrs s n [] = None
+refuses_attrs s n (a ∷ attrs) =
+    or_else (refuses_attr (is_name a.name) s n a.name a.values)
+    (refuses_attrs (with_attr s n a.name a.values) n attrs)
 
 -- with a variable and its attributes
 abbrev pub with_whole : Schema → Var → Schema
@@ -247,26 +247,26 @@ with_whole s x = record {
 }
 
 -- of these variables, each followed by its attributes
-abbrev pub refuses_vars : (fits : List ℕ → Bool) → Schema → List Var → Option WriteFault
-refuses_vars fits s [] = None
-refuses_vars fits s (x ∷ vars) =
-    or_else (refuses_var (fits x.name) s x.name x.xtype x.dims)
-    (or_else (refuses_attrs fits (with_var s x.name x.xtype x.dims) (length s.vars) x.attrs)
-    (refuses_vars fits (with_whole s x) vars))
+abbrev pub refuses_vars : Schema → List Var → Option WriteFault
+refuses_vars s [] = None
+refuses_vars s (x ∷ vars) =
+    or_else (refuses_var (is_name x.name) s x.name x.xtype x.dims)
+    (or_else (refuses_attrs (with_var s x.name x.xtype x.dims) (length s.vars) x.attrs)
+    (refuses_vars (with_whole s x) vars))
 
 -- of a schema in another version: its dimensions, its global attributes, and its variables with theirs
-abbrev pub refuses_schema : (fits : List ℕ → Bool) → Version → Schema → Option WriteFault
-refuses_schema fits v s =
-    or_else (refuses_dims fits (no_schema v) s.dims)
+abbrev pub refuses_schema : Version → Schema → Option WriteFault
+refuses_schema v s =
+    or_else (refuses_dims (no_schema v) s.dims)
     (or_else
-    (refuses_globals fits (record { version = v; count = Known 0; dims = s.dims; gatts = []; vars = [] }) s.gatts)
-    (refuses_vars fits (record { version = v; count = Known 0; dims = s.dims; gatts = s.gatts; vars = [] }) s.vars))
+    (refuses_globals (record { version = v; count = Known 0; dims = s.dims; gatts = []; vars = [] }) s.gatts)
+    (refuses_vars (record { version = v; count = Known 0; dims = s.dims; gatts = s.gatts; vars = [] }) s.vars))
 
 -- a variable and its attributes
-abbrev pub refuses_whole : (fits : List ℕ → Bool) → Schema → Var → Option WriteFault
-refuses_whole fits s x =
-    or_else (refuses_var (fits x.name) s x.name x.xtype x.dims)
-    (refuses_attrs fits (with_var s x.name x.xtype x.dims) (length s.vars) x.attrs)
+abbrev pub refuses_whole : Schema → Var → Option WriteFault
+refuses_whole s x =
+    or_else (refuses_var (is_name x.name) s x.name x.xtype x.dims)
+    (refuses_attrs (with_var s x.name x.xtype x.dims) (length s.vars) x.attrs)
 
 -- the schema with all these dimensions more
 abbrev pub with_dims : Schema → List Dim → Schema
@@ -317,9 +317,9 @@ BuildFailsOr s records e = (e ≡ Memory) ⊎ BuildFails s records e
 
 -- a schema is built anew in the version, with so many records: a refused call is the first that is, and the build is
 -- refused only where no call was
-abbrev pub RebuildsAs : {T : Type 0} → (fits : List ℕ → Bool) → Version → Schema → (records : ℕ)
-    → Result T WriteFault → Type 0
-RebuildsAs fits v s n (Ok b) = refuses_schema fits v s ≡ None
-RebuildsAs fits v s n (Err e) =
-    (e ≡ Memory) ⊎ ((refuses_schema fits v s ≡ Some e)
-    ⊎ ((refuses_schema fits v s ≡ None) × BuildFails (with_version s v) n e))
+abbrev pub RebuildsAs : {T : Type 0} → Version → Schema → (records : ℕ) → Result T WriteFault → Type 0
+RebuildsAs v s n (Ok b) =
+    (refuses_schema v s ≡ None) × ((f : WriteFault) → BuildFails (with_version s v) n f → ⊥)
+RebuildsAs v s n (Err e) =
+    (e ≡ Memory) ⊎ ((refuses_schema v s ≡ Some e)
+    ⊎ ((refuses_schema v s ≡ None) × BuildFails (with_version s v) n e))

@@ -1,10 +1,10 @@
 //! A schema that is built call by call.
 
-ghost use Rattle.std.specs.Prelude.{◌≡◌, ◌<◌, ◌↔◌, Bool, true, ltb, None, OnErr, IfErr, IfOk, OnOk, IsTrue, length};
-ghost use Rattle.ncc_values.specs.Name.{FitsAsName};
+ghost use Rattle.std.specs.Prelude.{◌≡◌, ◌<◌, true, ltb, None, OnErr, IfErr, IfOk, OnOk, length};
+ghost use Rattle.ncc_values.specs.Name.{FitsAsName, is_name};
 ghost use Rattle.ncc_schema.specs.Schema.{record_dims, with_count};
 ghost use Rattle.ncc_schema.specs.declared.schema.Count.TheVariants.{Known};
-ghost use Rattle.ncc_build.specs.Building.{IsBuilt, attr_names, dim_names, var_names, first_refusal, no_schema, refuses_dim, refuses_global, refuses_var, refuses_attr, with_dim, with_global, with_var, with_attr, IsJudged, BuildFailsOr};
+ghost use Rattle.ncc_build.specs.Building.{IsBuilt, attr_names, dim_names, var_names, first_refusal, no_schema, refuses_dim, refuses_global, refuses_var, refuses_attr, with_dim, with_global, with_var, with_attr, IsJudged, BuildFails, BuildFailsOr};
 ghost use Rattle.ncc_build.specs.Judging.{dim_refusals, refusal_of};
 ghost use Rattle.ncc_build.specs.Tables.{names_of_attrs};
 
@@ -82,8 +82,7 @@ impl SchemaBuilder {
     /// Judges a dimension.
     fn judge_dim(&self, name: &[u8], len: u64) -> Result<(), WriteFault>
         ensures fits { OnOk result (FitsAsName name.now) }
-        ensures judged { (fits : Bool) → (IsTrue fits ↔ FitsAsName name.now)
-            → IsJudged (refuses_dim fits (schema_so_far self.now) name.now len) result }
+        ensures judged { IsJudged (refuses_dim (is_name name.now) (schema_so_far self.now) name.now len) result }
     {
         judge_name(self.alloc, &self.tables.dims, name)?;
         self.judge_length(len)
@@ -107,8 +106,7 @@ impl SchemaBuilder {
     /// refused for its name, then as a second record dimension, then for its length or the number of
     /// dimensions; after an error the schema is as it was.
     pub fn dim(&mut self, name: &[u8], len: u64) -> Result<usize, WriteFault>
-        ensures judged { (fits : Bool) → (IsTrue fits ↔ FitsAsName name.now)
-            → IsJudged (refuses_dim fits (schema_so_far self.old) name.now len) result }
+        ensures judged { IsJudged (refuses_dim (is_name name.now) (schema_so_far self.old) name.now len) result }
         ensures number { IfOk result (λ number. number ≡ length (schema_so_far self.old).dims) }
         ensures added { OnOk result (schema_so_far self.new ≡ with_dim (schema_so_far self.old) name.now len) }
         ensures err { OnErr result (schema_so_far self.new ≡ schema_so_far self.old) }
@@ -148,8 +146,7 @@ impl SchemaBuilder {
     /// Adds an attribute of the whole file. It is refused for its name, then for its type, then for the
     /// number of its values or of attributes; after an error the schema is as it was.
     pub fn global(&mut self, name: &[u8], values: Values) -> Result<(), WriteFault>
-        ensures judged { (fits : Bool) → (IsTrue fits ↔ FitsAsName name.now)
-            → IsJudged (refuses_global fits (schema_so_far self.old) name.now values) result }
+        ensures judged { IsJudged (refuses_global (is_name name.now) (schema_so_far self.old) name.now values) result }
         ensures added { OnOk result (schema_so_far self.new ≡ with_global (schema_so_far self.old) name.now values) }
         ensures err { OnErr result (schema_so_far self.new ≡ schema_so_far self.old) }
     {
@@ -161,8 +158,7 @@ impl SchemaBuilder {
     /// Judges a global attribute.
     fn judge_global(&self, name: &[u8], values: &Values) -> Result<(), WriteFault>
         ensures fits { OnOk result (FitsAsName name.now) }
-        ensures judged { (fits : Bool) → (IsTrue fits ↔ FitsAsName name.now)
-            → IsJudged (refuses_global fits (schema_so_far self.now) name.now values.now) result }
+        ensures judged { IsJudged (refuses_global (is_name name.now) (schema_so_far self.now) name.now values.now) result }
     {
         let gatts = self.schema.gatts.as_slice();
         let names = &self.tables.globals;
@@ -192,8 +188,7 @@ impl SchemaBuilder {
     /// Judges a variable.
     fn judge_var(&self, name: &[u8], xtype: XType, dims: &[usize]) -> Result<(), WriteFault>
         ensures fits { OnOk result (FitsAsName name.now) }
-        ensures judged { (fits : Bool) → (IsTrue fits ↔ FitsAsName name.now)
-            → IsJudged (refuses_var fits (schema_so_far self.now) name.now xtype dims.now) result }
+        ensures judged { IsJudged (refuses_var (is_name name.now) (schema_so_far self.now) name.now xtype dims.now) result }
     {
         judge_name(self.alloc, &self.tables.vars, name)?;
         judge_ids(self.schema.dims.as_slice(), dims)?;
@@ -209,8 +204,7 @@ impl SchemaBuilder {
     /// is refused for its name, then for its dimensions, then for its type, then for the number of its
     /// dimensions or of variables; after an error the schema is as it was.
     pub fn var(&mut self, name: &[u8], xtype: XType, dims: &[usize]) -> Result<usize, WriteFault>
-        ensures judged { (fits : Bool) → (IsTrue fits ↔ FitsAsName name.now)
-            → IsJudged (refuses_var fits (schema_so_far self.old) name.now xtype dims.now) result }
+        ensures judged { IsJudged (refuses_var (is_name name.now) (schema_so_far self.old) name.now xtype dims.now) result }
         ensures number { IfOk result (λ number. number ≡ length (schema_so_far self.old).vars) }
         ensures added { OnOk result
             (schema_so_far self.new ≡ with_var (schema_so_far self.old) name.now xtype dims.now) }
@@ -254,8 +248,7 @@ impl SchemaBuilder {
     /// the schema is as it was.
     pub fn attr(&mut self, var: usize, name: &[u8], values: Values) -> Result<(), WriteFault>
         requires there { var < length (schema_so_far self.old).vars }
-        ensures judged { (fits : Bool) → (IsTrue fits ↔ FitsAsName name.now)
-            → IsJudged (refuses_attr fits (schema_so_far self.old) var name.now values) result }
+        ensures judged { IsJudged (refuses_attr (is_name name.now) (schema_so_far self.old) var name.now values) result }
         ensures added { OnOk result
             (schema_so_far self.new ≡ with_attr (schema_so_far self.old) var name.now values) }
         ensures err { OnErr result (schema_so_far self.new ≡ schema_so_far self.old) }
@@ -269,8 +262,7 @@ impl SchemaBuilder {
     fn judge_of_var(&self, var: usize, name: &[u8], values: &Values) -> Result<(), WriteFault>
         requires there { var < length (schema_so_far self.now).vars }
         ensures fits { OnOk result (FitsAsName name.now) }
-        ensures judged { (fits : Bool) → (IsTrue fits ↔ FitsAsName name.now)
-            → IsJudged (refuses_attr fits (schema_so_far self.now) var name.now values.now) result }
+        ensures judged { IsJudged (refuses_attr (is_name name.now) (schema_so_far self.now) var name.now values.now) result }
     {
         let attrs = self.schema.vars.as_slice()[var].attrs.as_slice();
         let names = &self.tables.attrs[var];
@@ -304,6 +296,7 @@ impl SchemaBuilder {
     /// records, then for a size, then for the place of a variable; then the builder comes back.
     pub fn build(self, records: u64) -> Result<Built, (SchemaBuilder, WriteFault)>
         ensures built { IfOk result (λ built. schema_of built ≡ with_count (schema_so_far self) records) }
+        ensures passes { OnOk result ((f : WriteFault) → BuildFails (schema_so_far self) records f → ⊥) }
         ensures refused { IfErr result (λ e. (schema_so_far e.0 ≡ schema_so_far self)
             × BuildFailsOr (schema_so_far self) records e.1) }
     {

@@ -2,7 +2,7 @@
 
 ghost use Rattle.std.specs.Prelude.{◌≡◌, ◌↔◌, Bool, IsTrue, OnOk, leb, length};
 ghost use Rattle.std.specs.List.{list_any};
-ghost use Rattle.ncc_values.specs.Name.{FitsAsName};
+ghost use Rattle.ncc_values.specs.Name.{FitsAsName, is_name};
 ghost use Rattle.ncc_schema.specs.Schema.{is_record};
 ghost use Rattle.ncc_build.specs.Building.{any_record_behind, attr_names, first_refusal, is_foreign, IsJudged, refuses_attr_of};
 ghost use Rattle.ncc_build.specs.Judging.{name_refusals, dims_refusals, kind_refusals, is_too_many};
@@ -120,8 +120,7 @@ pub fn judge_attr(
 ) -> Result<(), WriteFault>
     requires { names.now ≡ attr_names attrs.now }
     ensures fits { OnOk result (FitsAsName name.now) }
-    ensures judged { (fits : Bool) → (IsTrue fits ↔ FitsAsName name.now)
-        → IsJudged (refuses_attr_of fits version attrs.now name.now values.now) result }
+    ensures judged { IsJudged (refuses_attr_of (is_name name.now) version attrs.now name.now values.now) result }
 {
     judge_name(alloc, names, name)?;
     judge_kind(version, values.xtype(), attrs.len(), values.len())

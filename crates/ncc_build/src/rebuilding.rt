@@ -1,7 +1,6 @@
 //! The schema of a file, built anew in another version.
 
-ghost use Rattle.std.specs.Prelude.{◌≡◌, ◌<◌, ◌↔◌, ℕ, List, Bool, IfOk, OnOk, IsTrue, length};
-ghost use Rattle.ncc_values.specs.Name.{FitsAsName};
+ghost use Rattle.std.specs.Prelude.{◌≡◌, ◌<◌, IfOk, OnOk, length};
 ghost use Rattle.ncc_schema.specs.Schema.{with_count};
 ghost use Rattle.ncc_build.specs.Dataset.{with_version};
 ghost use Rattle.ncc_build.specs.Building.{no_schema, refuses_dims, refuses_globals, refuses_attrs, refuses_whole, refuses_vars, refuses_schema, with_dims, with_globals, with_attrs, with_vars, with_whole, IsJudged, RebuildsAs};
@@ -43,8 +42,7 @@ fn copied(alloc: Global, values: &Values) -> Result<Values, AllocError>
 
 /// Adds dimensions behind those that are there.
 fn add_dims(builder: &mut SchemaBuilder, dims: &[Dim]) -> Result<(), WriteFault>
-    ensures judged { (fits : List ℕ → Bool) → ((name : List ℕ) → IsTrue (fits name) ↔ FitsAsName name)
-        → IsJudged (refuses_dims fits (schema_so_far builder.old) dims.now) result }
+    ensures judged { IsJudged (refuses_dims (schema_so_far builder.old) dims.now) result }
     ensures added { OnOk result (schema_so_far builder.new ≡ with_dims (schema_so_far builder.old) dims.now) }
 {
     for dim in dims {
@@ -55,8 +53,7 @@ fn add_dims(builder: &mut SchemaBuilder, dims: &[Dim]) -> Result<(), WriteFault>
 
 /// Adds attributes of the whole file behind those that are there.
 fn add_globals(alloc: Global, builder: &mut SchemaBuilder, attrs: &[Attr]) -> Result<(), WriteFault>
-    ensures judged { (fits : List ℕ → Bool) → ((name : List ℕ) → IsTrue (fits name) ↔ FitsAsName name)
-        → IsJudged (refuses_globals fits (schema_so_far builder.old) attrs.now) result }
+    ensures judged { IsJudged (refuses_globals (schema_so_far builder.old) attrs.now) result }
     ensures added { OnOk result (schema_so_far builder.new ≡ with_globals (schema_so_far builder.old) attrs.now) }
 {
     for attr in attrs {
@@ -74,8 +71,7 @@ fn add_attrs(
     attrs: &[Attr],
 ) -> Result<(), WriteFault>
     requires { var < length (schema_so_far builder.old).vars }
-    ensures judged { (fits : List ℕ → Bool) → ((name : List ℕ) → IsTrue (fits name) ↔ FitsAsName name)
-        → IsJudged (refuses_attrs fits (schema_so_far builder.old) var attrs.now) result }
+    ensures judged { IsJudged (refuses_attrs (schema_so_far builder.old) var attrs.now) result }
     ensures added { OnOk result (schema_so_far builder.new ≡ with_attrs (schema_so_far builder.old) var attrs.now) }
 {
     for attr in attrs {
@@ -87,8 +83,7 @@ fn add_attrs(
 
 /// Adds a variable, and its attributes.
 fn add_whole(alloc: Global, builder: &mut SchemaBuilder, var: &Var) -> Result<(), WriteFault>
-    ensures judged { (fits : List ℕ → Bool) → ((name : List ℕ) → IsTrue (fits name) ↔ FitsAsName name)
-        → IsJudged (refuses_whole fits (schema_so_far builder.old) var.now) result }
+    ensures judged { IsJudged (refuses_whole (schema_so_far builder.old) var.now) result }
     ensures added { OnOk result (schema_so_far builder.new ≡ with_whole (schema_so_far builder.old) var.now) }
 {
     let number = builder.var(var.name.as_slice(), var.xtype, var.dims.as_slice())?;
@@ -97,8 +92,7 @@ fn add_whole(alloc: Global, builder: &mut SchemaBuilder, var: &Var) -> Result<()
 
 /// Adds variables, each followed by its attributes, behind those that are there.
 fn add_vars(alloc: Global, builder: &mut SchemaBuilder, vars: &[Var]) -> Result<(), WriteFault>
-    ensures judged { (fits : List ℕ → Bool) → ((name : List ℕ) → IsTrue (fits name) ↔ FitsAsName name)
-        → IsJudged (refuses_vars fits (schema_so_far builder.old) vars.now) result }
+    ensures judged { IsJudged (refuses_vars (schema_so_far builder.old) vars.now) result }
     ensures added { OnOk result (schema_so_far builder.new ≡ with_vars (schema_so_far builder.old) vars.now) }
 {
     for var in vars {
@@ -110,8 +104,7 @@ fn add_vars(alloc: Global, builder: &mut SchemaBuilder, vars: &[Var]) -> Result<
 /// Adds all items of a schema in the order of a header.
 fn add_all(alloc: Global, builder: &mut SchemaBuilder, schema: &Schema) -> Result<(), WriteFault>
     requires { schema_so_far builder.old ≡ no_schema (schema_so_far builder.old).version }
-    ensures judged { (fits : List ℕ → Bool) → ((name : List ℕ) → IsTrue (fits name) ↔ FitsAsName name)
-        → IsJudged (refuses_schema fits (schema_so_far builder.old).version schema.now) result }
+    ensures judged { IsJudged (refuses_schema (schema_so_far builder.old).version schema.now) result }
     ensures added { OnOk result (schema_so_far builder.new
         ≡ with_count (with_version schema.now (schema_so_far builder.old).version) 0) }
 {
@@ -131,8 +124,7 @@ pub fn rebuilt(
     records: u64,
 ) -> Result<Built, WriteFault>
     ensures built { IfOk result (λ b. schema_of b ≡ with_count (with_version schema.now version) records) }
-    ensures judged { (fits : List ℕ → Bool) → ((name : List ℕ) → IsTrue (fits name) ↔ FitsAsName name)
-        → RebuildsAs fits version schema.now records result }
+    ensures judged { RebuildsAs version schema.now records result }
 {
     let mut builder = SchemaBuilder::new(alloc, version);
     add_all(alloc, &mut builder, schema)?;

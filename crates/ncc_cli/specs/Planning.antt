@@ -1,6 +1,5 @@
 -- What is printed of the plan of a conversion.
-use Rattle.std.specs.Prelude.{◌≡◌, ◌≢◌, ◌⊎◌, ◌↔◌, ℕ, List, Bool, IsTrue, Option, Result, Ok, Err}
-use Rattle.ncc_values.specs.Name.{FitsAsName}
+use Rattle.std.specs.Prelude.{◌≡◌, ◌≢◌, ◌⊎◌, ℕ, List, Option, Result, Ok, Err}
 use Rattle.ncc_values.specs.declared.version.Version.{Version}
 use Rattle.ncc_schema.specs.Device.{Puts}
 use Rattle.ncc_schema.specs.declared.schema.Schema.{Schema}
@@ -12,19 +11,14 @@ use Rattle.ncc_convert.specs.Lines.{plan_line}
 use Rattle.ncc_cli.specs.declared.answer.Answer.{Answer}
 use Rattle.ncc_cli.specs.declared.answer.Answer.TheVariants.{Passed, Refused, Device, Memory}
 
--- the answer is right by each test that says which names fit
-abbrev pub Rebuilds : {T : Type 0} → Version → Schema → (records : ℕ) → Result T WriteFault → Type 0
-Rebuilds v s n result = (fits : List ℕ → Bool) → ((name : List ℕ) → IsTrue (fits name) ↔ FitsAsName name)
-    → RebuildsAs fits v s n result
-
 -- what is against the schema, with so many records, in this version
 abbrev pub IsAgainst : Version → Schema → (records : ℕ) → WriteFault → Type 0
-IsAgainst v s n f = (f ≢ faults.Memory) × Rebuilds {T = Unit {0}} v s n (Err f)
+IsAgainst v s n f = (f ≢ faults.Memory) × RebuildsAs {T = Unit {0}} v s n (Err f)
 
 -- nothing is printed of a plan, and its line of what is against it
 abbrev pub PlansInto : {T : Type 0} → Version → Schema → (records : ℕ) → (old new : Option (List ℕ))
     → Result T Answer → Type 0
-PlansInto {T = T} v s n old new (Ok b) = (new ≡ old) × Rebuilds {T = T} v s n (Ok b)
+PlansInto {T = T} v s n old new (Ok b) = (new ≡ old) × RebuildsAs {T = T} v s n (Ok b)
 PlansInto v s n old new (Err Passed) = ⊥
 PlansInto v s n old new (Err Refused) = (f : WriteFault) × IsAgainst v s n f × Puts old new (plan_line f)
 PlansInto v s n old new (Err Device) = (f : WriteFault) × IsAgainst v s n f × PutsFront old new (plan_line f)

@@ -10,24 +10,26 @@ ghost use Rattle.ncc_check.specs.Files.{store_of, schema_of, placed_of, must_reo
 ghost use Rattle.ncc_write.specs.Writing.{Went};
 ghost use Rattle.ncc_convert.specs.Converting.{IsSomeFile, ReadsAs};
 ghost use Rattle.ncc_convert.specs.Copying.{pieces_of};
-ghost use Rattle.ncc_convert.specs.Found.{IsPlanned};
+ghost use Rattle.ncc_write.specs.Planned.{IsPlanned};
 ghost use Rattle.ncc_cli.specs.Converting.{ConversionCounts, ConvertsInto};
 
 use crate::answer::{Answer, answered};
 use ncc_check::NcFile;
 use ncc_convert::convert;
 use ncc_header::Sink;
+use ncc_lines::Progress;
 use ncc_store::Store;
 use ncc_write::Built;
 use std::alloc::Global;
 
 /// Writes the file of what an open file holds, by a schema that was planned for it, and prints nothing. After a failure
 /// a beginning of that file went out, and after want of memory nothing, since all memory is taken before.
-pub fn convert_engine<S: Store, W: Sink + Drop>(
+pub fn convert_engine<S: Store, W: Sink + Drop, P: Progress>(
     alloc: Global,
     file: &mut NcFile<S>,
     built: Built,
     sink: W,
+    progress: &mut P,
 ) -> (W, Answer)
     requires planned { IsPlanned (schema_of file.old) (placed_of file.old) (planned_schema built) }
     ensures converts { ConvertsInto S.tells_bytes (S.bytes (store_of file.old)) (placed_of file.old)
@@ -50,6 +52,6 @@ pub fn convert_engine<S: Store, W: Sink + Drop>(
     ensures reach { S.reach (store_of file.new)
         ≤ max (S.reach (store_of file.old)) (file_length_of (placed_of file.old)) }
 {
-    let (sink, done) = convert(alloc, file, built, sink);
+    let (sink, done) = convert(alloc, file, built, sink, progress);
     (sink, answered(done, Answer::Passed))
 }

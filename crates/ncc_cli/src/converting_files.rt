@@ -8,7 +8,7 @@ ghost use Rattle.ncc_lines.specs.Verdicts.{file_fault_line};
 ghost use Rattle.ncc_build.specs.declared.fault.WriteFault.{WriteFault};
 ghost use Rattle.ncc_build.specs.Builds.{schema_of as planned_schema};
 ghost use Rattle.ncc_check.specs.Files.{schema_of, placed_of};
-ghost use Rattle.ncc_convert.specs.Found.{IsPlanned};
+ghost use Rattle.ncc_write.specs.Planned.{IsPlanned};
 ghost use Rattle.ncc_convert.specs.Lines.{converted_line, plan_line};
 ghost use Rattle.ncc_cli.specs.Converting.{IsRefusalLine};
 ghost use Rattle.ncc_cli.specs.Planning.{IsAgainst};
@@ -18,26 +18,28 @@ use crate::commands::LIMIT;
 use crate::converting::convert_engine;
 use crate::finishing::flushed;
 use crate::planning::plan;
+use crate::progress::ProgressLine;
 use clap::ArgMatches;
 use ncc_check::{NcFile, Refusal, open};
 use ncc_convert::send_converted;
 use ncc_header::{Sink, WriteSink};
-use ncc_lines::send_file_fault;
+use ncc_lines::{Progress, send_file_fault};
 use ncc_store::{FileStore, Store};
 use ncc_values::Version;
 use ncc_write::Built;
 use std::alloc::Global;
 use std::fs::File;
 use std::io::{BufWriter, Write};
-use std::rt::Files;
+use std::rt::{Clock, Files};
 
 /// Writes what an open file holds into a new file, by a schema that was planned for it. The file is on the disk where it
 /// passed.
-fn convert_into<R: Files<File = File> + AllocGlobal, S: Store>(
+fn convert_into<R: Files<File = File> + AllocGlobal, S: Store, P: Progress>(
     rt: &R,
     file: &mut NcFile<S>,
     built: Built,
     path: &str,
+    progress: &mut P,
 ) -> Answer
     requires planned { IsPlanned (schema_of file.old) (placed_of file.old) (planned_schema built) }
     ensures { result ≢ Answer.Refused }
@@ -45,7 +47,7 @@ fn convert_into<R: Files<File = File> + AllocGlobal, S: Store>(
     let Ok(out) = File::create_new(rt, path) else {
         return Answer::Device;
     };
-    let (target, answer) = convert_engine(rt.alloc(), file, built, WriteSink::new(out));
+    let (target, answer) = convert_engine(rt.alloc(), file, built, WriteSink::new(out), progress);
     if answer == Answer::Passed && target.into_inner().sync_all().is_err() {
         return Answer::Device;
     }
@@ -54,12 +56,13 @@ fn convert_into<R: Files<File = File> + AllocGlobal, S: Store>(
 
 /// Converts an open file, and writes the line that says so; or the line of what is against it, and then there is no new
 /// file.
-fn convert_file<R: Files<File = File> + AllocGlobal, S: Store, W: Sink>(
+fn convert_file<R: Files<File = File> + AllocGlobal, S: Store, W: Sink, P: Progress>(
     rt: &R,
     file: &mut NcFile<S>,
     version: Version,
     path: &str,
     sink: &mut W,
+    progress: &mut P,
 ) -> Answer
     ensures passed { result ≡ Answer.Passed → Puts (W.put sink.old) (W.put sink.new) (converted_line version) }
     ensures refused { result ≡ Answer.Refused → (f : WriteFault)
@@ -70,7 +73,9 @@ fn convert_file<R: Files<File = File> + AllocGlobal, S: Store, W: Sink>(
         Ok(built) => built,
         Err(answer) => return answer,
     };
-    match convert_into(rt, file, built, path) {
+    let answer = convert_into(rt, file, built, path, progress);
+    progress.end();
+    match answer {
         Answer::Passed => answered(send_converted(version, sink), Answer::Passed),
         answer => answer,
     }
@@ -90,12 +95,13 @@ fn refused<W: Sink>(alloc: Global, refusal: Refusal, sink: &mut W) -> Answer
 }
 
 /// Opens a store and converts its file; or writes the line of the file's fault.
-fn convert_store<R: Files<File = File> + AllocGlobal, S: Store + Drop, W: Sink>(
+fn convert_store<R: Files<File = File> + AllocGlobal, S: Store + Drop, W: Sink, P: Progress>(
     rt: &R,
     store: S,
     version: Version,
     path: &str,
     sink: &mut W,
+    progress: &mut P,
 ) -> Answer
     ensures passed { result ≡ Answer.Passed → Puts (W.put sink.old) (W.put sink.new) (converted_line version) }
     ensures refused { IsTrue S.tells_bytes → result ≡ Answer.Refused → (text : List ℕ)
@@ -104,19 +110,20 @@ fn convert_store<R: Files<File = File> + AllocGlobal, S: Store + Drop, W: Sink>(
     match open(rt.alloc(), store, LIMIT) {
         Ok(opened) => {
             let mut file = opened;
-            convert_file(rt, &mut file, version, path, sink)
+            convert_file(rt, &mut file, version, path, sink, progress)
         }
         Err((_, refusal)) => refused(rt.alloc(), refusal, sink),
     }
 }
 
 /// Converts a file into a new one.
-fn convert<R: Files<File = File> + AllocGlobal, O: Write>(
+fn convert<R: Files<File = File> + AllocGlobal, O: Write, P: Progress>(
     rt: &R,
     from: &str,
     version: Version,
     to: &str,
     out: &mut O,
+    progress: &mut P,
 ) -> Answer {
     let Ok(store) = FileStore::open(rt, from, false) else {
         return Answer::Device;
@@ -125,7 +132,7 @@ fn convert<R: Files<File = File> + AllocGlobal, O: Write>(
         return Answer::Memory;
     };
     let mut sink = WriteSink::new(writer);
-    let answer = convert_store(rt, store, version, to, &mut sink);
+    let answer = convert_store(rt, store, version, to, &mut sink, progress);
     let mut writer = sink.into_inner();
     flushed(&mut writer, answer)
 }
@@ -143,13 +150,17 @@ fn version_of(word: &str) -> Version
     }
 }
 
-/// Converts the file that these words name, as they say.
-pub fn convert_named<R: Files<File = File> + AllocGlobal, O: Write>(
+/// Converts the file that these words name, as they say, and shows on `err` how far it is where `shown`.
+pub fn convert_named<R: Files<File = File> + Clock + AllocGlobal, O: Write, E: Write>(
     rt: &R,
     words: &ArgMatches,
     out: &mut O,
+    err: &mut E,
+    shown: bool,
 ) -> Answer {
     let version = version_of(words.get_str("to").unwrap_or(""));
     let from = words.get_str("IN").unwrap_or("");
-    convert(rt, from, version, words.get_str("OUT").unwrap_or(""), out)
+    let to = words.get_str("OUT").unwrap_or("");
+    let mut line = ProgressLine::new(rt, err, shown);
+    convert(rt, from, version, to, out, &mut line)
 }

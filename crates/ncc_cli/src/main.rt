@@ -18,6 +18,7 @@ mod selecting;
 mod tests;
 
 use answer::Answer;
+use progress::Terminals;
 use std::io::{ErrorKind, IsTerminal};
 use std::process::ExitCode;
 use std::{env, io};
@@ -30,8 +31,11 @@ fn command_line(rt: &HostRuntime) -> io::Result<Vec<String>> {
 fn main(rt: HostRuntime) -> ExitCode {
     let status = match command_line(&rt) {
         Ok(line) => {
-            let shown = rt.stderr().is_terminal() && !rt.stdout().is_terminal();
-            run::run(&rt, &line, &mut rt.stdout(), &mut rt.stderr(), shown)
+            let terminals = Terminals {
+                out: rt.stdout().is_terminal(),
+                err: rt.stderr().is_terminal(),
+            };
+            run::run(&rt, &line, &mut rt.stdout(), &mut rt.stderr(), terminals)
         }
         Err(error) if error.kind() == ErrorKind::OutOfMemory => {
             finishing::finish(Answer::Memory, &mut rt.stderr())

@@ -5,7 +5,7 @@ ghost use Rattle.ncc_values.specs.Failures.{Rose};
 ghost use Rattle.ncc_layout.specs.Placed.{records_of_file};
 ghost use Rattle.ncc_check.specs.Files.{schema_of, placed_of};
 ghost use Rattle.ncc_build.specs.Builds.{schema_of as planned_schema};
-ghost use Rattle.ncc_convert.specs.Found.{IsPlanned};
+ghost use Rattle.ncc_write.specs.Planned.{IsPlanned};
 ghost use Rattle.ncc_cli.specs.Planning.{PlansInto};
 
 use crate::answer::{Answer, answered};
@@ -18,7 +18,6 @@ use ncc_write::{Built, WriteFault, planned};
 use std::alloc::Global;
 
 /// Plans what an open file holds in this version; or writes the line of what is against it.
-#[tactic(auto, using(ncc_convert::proofs::Planned::planned_so))]
 pub fn plan<S: Store, W: Sink>(
     alloc: Global,
     file: &NcFile<S>,

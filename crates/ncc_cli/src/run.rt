@@ -21,7 +21,7 @@ use crate::extending::extend_engine;
 use crate::finishing::{USAGE, explain, finish, flushed};
 use crate::listing::list_engine;
 use crate::picking::{pick_given, refuse_words};
-use crate::progress::RowsLine;
+use crate::progress::{ProgressLine, Terminals};
 use crate::selecting::csv_engine;
 use clap::ArgMatches;
 use ncc_csv::Pick;
@@ -136,20 +136,20 @@ fn select_from<R: Files<File = File> + AllocGlobal, O: Write, P: Progress>(
     flushed(&mut writer, answer)
 }
 
-/// Prints what these words pick, and shows on `err` how far it is where that is to be shown.
+/// Prints what these words pick, and shows on `err` how far it is where that is a terminal and `out` is none.
 fn csv<R: Files<File = File> + Clock + AllocGlobal, O: Write, E: Write>(
     rt: &R,
     words: &ArgMatches,
     pick: Pick,
     out: &mut O,
     err: &mut E,
-    shown: bool,
+    terminals: Terminals,
 ) -> Answer {
     let path = words.get_str("FILE").unwrap_or("");
     let name = words.get_str("VAR").unwrap_or("");
-    let mut line = RowsLine::new(rt, err, shown);
+    let mut line = ProgressLine::new(rt, err, terminals.err && !terminals.out);
     let answer = select_from(rt, path, name, pick, out, &mut line);
-    line.clear();
+    line.end();
     answer
 }
 
@@ -211,13 +211,13 @@ fn extend_named<R: Files<File = File> + AllocGlobal, O: Write>(
 }
 
 /// Runs the command that the command line names, and gives the program's status. Long work is shown on
-/// `err` where that is asked for.
+/// `err` where that is a terminal.
 pub fn run<R: Files<File = File> + Clock + AllocGlobal, O: Write, E: Write>(
     rt: &R,
     line: &[String],
     out: &mut O,
     err: &mut E,
-    shown: bool,
+    terminals: Terminals,
 ) -> u8
     ensures { result ≤ 3 }
 {
@@ -227,9 +227,12 @@ pub fn run<R: Files<File = File> + Clock + AllocGlobal, O: Write, E: Write>(
     match command.try_get_matches_from(line) {
         Ok(matches) => match matches.subcommand() {
             Some(("check", words)) => finish(check_named(rt, words, out), err),
-            Some(("convert", words)) => finish(convert_named(rt, words, out), err),
+            Some(("convert", words)) => {
+                let answer = convert_named(rt, words, out, err, terminals.err);
+                finish(answer, err)
+            }
             Some(("csv", words)) => match pick_given(rt.alloc(), words) {
-                Ok(pick) => finish(csv(rt, words, pick, out, err, shown), err),
+                Ok(pick) => finish(csv(rt, words, pick, out, err, terminals), err),
                 Err(fault) => refuse_words(fault, err),
             },
             Some(("extend", words)) => finish(extend_named(rt, words, out), err),

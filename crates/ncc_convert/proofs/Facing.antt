@@ -22,7 +22,7 @@ use Rattle.ncc_write.proofs.NextSlabs.{IsNext, is_next}
 use Rattle.ncc_write.proofs.SlabsAt.{IsAmong}
 use Rattle.ncc_write.proofs.TakenIn.{taken_is}
 use Rattle.ncc_convert.specs.Copying.{Copies, Expects}
-use Rattle.ncc_convert.specs.Found.{IsPlanned}
+use Rattle.ncc_write.specs.Planned.{IsPlanned}
 use Rattle.ncc_convert.proofs.Planned.{var_record, var_slab, var_there, var_xtype}
 
 -- ---- the slab that comes next

@@ -15,7 +15,8 @@ use Rattle.ncc_build.specs.Dataset.{Dataset, IsDataset, as_version, with_version
 use Rattle.ncc_write.specs.Holds.{stored_at, value_at, vars_of as vars_of_dataset}
 use Rattle.ncc_write.proofs.FoundDatasets.{HasRoom, dataset_in, is_dataset}
 use Rattle.ncc_write.proofs.FoundValues.{values_held}
-use Rattle.ncc_convert.specs.Found.{IsOf, IsPlanned}
+use Rattle.ncc_write.specs.Planned.{IsPlanned}
+use Rattle.ncc_convert.specs.Found.{IsOf}
 
 module _ (bytes : List ℕ) (limit : ℕ) (s : Schema) (p : Placed) (opens : Opens bytes limit s p) (are : IsBytes bytes) where
   abbrev h : Header

@@ -1,5 +1,5 @@
 -- A writer takes the piece of a copy; and what went out where a call failed.
-use Rattle.std.proofs.Common.{◌≡◌, ℕ, ◌+◌, ◌*◌, ◌<◌, ◌≤◌, ◌++◌, ◌/◌, Bool, true, false, List, Option, Some, Err, length, sym, ap, subst, ◌∙◌, arith}
+use Rattle.std.proofs.Common.{◌≡◌, ℕ, ◌*◌, ◌<◌, ◌≤◌, ◌++◌, ◌/◌, Bool, true, false, List, Option, Some, Err, length, sym, ap, subst, ◌∙◌, arith}
 use Rattle.ncc_values.specs.Values.{bytes_of, count_of, type_of, values_of}
 use Rattle.ncc_values.specs.XType.{size_of}
 use Rattle.ncc_values.specs.declared.xtype.XType.{XType}

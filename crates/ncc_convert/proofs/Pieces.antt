@@ -27,7 +27,8 @@ use Rattle.ncc_write.proofs.FileSlabs.{read_there, slab_is_held}
 use Rattle.ncc_write.proofs.NextPieces.{ComesFrom, comes_from}
 use Rattle.ncc_write.proofs.Taking.{bytes_behind, bytes_first}
 use Rattle.ncc_convert.specs.Copying.{Copies, Expects}
-use Rattle.ncc_convert.specs.Found.{IsOf, IsPlanned}
+use Rattle.ncc_write.specs.Planned.{IsPlanned}
+use Rattle.ncc_convert.specs.Found.{IsOf}
 use Rattle.ncc_convert.proofs.Facing.{Faces, faces, planned_is}
 use Rattle.ncc_convert.proofs.Planned.{many, places, vars_are}
 

@@ -2,19 +2,18 @@
 use Rattle.std.proofs.Common.{◌≡◌, ℕ, ◌<◌, Bool, List, length, sym, ap, subst, ◌∙◌}
 use Rattle.std.proofs.Math.Logic.{∥∥₁_elim}
 use Rattle.std.proofs.Props.{props}
-use Rattle.ncc_values.specs.declared.version.Version.{Version}
 use Rattle.ncc_schema.specs.declared.schema.Schema.{Schema}
-use Rattle.ncc_schema.specs.Schema.{Place, is_record_var, places_of, with_count}
+use Rattle.ncc_schema.specs.Schema.{Place, is_record_var, places_of}
 use Rattle.ncc_layout.specs.declared.placed_file.Placed.{Placed}
 use Rattle.ncc_layout.specs.Elements.{placed_with, var_at}
 use Rattle.ncc_layout.specs.Placed.{records_of_file, vars_of}
 use Rattle.ncc_layout.specs.Plans.{known}
 use Rattle.ncc_layout.specs.Sizes.{slab}
 use Rattle.ncc_check.specs.Checks.{StandsIn}
-use Rattle.ncc_build.specs.Dataset.{Slab, with_version}
+use Rattle.ncc_build.specs.Dataset.{Slab}
 use Rattle.ncc_write.proofs.FileSlabs.{PlacedSlab, placed_slab}
 use Rattle.ncc_write.proofs.SlabsAt.{IsAmong}
-use Rattle.ncc_convert.specs.Found.{IsPlanned, found_schema}
+use Rattle.ncc_write.specs.Planned.{IsPlanned}
 
 module _ (b : Bool) (file : List ℕ) (s : Schema) (p : Placed) (t : Schema) (planned : IsPlanned s p t) where
   module _ (stands : StandsIn b file s p) where
@@ -48,8 +47,3 @@ module _ (b : Bool) (file : List ℕ) (s : Schema) (p : Placed) (t : Schema) (pl
 
     pub var_record : (var_at (vars_of p) c.number).extent.is_record ≡ is_record_var t.dims c.var
     var_record = ∥∥₁_elim stands (hlevel props) (λ (st : StandsIn b file s p). (placed_by st c among).record_is)
-
--- a schema with these versions and counts is planned
-pub planned_so : (s : Schema) (p : Placed) (v : Version) (t : Schema) → t ≡ with_count (with_version s v) (records_of_file p)
-    → IsPlanned s p t
-planned_so s p v t is = is ∙ ap (with_version (found_schema s p)) (sym (ap (λ (u : Schema). u.version) is))

@@ -1,19 +1,13 @@
 -- The dataset that an open file holds, and where its slabs stand.
 use Rattle.std.specs.Prelude.{◌≡◌, ℕ, ◌<◌, List, length}
 use Rattle.ncc_schema.specs.declared.schema.Schema.{Schema}
-use Rattle.ncc_schema.specs.Schema.{with_count}
 use Rattle.ncc_layout.specs.declared.placed_file.Placed.{Placed}
 use Rattle.ncc_layout.specs.declared.placed_var.PlacedVar.{PlacedVar}
 use Rattle.ncc_layout.specs.Elements.{Inside, var_at}
-use Rattle.ncc_layout.specs.Placed.{record_size_of_file, records_of_file, vars_of}
+use Rattle.ncc_layout.specs.Placed.{record_size_of_file, vars_of}
 use Rattle.ncc_slab.specs.SlabPlaces.{slab_begin}
-use Rattle.ncc_build.specs.Dataset.{Dataset, Slab, with_version}
+use Rattle.ncc_build.specs.Dataset.{Dataset, Slab}
 use Rattle.ncc_write.specs.Holds.{bytes_at, stored_at, value_at}
-
--- the schema of an open file, with the number of records that were found: of a file that is still written its header
--- doesn't tell it
-abbrev pub found_schema : Schema → Placed → Schema
-found_schema s p = with_count s (records_of_file p)
 
 -- the dataset of an open file, by this schema: the bytes of each element in the file are those of its value
 pub record IsOf (file : List ℕ) (p : Placed) (t : Schema) (d : Dataset) : Type 0 where
@@ -29,7 +23,3 @@ placed_of_slab p b = var_at (vars_of p) b.number
 abbrev pub slab_bytes : (file : List ℕ) → Placed → Slab → List ℕ
 slab_bytes file p b =
     let x = placed_of_slab p b in bytes_at file (slab_begin (record_size_of_file p) x b.in_record) x.extent.slab
-
--- a schema that says the same as an open file's in its own version
-abbrev pub IsPlanned : Schema → Placed → (planned : Schema) → Type 0
-IsPlanned s p t = t ≡ with_version (found_schema s p) t.version

@@ -10,11 +10,11 @@ ghost use Rattle.ncc_check.specs.Files.{store_of, schema_of, placed_of, must_reo
 ghost use Rattle.ncc_write.specs.Writing.{Went};
 ghost use Rattle.ncc_convert.specs.Converting.{ConvertCounts, ConvertsAs, IsSomeFile, ReadsAs, halt_of};
 ghost use Rattle.ncc_convert.specs.Copying.{pieces_of};
-ghost use Rattle.ncc_convert.specs.Found.{IsPlanned};
+ghost use Rattle.ncc_write.specs.Planned.{IsPlanned};
 
 use crate::copying::copy_all;
 use ncc_check::NcFile;
-use ncc_lines::Halt;
+use ncc_lines::{Halt, Progress};
 use ncc_schema::Sink;
 use ncc_store::Store;
 use ncc_write::laws::{complete_when_taken, dataset_told};
@@ -37,11 +37,12 @@ fn halt_of(fault: WriteFault) -> Halt
 /// Writes the file of what an open file holds, by a schema that says the same, in the schema's version. The slabs are
 /// read as the writer expects them, each in pieces of 65,536 bytes, and go out by their bytes. After an `Err`
 /// a beginning of the file went out, after `Memory` nothing; all memory is taken before. The sink comes back.
-pub fn convert<S: Store, W: Sink + Drop>(
+pub fn convert<S: Store, W: Sink + Drop, P: Progress>(
     alloc: Global,
     file: &mut NcFile<S>,
     built: Built,
     sink: W,
+    progress: &mut P,
 ) -> (W, Result<(), Halt>)
     requires planned { IsPlanned (schema_of file.old) (placed_of file.old) (planned_schema built) }
     ensures converts { ConvertsAs S.tells_bytes (S.bytes (store_of file.old)) (placed_of file.old)
@@ -74,7 +75,7 @@ pub fn convert<S: Store, W: Sink + Drop>(
         Ok(writer) => writer,
         Err((sink, fault)) => return (sink, Err(halt_of(fault))),
     };
-    match copy_all(file, &mut writer, &mut buffer) {
+    match copy_all(file, &mut writer, &mut buffer, progress) {
         Ok(()) => match writer.finish() {
             Ok(sink) => (sink, Ok(())),
             Err(_) => unreachable!(),

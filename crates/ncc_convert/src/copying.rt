@@ -8,10 +8,11 @@ ghost use Rattle.ncc_check.specs.Files.{store_of, schema_of, placed_of, must_reo
 ghost use Rattle.ncc_write.specs.Writer.{schema_in, sink_in, taken_in, Stands};
 ghost use Rattle.ncc_write.specs.Writing.{data_length, expected, Standing};
 ghost use Rattle.ncc_convert.specs.Copying.{Copies, CopyCounts, Expects, HasFront, pieces_left};
-ghost use Rattle.ncc_convert.specs.Found.{IsPlanned};
+ghost use Rattle.ncc_write.specs.Planned.{IsPlanned};
 
 use ncc_check::NcFile;
 use ncc_check::laws::{open_file_is_long, open_file_stands};
+use ncc_lines::Progress;
 use ncc_schema::{Failed, Sink};
 use ncc_slab::slab_place;
 use ncc_store::{Store, laws as store_laws};
@@ -20,13 +21,14 @@ use ncc_write::laws::{complete_when_taken, out_is_in_files};
 
 /// Copies a piece of the slab that comes next: from its next element on, as much as the buffer has room for. One call of
 /// the store.
-fn copy_piece<S: Store, W: Sink>(
+fn copy_piece<S: Store, W: Sink, P: Progress>(
     file: &mut NcFile<S>,
     writer: &mut FileWriter<W>,
     buffer: &mut [u8],
     var: usize,
     number: u64,
     left: u64,
+    progress: &mut P,
 ) -> Result<(), Failed>
     requires room { length buffer.old ≡ 65536 }
     requires planned { IsPlanned (schema_of file.old) (placed_of file.old) (schema_in writer.old) }
@@ -70,10 +72,11 @@ fn copy_piece<S: Store, W: Sink>(
     let xtype = placed.xtype(var);
     let size = xtype.size();
     let from = place + placed.slab(var) - left * size as u64;
+    let all = placed.file_length();
     let count = left.min((buffer.len() / size) as u64) as usize;
     let piece = &mut buffer[..count * size];
     match file.fetch(from, piece) {
-        Ok(()) => {}
+        Ok(()) => progress.bytes(piece.len() as u64, all),
         Err(_) => return Err(Failed),
     }
     match writer.put_bytes(xtype, piece) {
@@ -83,10 +86,11 @@ fn copy_piece<S: Store, W: Sink>(
 }
 
 /// Copies all slabs that the writer expects.
-pub(crate) fn copy_all<S: Store, W: Sink>(
+pub(crate) fn copy_all<S: Store, W: Sink, P: Progress>(
     file: &mut NcFile<S>,
     writer: &mut FileWriter<W>,
     buffer: &mut [u8],
+    progress: &mut P,
 ) -> Result<(), Failed>
     requires room { length buffer.old ≡ 65536 }
     requires planned { IsPlanned (schema_of file.old) (placed_of file.old) (schema_in writer.old) }
@@ -116,7 +120,7 @@ pub(crate) fn copy_all<S: Store, W: Sink>(
 {
     store_laws::unmoved_calls_join::<S>();
     while let Some((var, number, left)) = writer.expects() {
-        copy_piece(file, writer, buffer, var, number, left)?;
+        copy_piece(file, writer, buffer, var, number, left, progress)?;
     }
     Ok(())
 }

@@ -8,7 +8,8 @@ ghost use Rattle.ncc_schema.specs.Schema.{Sound};
 ghost use Rattle.ncc_layout.specs.declared.placed_file.Placed.{Placed};
 ghost use Rattle.ncc_check.specs.Checks.{Opens};
 ghost use Rattle.ncc_build.specs.Dataset.{Dataset, IsDataset, as_version, with_version};
-ghost use Rattle.ncc_convert.specs.Found.{IsOf, IsPlanned, found_schema};
+ghost use Rattle.ncc_write.specs.Planned.{IsPlanned, found_schema};
+ghost use Rattle.ncc_convert.specs.Found.{IsOf};
 
 /// What an open file holds, of which each byte is one, is a dataset by each sound schema that is planned for it, and so
 /// also by its own where the number of records is told.

@@ -9,7 +9,7 @@ use ncc_files::{
     FIXED, FIXED_IN_CDF_2, FIXED_IN_CDF_5, LIMIT, RECORDS, RECORDS_DATA, TWO_RECORD_VARIABLES,
     bytes_of, with_byte,
 };
-use ncc_lines::Halt;
+use ncc_lines::{Halt, Unshown};
 use ncc_schema::{FuseSink, Sink, WriteSink};
 use ncc_store::MemStore;
 use ncc_values::Version;
@@ -79,7 +79,6 @@ fn rows(alloc: Global) -> Result<Vec<Row>, AllocError> {
 }
 
 /// Writes the file in the version into the sink; nothing of a file that doesn't pass or can't be planned.
-#[tactic(auto, using(crate::proofs::Planned::planned_so))]
 fn convert_to<W: Sink + Drop>(
     alloc: Global,
     bytes: Vec<u8>,
@@ -93,7 +92,7 @@ fn convert_to<W: Sink + Drop>(
     let Ok(built) = planned(alloc, &file, version) else {
         return None;
     };
-    Some(convert(alloc, &mut file, built, sink))
+    Some(convert(alloc, &mut file, built, sink, &mut Unshown))
 }
 
 #[test]

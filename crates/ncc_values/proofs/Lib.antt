@@ -1,4 +1,5 @@
 pub mod ElementsLemmas
 pub mod NameLemmas
+pub mod NamesTold
 pub mod Reading
 pub mod ValuesLemmas

@@ -5,7 +5,8 @@ use Rattle.std.specs.Prelude.{ℕ, Bool, false, not, ◌&&◌, ◌||◌, ◌==�
 use Rattle.std.specs.Char.{is_ascii_alphanumeric}
 use Rattle.std.specs.Int.{is_in_range}
 use Rattle.std.specs.List.{list_all}
-use Rattle.unicode_normalization.specs.Forms.{IsInForm, Nfc}
+use Rattle.std.specs.Str.{is_utf8}
+use Rattle.unicode_normalization.specs.Forms.{IsInForm, is_nfc, Nfc}
 
 abbrev pub space : ℕ
 space = 0x20
@@ -42,3 +43,7 @@ pub record FitsAsName (bytes : List ℕ) : Type 0 where
   pub utf8 : IsUtf8 bytes
   pub characters : IsTrue (are_name_characters (chars bytes))
   pub normal : IsInForm Nfc (chars bytes)
+
+-- the same as a test
+unfoldable pub is_name : List ℕ → Bool
+is_name bytes = is_utf8 bytes && (are_name_characters (chars bytes) && is_nfc (chars bytes))

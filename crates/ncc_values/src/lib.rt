@@ -5,6 +5,7 @@ mod elements;
 mod external;
 mod failures;
 mod fill;
+pub mod laws;
 mod name;
 mod numbers;
 mod padding;

@@ -52,3 +52,4 @@ pub mod NextSlabs
 pub mod NextPieces
 pub mod FileSlabs
 pub mod TakenIn
+mod PlannedSo

@@ -11,3 +11,4 @@ pub mod Records
 pub mod Appends
 pub mod Additions
 pub mod Extends
+pub mod Planned

@@ -6,6 +6,7 @@ use crate::planning::plan;
 use ncc_check::{NcFile, open};
 use ncc_files::{FIXED, FIXED_IN_CDF_2, LIMIT, bytes_of, with_byte};
 use ncc_header::{FuseSink, WriteSink};
+use ncc_lines::Unshown;
 use ncc_store::{FuseStore, MemStore};
 use ncc_values::Version;
 use std::alloc::{AllocError, Global};
@@ -60,7 +61,7 @@ fn converted(alloc: Global, reads: u64, writes: u64) -> Option<(Answer, Vec<u8>)
     let mut text = WriteSink::new(Vec::new(alloc));
     let built = plan(alloc, &file, Version::V2, &mut text).ok()?;
     let sink = FuseSink::new(WriteSink::new(Vec::new(alloc)), writes, 65_536);
-    let (sink, answer) = convert_engine(alloc, &mut file, built, sink);
+    let (sink, answer) = convert_engine(alloc, &mut file, built, sink, &mut Unshown);
     Some((answer, sink.into_inner().into_inner()))
 }
 

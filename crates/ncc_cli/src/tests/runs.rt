@@ -3,6 +3,7 @@
 use super::helpers::front;
 use crate::answer::Answer;
 use crate::finishing::finish;
+use crate::progress::Terminals;
 use crate::run::run;
 use ncc_files::{EMPTY, FIXED, TITLED, bytes_of, with_byte};
 use std::alloc::{AllocError, Global};
@@ -12,6 +13,11 @@ use std::process::Abort;
 use std::rt::{Clock, Files};
 use std::test::*;
 use std::{fs, io};
+
+const NO_TERMINALS: Terminals = Terminals {
+    out: false,
+    err: false,
+};
 
 /// The texts that a run wrote.
 #[derive(Drop)]
@@ -37,7 +43,7 @@ fn outcome<R: Files<File = File> + Clock + AllocGlobal>(
     let alloc = rt.alloc();
     let mut out = Vec::new(alloc);
     let mut err = Vec::new(alloc);
-    let status = run(rt, &line_of(alloc, line)?, &mut out, &mut err, false);
+    let status = run(rt, &line_of(alloc, line)?, &mut out, &mut err, NO_TERMINALS);
     Ok(Written { status, out, err })
 }
 
@@ -413,7 +419,7 @@ fn expect_stuck<R: Abort + Files<File = File> + Clock + AllocGlobal>(
     for takes in [false, true] {
         let mut err = Vec::new(rt.alloc());
         let words = line_of(rt.alloc(), line)?;
-        let status = run(rt, &words, &mut Stuck { takes }, &mut err, false);
+        let status = run(rt, &words, &mut Stuck { takes }, &mut err, NO_TERMINALS);
         assert_eq!(rt; status, 3, "{line}");
         assert!(rt; err.as_slice() == b"error device\n".as_slice(), "{line}");
     }
@@ -461,7 +467,13 @@ fn error_output_that_takes_nothing(rt: HostRuntime) -> Result<(), Fail> {
         let words = line_of(rt.alloc(), line)?;
         let mut out = Vec::new(rt.alloc());
         assert_eq!(rt;
-            run(&rt, &words, &mut out, &mut Stuck { takes: false }, false),
+            run(
+                &rt,
+                &words,
+                &mut out,
+                &mut Stuck { takes: false },
+                NO_TERMINALS
+            ),
             status
         );
         assert!(rt; out.is_empty());

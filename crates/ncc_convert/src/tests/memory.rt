@@ -3,12 +3,12 @@
 ghost use Rattle.std.specs.Prelude.{IfSome};
 ghost use Rattle.ncc_build.specs.Builds.{schema_of as planned_schema};
 ghost use Rattle.ncc_check.specs.Files.{schema_of, placed_of};
-ghost use Rattle.ncc_convert.specs.Found.{IsPlanned};
+ghost use Rattle.ncc_write.specs.Planned.{IsPlanned};
 
 use super::super::convert;
 use ncc_check::{NcFile, open};
 use ncc_files::{FIXED, FIXED_IN_CDF_2, LIMIT, bytes_of};
-use ncc_lines::Halt;
+use ncc_lines::{Halt, Unshown};
 use ncc_schema::WriteSink;
 use ncc_store::MemStore;
 use ncc_values::Version;
@@ -24,7 +24,6 @@ fn opened(alloc: Global) -> Option<NcFile<MemStore>> {
 }
 
 /// The file, planned in CDF-2, and a sink with room for it. Where there is none, memory was refused.
-#[tactic(auto, using(crate::proofs::Planned::planned_so))]
 fn plan_in_room<R: Abort + AllocGlobal>(
     rt: &R,
     file: &NcFile<MemStore>,
@@ -50,7 +49,7 @@ fn converts_without_memory(rt: HostRuntime) {
     let Some((built, sink)) = plan_in_room(&rt, &file) else {
         return;
     };
-    let (sink, result) = convert(rt.alloc(), &mut file, built, sink);
+    let (sink, result) = convert(rt.alloc(), &mut file, built, sink, &mut Unshown);
     let out = sink.into_inner();
     if result == Err(Halt::Memory) {
         assert!(rt; out.is_empty());

@@ -26,6 +26,10 @@ impl Progress for Told {
         self.times = self.times.saturating_add(1);
         self.last = (done, all);
     }
+
+    fn bytes(&mut self, _more: u64, _all: u64) {}
+
+    fn end(&mut self) {}
 }
 
 /// The variable double v(x) of 8,193 zeros: one more than a part has.

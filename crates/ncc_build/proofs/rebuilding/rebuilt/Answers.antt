@@ -3,12 +3,19 @@ use Rattle.ncc_schema.specs.declared.schema.Schema.{Schema}
 use Rattle.ncc_build.specs.declared.built.Built.{Built}
 use Rattle.ncc_build.specs.Building.{refuses_schema}
 use Rattle.ncc_build.proofs.Refusals.{none_refused}
-use Rattle.ncc_build.proofs.Anew.{refused_last}
+use Rattle.ncc_build.proofs.Anew.{rebuilt_so, refused_last}
 use Rattle.ncc_build.proofs.rebuilding.rebuilt.Goals as goal
 
-pub returns-clause-judged : goal.returns-clause-judged
-returns-clause-judged c = λ fits told.
+pub returns-in-Ok-clause-judged : goal.returns-in-Ok-clause-judged
+returns-in-Ok-clause-judged c =
     let version = c.new-builder.result.schema.version in
-    let none = none_refused (refuses_schema fits version c.args.schema.now) _ (c.in_ok-add_all.ensures.judged fits told) in
-    refused_last Built fits c.args.version version c.args.schema.now c.add_all.new.builder.schema c.args.records c.in-Err.fault
-    (ap (λ (s : Schema). s.version) c.new-builder.ensures) none c.in_ok-add_all.ensures.added c.in-Err.ensures.refused.1
+    let none = none_refused (refuses_schema version c.args.schema.now) _ c.in_ok-add_all.ensures.judged in
+    rebuilt_so c.args.version version c.args.schema.now c.add_all.new.builder.schema c.args.records
+    (ap (λ (s : Schema). s.version) c.new-builder.ensures) none c.in_ok-add_all.ensures.added Built c.in-Ok.built c.in-Ok.ensures.passes
+
+pub returns-clause-judged : goal.returns-clause-judged
+returns-clause-judged c =
+    let version = c.new-builder.result.schema.version in
+    let none = none_refused (refuses_schema version c.args.schema.now) _ c.in_ok-add_all.ensures.judged in
+    refused_last c.args.version version c.args.schema.now c.add_all.new.builder.schema c.args.records
+    (ap (λ (s : Schema). s.version) c.new-builder.ensures) none c.in_ok-add_all.ensures.added Built c.in-Err.fault c.in-Err.ensures.refused.1

@@ -1,4 +1,4 @@
-use Rattle.std.proofs.Common.{◌≡◌, ◌-◌, None, Result, Err, OnErr, sym, ap, subst, ◌∙◌, arith, rules}
+use Rattle.std.proofs.Common.{◌≡◌, None, Result, Err, OnErr, sym, ap, subst, ◌∙◌, arith, rules}
 use Rattle.ncc_layout.specs.Placed.{file_length_of}
 use Rattle.ncc_schema.specs.declared.failed.Failed.{Failed}
 use Rattle.ncc_convert.specs.Copying.{HasFront}

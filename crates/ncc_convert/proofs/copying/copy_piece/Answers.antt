@@ -23,6 +23,7 @@ use Rattle.ncc_convert.proofs.Going.{device_is, piece_long, positive, room_for, 
 use Rattle.ncc_convert.proofs.Pieces.{next_front}
 use Rattle.ncc_convert.proofs.PiecesLeft.{fewer, least_ends, one_left}
 use Rattle.ncc_convert.proofs.copying.copy_piece.Goals as goal
+use Rattle.ncc_convert.proofs.copying.copy_piece.Given as given
 
 pub unreachable-requires : goal.unreachable-requires
 unreachable-requires g c =
@@ -129,6 +130,10 @@ returns-in-Err-put_bytes-clause-some g c =
     let at = faces (tells_header g.S.Store.tells_bytes (must_reopen file)) g.S.Store.tells_bytes (g.S.Store.bytes (store_of file)) (schema_of file) (placed_of file) start put x c.open_file_stands.ensures c.requires.planned copies c.args.var c.args.number c.args.left c.requires.next in
     one_left start put x copies.standing copies.stands copies.goes at.n at.next_is
 
+-- the piece that was read is as long as was asked for
+piece_is_long : (g : given.Over) (c : goal.In-Ok-put_bytes g) → length c.fetch.new.out ≡ c.min-count.result * size_of c.xtype-xtype.result
+piece_is_long g c = search rules
+
 pub returns-in-Ok-put_bytes-clause-copies : goal.returns-in-Ok-put_bytes-clause-copies
 returns-in-Ok-put_bytes-clause-copies g c =
     λ start copies.
@@ -151,7 +156,7 @@ returns-in-Ok-put_bytes-clause-copies g c =
     let size_is : c.size-size.result ≡ size_of t = search rules in
     let slab_is : c.slab.result ≡ y.extent.slab = search rules in
     let few : k ≤ c.args.left = omega (arith, c.min-count.ensures) in
-    let long : length piece ≡ k * size_of t = search rules in
+    let long : length piece ≡ k * size_of t = piece_is_long g c in
     let left_are : at.offset + c.args.left * size_of t ≡ y.extent.slab = ap (λ (u : XType). at.offset + c.args.left * size_of u) type_is ∙ at.left_are in
     let fits : at.offset + length piece ≤ y.extent.slab = omega (arith, left_are, long, mul-le k (size_of t) c.args.left (size_of t) few (omega arith)) in
     let after = c.in-Ok-put_bytes.ensures.stands start w copies.stands in
