@@ -1,7 +1,7 @@
 #!/usr/bin/env bash
-# Refuses the first, second .. COUNTth allocation of a run of `ncc list`, of `ncc check` over a file with a note of
-# each kind, and of `ncc csv` (COUNT is 60 if left out). Each run must write the whole text with status 0, or a beginning
-# of it and `error memory` with status 3.
+# Refuses the first, second .. COUNTth allocation of a run of each command, of `ncc check` over a file with a note of
+# each kind (COUNT is 60 if left out). Each run must write the whole text with status 0, or a beginning of it and
+# `error memory` with status 3.
 set -uo pipefail
 count=${1:-60}
 cd "$(dirname "$0")/../crates/ncc_cli" || exit 1
@@ -31,3 +31,5 @@ refuse() {
 refuse "$(cat stdout)" -- list data/empty.nc
 refuse "$(cat ../../examples/noted.checked)" --data noted.nc=../../examples/noted.nc -- check noted.nc
 refuse "$(printf 'dim,vx\n1,1\n3,1')" --data tiny.nc=../../examples/tiny.nc -- csv tiny.nc vx --start 1 --stride 2
+refuse "records 3" --data ocean.nc=../../examples/ocean.nc -- extend ocean.nc 1
+refuse "ok CDF-2" --data tiny.nc=../../examples/tiny.nc -- convert --to 2 tiny.nc out.nc

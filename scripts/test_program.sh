@@ -79,29 +79,116 @@ expect "an empty file to check" 1 "fault EndsEarly at 0" "" check nothing.nc
 expect "a header of the given limit" 0 "ok CDF-1 records 0 variables 0" "" check --max-header 32 empty.nc
 expect "a header past the given limit" 1 "fault HeaderTooLong at 28" "" check --max-header 31 empty.nc
 expect "version" 0 "ncc 0.1.0" "" --version
-expect_first "help" 0 "Checks, lists, reads, extends and converts netCDF classic files" "" --help
-expect_first "help of list" 0 "Lists what the header of a file says" "" list --help
-expect_first "help of check" 0 "Says whether a file is sound, and what is unusual in it" "" check --help
-expect_first "help of csv" 0 "Prints the values of a variable, or of a selection of them" "" csv --help
-expect_first "help by a word" 0 "Lists what the header of a file says" "" help list
-expect_first "no word" 2 "" "Checks, lists, reads, extends and converts netCDF classic files"
-expect_first "no such command" 2 "" "error: unrecognized subcommand 'lst'" lst ocean.nc
-expect_first "no file" 2 "" "error: the following required arguments were not provided:" list
-expect_first "no file to check" 2 "" "error: the following required arguments were not provided:" check
-expect_first "a limit that is no number" 2 "" "error: invalid value 'x' for '--max-header <N>': invalid digit found in string" \
-  check --max-header x ocean.nc
-expect "a list that can't be read" 2 "" "error usage" csv ocean.nc time --start 1,
-expect "an empty list" 2 "" "error usage" csv not_there.nc time --count=
-expect_first "a start with a sign" 2 "" "error: unexpected argument '-1' found" csv ocean.nc time --start -1
-expect "no such file to select from" 3 "" "error device" csv not_there.nc time
-expect_first "two files" 2 "" "error: unexpected argument 'tiny.nc' found" list ocean.nc tiny.nc
-expect_first "no such option" 2 "" "error: unexpected argument '--all' found" list --all ocean.nc
-"$ncc" list --help > out
-for line in '  0  listed' '  1  the header has a fault, which is the only line' '  2  the command line is wrong' \
-  '  3  a device or memory failed' \
-  'A header may have 67,108,864 bytes; a longer one is the fault HeaderTooLong.'; do
-  count "help of list: $line" 1 "$(grep -cxF -- "$line" out)"
+expect "a limit behind a sign" 1 "fault HeaderTooLong at 28" "" check --max-header=31 --strict empty.nc
+expect "the greatest limit" 0 "ok CDF-1 records 0 variables 0" "" check --max-header 18446744073709551615 empty.nc
+# Its vsize isn't 12.
+cp tiny.nc vsize.nc
+printf '\0' | dd of=vsize.nc bs=1 seek=75 conv=notrunc status=none
+expect "a note" 0 "$(printf 'ok CDF-1 records 0 variables 1\nnote VsizeField at 72')" "" check --max-header 100 vsize.nc
+expect "a note with --strict and a limit" 1 "$(printf 'ok CDF-1 records 0 variables 1\nnote VsizeField at 72')" "" \
+  check --strict --max-header 100 vsize.nc
+# A file of the system that nobody may write, not even root.
+expect "a file that may not be written" 1 "fault EndsEarly at 0" "" check /proc/sys/kernel/osrelease
+
+# ---- command lines that are wrong
+
+# The case of a command line that is wrong: the FIRST line of its error, and the words that follow.
+wrong() {
+  local first=$1
+  shift
+  expect_first "wrong: $*" 2 "" "$first" "$@"
+}
+
+wrong "Checks, lists, reads, extends and converts netCDF classic files"
+wrong "error: unrecognized subcommand 'lst'" lst ocean.nc
+wrong "error: the following required arguments were not provided:" list
+wrong "error: the following required arguments were not provided:" check
+wrong "error: unexpected argument 'tiny.nc' found" list ocean.nc tiny.nc
+wrong "error: unexpected argument '--all' found" list --all ocean.nc
+wrong "error: invalid value 'x' for '--max-header <N>': invalid digit found in string" check --max-header x ocean.nc
+wrong "error: invalid value '18446744073709551616' for '--max-header <N>': number too large to fit in target type" \
+  check --max-header 18446744073709551616 ocean.nc
+wrong "error: unexpected argument '-1' found" check --max-header -1 ocean.nc
+wrong "error: the argument '--strict' cannot be used multiple times" check --strict --strict ocean.nc
+wrong "error: unexpected argument '-1' found" csv ocean.nc time --start -1
+for list in --start= --start=-1 --start=+1 --count=1, --count=,1 --count=1,,2 --stride=0x1 \
+  --stride=18446744073709551616; do
+  wrong "error usage" csv ocean.nc time "$list"
 done
+wrong "error usage" csv not_there.nc time --count=
+expect "no such file to select from" 3 "" "error device" csv not_there.nc time
+
+# ---- help
+
+expect "help of list" 0 "Lists what the header of a file says
+
+Usage: ncc list <FILE>
+
+Arguments:
+  <FILE>  A netCDF classic file
+
+Options:
+  -h, --help  Print help
+
+A header may have 67,108,864 bytes; a longer one is the fault HeaderTooLong.
+
+Status:
+  0  listed
+  1  the header has a fault, which is the only line
+  2  the command line is wrong
+  3  a device or memory failed" "" list --help
+expect "help of check" 0 "Says whether a file is sound, and what is unusual in it
+
+Usage: ncc check [OPTIONS] <FILE>
+
+Arguments:
+  <FILE>  A netCDF classic file
+
+Options:
+      --strict          Refuses a file that has a note
+      --max-header <N>  How many bytes a header may have
+  -h, --help            Print help
+
+A header may have 67,108,864 bytes, or as many as --max-header says; a longer one is the
+fault HeaderTooLong.
+
+Status:
+  0  it passed
+  1  it has a fault, which is the only line, or with --strict a note
+  2  the command line is wrong
+  3  a device or memory failed" "" check --help
+expect "help of csv" 0 "Prints the values of a variable, or of a selection of them
+
+Usage: ncc csv [OPTIONS] <FILE> <VAR>
+
+Arguments:
+  <FILE>  A netCDF classic file
+  <VAR>   The name of a variable
+
+Options:
+      --start <A>   The first index along each dimension
+      --count <A>   How many indices along each dimension
+      --stride <A>  The step from one index to the next
+  -h, --help        Print help
+
+A is a list of numbers with commas between them, one for each dimension. What isn't given
+is 0 for the start, 1 for the stride, and for the count as many indices as there are.
+
+The first row names the dimensions and the variable. Each other row has the indices of an
+element in the whole array, and its value; a char is the number of its byte, and a float or
+a double is shown by its bits.
+
+Status:
+  0  selected
+  1  the file has a fault or the selection is refused, which is the only line
+  2  the command line is wrong
+  3  a device or memory failed" "" csv --help
+expect_first "help by a word" 0 "Lists what the header of a file says" "" help list
+"$ncc" --help > out
+count "help begins with what it is for" "Checks, lists, reads, extends and converts netCDF classic files||Usage: ncc <COMMAND>" \
+  "$(head -n 3 out | paste -sd '|')"
+count "help ends with the statuses" "  2  the command line is wrong|  3  a device or memory failed" \
+  "$(tail -n 2 out | paste -sd '|')"
 
 # ---- rows
 
@@ -111,6 +198,7 @@ expect "csv of no rows" 0 "dim,vx" "" csv tiny.nc vx --count 0
 expect "csv of another variable" 1 "refused NoVariable" "" csv tiny.nc vy
 expect "csv past the end" 1 "refused Outside 0" "" csv tiny.nc vx --start 4 --count 2
 expect "csv of two numbers" 1 "refused RankMismatch" "" csv tiny.nc vx --start 1,1
+expect "csv past the end by a stride" 1 "refused Outside 0" "" csv tiny.nc vx --start 0 --count 3 --stride 3
 expect "csv of a stride of 0" 1 "refused ZeroStride 0" "" csv tiny.nc vx --stride 0
 expect "csv of a fault" 1 "fault Truncated at 60" "" csv bad_truncated_1.nc v
 
@@ -427,6 +515,15 @@ head_of() {
   head -c "$1" /dev/zero | tr '\0' a
   printf '\0\0\0\0\0\0\0\0'
 }
+# Values that end at the limit are read on, and the input ends before them; one byte more is too long.
+head_of $((67108864 - 40)) | head -c 40 > cut_at_the_limit.nc
+head_of $((67108864 - 39)) | head -c 40 > cut_past_the_limit.nc
+for command in list check; do
+  expect "$command of values to the limit that are cut" 1 "fault EndsEarly at 40" "" "$command" cut_at_the_limit.nc
+  expect "$command of values past the limit" 1 "fault HeaderTooLong at 40" "" "$command" cut_past_the_limit.nc
+done
+expect "check of values to a greater limit that are cut" 1 "fault EndsEarly at 40" "" \
+  check --max-header 67108868 cut_past_the_limit.nc
 head_of $((67108864 - 48)) > at_the_limit.nc
 "$ncc" list at_the_limit.nc > out 2> err
 count "a header of 67,108,864 bytes" "0 67108864 $((67108864 - 48 + 57)) " \

@@ -7,4 +7,3 @@ mod Passing
 mod Refusals
 pub mod SoundProps
 pub mod Tables
-mod Unrefused

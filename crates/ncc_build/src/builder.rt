@@ -158,7 +158,8 @@ impl SchemaBuilder {
     /// Judges a global attribute.
     fn judge_global(&self, name: &[u8], values: &Values) -> Result<(), WriteFault>
         ensures fits { OnOk result (FitsAsName name.now) }
-        ensures judged { IsJudged (refuses_global (is_name name.now) (schema_so_far self.now) name.now values.now) result }
+        ensures judged { IsJudged
+            (refuses_global (is_name name.now) (schema_so_far self.now) name.now values.now) result }
     {
         let gatts = self.schema.gatts.as_slice();
         let names = &self.tables.globals;
@@ -188,7 +189,8 @@ impl SchemaBuilder {
     /// Judges a variable.
     fn judge_var(&self, name: &[u8], xtype: XType, dims: &[usize]) -> Result<(), WriteFault>
         ensures fits { OnOk result (FitsAsName name.now) }
-        ensures judged { IsJudged (refuses_var (is_name name.now) (schema_so_far self.now) name.now xtype dims.now) result }
+        ensures judged { IsJudged
+            (refuses_var (is_name name.now) (schema_so_far self.now) name.now xtype dims.now) result }
     {
         judge_name(self.alloc, &self.tables.vars, name)?;
         judge_ids(self.schema.dims.as_slice(), dims)?;
@@ -204,7 +206,8 @@ impl SchemaBuilder {
     /// is refused for its name, then for its dimensions, then for its type, then for the number of its
     /// dimensions or of variables; after an error the schema is as it was.
     pub fn var(&mut self, name: &[u8], xtype: XType, dims: &[usize]) -> Result<usize, WriteFault>
-        ensures judged { IsJudged (refuses_var (is_name name.now) (schema_so_far self.old) name.now xtype dims.now) result }
+        ensures judged { IsJudged
+            (refuses_var (is_name name.now) (schema_so_far self.old) name.now xtype dims.now) result }
         ensures number { IfOk result (λ number. number ≡ length (schema_so_far self.old).vars) }
         ensures added { OnOk result
             (schema_so_far self.new ≡ with_var (schema_so_far self.old) name.now xtype dims.now) }
@@ -248,7 +251,8 @@ impl SchemaBuilder {
     /// the schema is as it was.
     pub fn attr(&mut self, var: usize, name: &[u8], values: Values) -> Result<(), WriteFault>
         requires there { var < length (schema_so_far self.old).vars }
-        ensures judged { IsJudged (refuses_attr (is_name name.now) (schema_so_far self.old) var name.now values) result }
+        ensures judged { IsJudged
+            (refuses_attr (is_name name.now) (schema_so_far self.old) var name.now values) result }
         ensures added { OnOk result
             (schema_so_far self.new ≡ with_attr (schema_so_far self.old) var name.now values) }
         ensures err { OnErr result (schema_so_far self.new ≡ schema_so_far self.old) }
@@ -262,7 +266,8 @@ impl SchemaBuilder {
     fn judge_of_var(&self, var: usize, name: &[u8], values: &Values) -> Result<(), WriteFault>
         requires there { var < length (schema_so_far self.now).vars }
         ensures fits { OnOk result (FitsAsName name.now) }
-        ensures judged { IsJudged (refuses_attr (is_name name.now) (schema_so_far self.now) var name.now values.now) result }
+        ensures judged { IsJudged
+            (refuses_attr (is_name name.now) (schema_so_far self.now) var name.now values.now) result }
     {
         let attrs = self.schema.vars.as_slice()[var].attrs.as_slice();
         let names = &self.tables.attrs[var];

@@ -1,5 +1,5 @@
 -- The refusal of a pick, and the selection that it gives, by the variable that is picked from.
-use Rattle.std.proofs.Common.{◌≡◌, ℕ, ◌<◌, Bool, Option, Some, Ok, Err, None, List, length, ap, subst, refl, ◌∙◌, if◌then◌else◌}
+use Rattle.std.proofs.Common.{◌≡◌, ℕ, ◌<◌, Bool, Some, Err, List, length, ap, refl, ◌∙◌, if◌then◌else◌}
 use Rattle.std.proofs.lemmas.Bool.{lt-ltb}
 use Rattle.ncc_layout.specs.Elements.{var_at}
 use Rattle.ncc_layout.specs.declared.placed_var.PlacedVar.{PlacedVar}

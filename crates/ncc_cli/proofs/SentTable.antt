@@ -1,7 +1,6 @@
 -- What `csv` sent is the text of the selection of its bytes, or a front of it.
-use Rattle.std.proofs.Common.{◌≡◌, ℕ, ◌<◌, Bool, true, false, Option, Some, None, Result, Ok, Err, List, ◌++◌, length, refl, sym, ap, subst, ◌∙◌, ◌⊎◌, inl, inr, arith}
+use Rattle.std.proofs.Common.{◌≡◌, ℕ, ◌<◌, Bool, Option, Some, None, Result, Ok, Err, List, ◌++◌, length, refl, sym, ap, subst, ◌∙◌, ◌⊎◌, inl, inr, arith}
 use Rattle.std.specs.Prelude.{is_none}
-use Rattle.ncc_schema.specs.Device.{Puts}
 use Rattle.ncc_schema.specs.declared.schema.Header.{Header}
 use Rattle.ncc_schema.specs.declared.schema.Schema.{Schema}
 use Rattle.ncc_schema.specs.declared.schema.Var.{Var}
@@ -17,7 +16,7 @@ use Rattle.ncc_check.specs.Faults.{Fails}
 use Rattle.ncc_check.specs.Passes.{Passes, PassesWith}
 use Rattle.ncc_lines.specs.declared.halt.Halt.{Halt}
 use Rattle.ncc_lines.specs.declared.halt.Halt.TheVariants as halts
-use Rattle.ncc_lines.specs.Sends.{SendsAll, PutsFront}
+use Rattle.ncc_lines.specs.Sends.{SendsAll}
 use Rattle.ncc_lines.specs.Verdicts.{file_fault_line}
 use Rattle.ncc_slab.specs.declared.fault.SlabFault.{SlabFault}
 use Rattle.ncc_csv.specs.Named.{IsFirstNamed}

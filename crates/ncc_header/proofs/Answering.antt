@@ -1,17 +1,16 @@
 -- Each piece has one answer.
-use Rattle.std.proofs.Common.{◌≡◌, ◌≢◌, ◌⊎◌, ℕ, ◌+◌, ◌≤◌, List, ◌++◌, length, take, drop, Option, Some, None, Result, Ok, Err, sym, ap, refl, subst, ◌∙◌, inl, inr, append_assoc, arith}
-use Rattle.std.proofs.lemmas.Bool.{cases_lt}
+use Rattle.std.proofs.Common.{◌≡◌, ℕ, ◌≤◌, List, ◌++◌, length, take, drop, Option, Some, None, Result, Ok, Err, sym, ap, refl, subst, ◌∙◌, inl, inr, append_assoc, arith}
 use Rattle.std.proofs.lemmas.List.{length-append, length-take-le, take-append-drop}
 use Rattle.ncc_header.specs.declared.fault.Fault.{Fault}
-use Rattle.ncc_header.specs.declared.fault.FaultKind.TheVariants.{EndsEarly, HeaderTooLong}
 use Rattle.ncc_header.specs.declared.fault.HeaderError.{HeaderError}
 use Rattle.ncc_header.specs.declared.fault.HeaderError.TheVariants as errors
 use Rattle.ncc_header.specs.declared.standing.Fed.{Fed}
 use Rattle.ncc_header.specs.declared.standing.Fed.TheVariants.{More, Done}
-use Rattle.std.specs.Prelude.{true, false, is_none}
+use Rattle.std.specs.Prelude.{true, false, is_some}
 use Rattle.ncc_header.specs.declared.reading.Reading.{Reading}
 use Rattle.ncc_header.specs.Answers.{Stops}
-use Rattle.ncc_header.specs.States.{left_of, size_of}
+use Rattle.ncc_header.specs.Steps.{size_of}
+use Rattle.ncc_header.specs.Reading.{next_of}
 use Rattle.ncc_header.specs.Standing.{HasTaken, cut_at, IsWhole, StopsForGood, FailedOn, Feeds, FedOrMemory}
 use Rattle.ncc_header.proofs.Deciding.{begins_before}
 use Rattle.ncc_header.proofs.Feeding.{cut_stops}
@@ -57,16 +56,16 @@ fault_or_memory taken piece limit f (Err errors.Device) a s = absurd a
 fault_or_memory taken piece limit f (Err errors.Memory) a s = inr refl
 
 -- where a field is left, what was taken isn't a whole header
-pub not_whole : (r : Reading) (taken : List ℕ) (n : ℕ) → HasTaken r taken → size_of (left_of r.state) ≡ Some n → IsWhole taken r.limit → ⊥
+pub not_whole : (r : Reading) (taken : List ℕ) (n : ℕ) → HasTaken r taken → size_of (next_of r) ≡ Some n → IsWhole taken r.limit → ⊥
 not_whole r taken n t is w =
     let b = whole_begins taken r.limit w.0 w.1 w.2 w.3 in
     apart taken r.limit b.0 (cut_at r.limit r.at n) b.1 (cut_stops r taken n t is)
 
-pub some_size : (o : Option ℕ) → is_none o ≡ false → (n : ℕ) × (o ≡ Some n)
+pub some_size : (o : Option ℕ) → is_some o ≡ true → (n : ℕ) × (o ≡ Some n)
 some_size None e = absurd cc
 some_size (Some n) e = (n, refl)
 
-pub no_size : (o : Option ℕ) → is_none o ≡ true → o ≡ None
+pub no_size : (o : Option ℕ) → is_some o ≡ false → o ≡ None
 no_size None e = refl
 no_size (Some n) e = absurd cc
 

@@ -13,7 +13,7 @@ use Rattle.ncc_values.specs.Version.{count_width_of, offset_width_of}
 use Rattle.ncc_values.specs.XType.{size_of}
 use Rattle.ncc_values.specs.declared.version.Version.{Version}
 use Rattle.ncc_values.specs.declared.xtype.XType.{XType}
-use Rattle.ncc_header.specs.declared.wrong.Wrong.{Wrong}
+use Rattle.ncc_header.specs.declared.fault.Wrong.{Wrong}
 use Rattle.ncc_schema.specs.declared.schema.Mark.{Mark}
 use Rattle.ncc_schema.specs.declared.schema.Mark.TheVariants as of
 use Rattle.ncc_schema.specs.declared.schema.Dim.{Dim}

@@ -3,9 +3,9 @@ use Rattle.std.proofs.Common.{◌≡◌, ℕ, zero, suc, ◌^◌, ◌<◌, List,
 use mathlib.Core.Path.{fun_ext}
 use Rattle.ncc_values.specs.Numbers.{IsBytes, big_endian, number_of}
 use Rattle.ncc_values.specs.BigEndian.{length-big_endian, bytes-big_endian, number_of-big_endian, big_endian-number_of, number_of-lt}
-use Rattle.ncc_header.specs.declared.wrong.Wrong.{Wrong}
+use Rattle.ncc_header.specs.declared.fault.Wrong.{Wrong}
 use Rattle.ncc_header.specs.Grammar.{Label, Grammar, done, field, Spells, ◌>>=◌, ◌into◌, repeat}
-use Rattle.ncc_schema.specs.Header.{◌⨾◌, exactly, any_bytes, each}
+use Rattle.ncc_schema.specs.Header.{◌⨾◌, exactly, each}
 use Rattle.ncc_schema.specs.Header as spelled
 use Rattle.ncc_header.specs.Fields.{number_field, bytes, padding}
 use Rattle.ncc_header.proofs.GrammarLaws.{joined, join}

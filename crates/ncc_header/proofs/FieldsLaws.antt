@@ -1,7 +1,7 @@
 -- The fields of a spelling.
 use Rattle.std.proofs.Common.{◌≡◌, ℕ, ◌+◌, List, ◌∷◌, ◌++◌, length, Option, refl, sym, ap, ◌∙◌, append_assoc, arith}
 use Rattle.std.proofs.lemmas.List.{take_at, drop_at, length-append}
-use Rattle.ncc_header.specs.declared.wrong.Wrong.{Wrong}
+use Rattle.ncc_header.specs.declared.fault.Wrong.{Wrong}
 use Rattle.ncc_header.specs.Grammar.{Label, Grammar, done, field, Spells, fields, ◌>>=◌}
 
 pub fields_first : {A : Type 0} (label : Label) (size : ℕ) (wrong : List ℕ → Option Wrong) (next : List ℕ → Grammar A) (at : ℕ) (front rest : List ℕ) → length front ≡ size

@@ -6,22 +6,18 @@ use Rattle.std.proofs.lemmas.Bool.{cases_lt}
 use Rattle.std.proofs.lemmas.List.{length-append, length-take-le, take_all, drop_at}
 use Rattle.std.proofs.lemmas.Result.{IfOk-weaker}
 use Rattle.ncc_header.specs.declared.decoder.Decoder.{Decoder}
-use Rattle.ncc_header.specs.declared.fault.FaultKind.TheVariants.{EndsEarly}
 use Rattle.ncc_header.specs.declared.fault.HeaderError.{HeaderError}
 use Rattle.ncc_header.specs.declared.fault.HeaderError.TheVariants as errors
 use Rattle.ncc_schema.specs.declared.schema.Header.{Header}
 use Rattle.ncc_header.specs.declared.standing.Fed.{Fed}
 use Rattle.ncc_header.specs.declared.standing.Fed.TheVariants.{More, Done}
 use Rattle.ncc_schema.specs.Device.{Loses, LosesAtMost}
-use Rattle.ncc_header.specs.Fields.{header}
-use Rattle.ncc_header.specs.Grammar.{lacking}
 use Rattle.ncc_header.specs.Answers.{Answers, AnswersOf, CountsAs, IsLeft}
 use Rattle.ncc_header.specs.Decoder.{Took, limit_of}
-use Rattle.ncc_header.specs.FromSource.{HasFed, FailsOn, FailsFeeding, HasRead, IsOver}
-use Rattle.ncc_header.specs.Standing.{FailedOn, Feeds, front_taken}
+use Rattle.ncc_header.specs.FromSource.{HasFed, FailsFeeding, HasRead, IsOver}
+use Rattle.ncc_header.specs.Standing.{FailedOn, Feeds, IsWhole, front_taken}
 use Rattle.ncc_header.proofs.Deciding.{settled_answers}
-use Rattle.ncc_header.proofs.HeaderLaws.{header_stop_stays, apart, whole_begins}
-use Rattle.ncc_header.proofs.OneField.{still_early, lacks_within}
+use Rattle.ncc_header.proofs.HeaderLaws.{header_stop_stays}
 
 -- ---- bytes that are lost by turns
 
@@ -33,15 +29,12 @@ loses_both (Some xs) mid new a b p q =
 
 -- ---- so far
 
--- a piece that isn't longer than what lacks is taken whole
-pub all_used : (bytes piece : List ℕ) (limit : ℕ) (fed : Fed) → Feeds bytes piece limit (Ok fed) → length piece ≤ lacking header limit 0 bytes → front_taken (Ok fed) piece ≡ piece
-all_used bytes piece limit More f few = refl
-all_used bytes piece limit (Done used) f few =
+-- a piece that isn't longer than what is surely still to come is taken whole
+all_used : (bytes piece : List ℕ) (limit room : ℕ) (fed : Fed) → Feeds bytes piece limit (Ok fed) → length piece ≤ room → ((more : List ℕ) → IsWhole (bytes ++ more) limit → room ≤ length more) → front_taken (Ok fed) piece ≡ piece
+all_used bytes piece limit room More f few fewest = refl
+all_used bytes piece limit room (Done used) f few fewest =
     elim (cases_lt used (length piece)) [
-      | inl short ↦
-          let early = still_early header limit 0 bytes (take used piece) (omega (arith, short, few, length-take-le used piece f.0)) in
-          let whole = whole_begins (bytes ++ take used piece) limit f.1.0 f.1.1 f.1.2 f.1.3 in
-          absurd (apart (bytes ++ take used piece) limit whole.0 (record { kind = EndsEarly; offset = early.0 }) whole.1 early.1)
+      | inl short ↦ absurd (omega (arith, short, few, length-take-le used piece f.0, fewest (take used piece) f.1))
       | inr all ↦ take_all used piece all
     ]
 
@@ -49,10 +42,10 @@ pub has_read_none : (old : Option (List ℕ)) (d : Decoder) (limit : ℕ) → To
 has_read_none None d limit took is = record { bytes = []; lost = tt; took = took; limit_is = is; long = refl }
 has_read_none (Some xs) d limit took is = record { bytes = []; lost = (xs, refl, refl); took = took; limit_is = is; long = refl }
 
--- where no more came than lacked, all of it was taken
-pub has_read_more : (old mid new : Option (List ℕ)) (d e : Decoder) (limit taken room n : ℕ) → HasRead old mid d limit taken → HasFed mid new d e room n → ((bytes : List ℕ) → Took d bytes → room ≤ lacking header (limit_of d) 0 bytes) → HasRead old new e limit (taken + n)
+-- where no more came than was surely still to come, all of it was taken
+pub has_read_more : (old mid new : Option (List ℕ)) (d e : Decoder) (limit taken room n : ℕ) → HasRead old mid d limit taken → HasFed mid new d e room n → ((bytes more : List ℕ) → Took d bytes → IsWhole (bytes ++ more) (limit_of d) → room ≤ length more) → HasRead old new e limit (taken + n)
 has_read_more old mid new d e limit taken room n r f wanted =
-    let all : front_taken (Ok f.fed) f.piece ≡ f.piece = all_used r.bytes f.piece (limit_of d) f.fed (f.feeds r.bytes r.took) (omega (arith, f.long, f.few, wanted r.bytes r.took)) in
+    let all : front_taken (Ok f.fed) f.piece ≡ f.piece = all_used r.bytes f.piece (limit_of d) room f.fed (f.feeds r.bytes r.took) (omega (arith, f.long, f.few)) (λ more. wanted r.bytes more r.took) in
     record {
       bytes = r.bytes ++ f.piece;
       lost = loses_both old mid new r.bytes f.piece r.lost f.lost;
@@ -136,10 +129,8 @@ pub final_left : (old now : Option (List ℕ)) (d : Decoder) (limit taken : ℕ)
 final_left old now d limit taken result r whole = left_behind old now r.bytes result r.lost (whole r.bytes r.took)
 
 -- what is wanted lies within the limit
-pub wanted_within : (d : Decoder) (old now : Option (List ℕ)) (limit taken wanted : ℕ) → HasRead old now d limit taken → ((bytes : List ℕ) → Took d bytes → wanted ≡ lacking header (limit_of d) 0 bytes) → 0 < wanted → taken + wanted ≤ limit
-wanted_within d old now limit taken wanted r lacks some =
-    let is : wanted ≡ lacking header limit 0 r.bytes = lacks r.bytes r.took ∙ ap (λ (l : ℕ). lacking header l 0 r.bytes) r.limit_is in
-    omega (arith, is, r.long, lacks_within header limit 0 r.bytes (omega (arith, is, some)))
+pub wanted_within : (d : Decoder) (old now : Option (List ℕ)) (limit taken wanted : ℕ) → HasRead old now d limit taken → ((bytes : List ℕ) → Took d bytes → 0 < wanted → length bytes + wanted ≤ limit_of d) → 0 < wanted → taken + wanted ≤ limit
+wanted_within d old now limit taken wanted r within some = omega (arith, within r.bytes r.took some, r.long, r.limit_is)
 
 -- ---- failures
 

@@ -6,7 +6,7 @@ use Rattle.ncc_values.specs.Numbers.{IsBytes}
 use Rattle.ncc_values.specs.BigEndian.{bytes-take, bytes-drop}
 use Rattle.ncc_header.specs.declared.fault.FaultKind.{FaultKind}
 use Rattle.ncc_header.specs.declared.fault.FaultKind.TheVariants.{HeaderTooLong, EndsEarly}
-use Rattle.ncc_header.specs.declared.wrong.Wrong.{Wrong}
+use Rattle.ncc_header.specs.declared.fault.Wrong.{Wrong}
 use Rattle.ncc_header.specs.Grammar.{Label, Grammar, done, field, Spells, Outcome, reads, stops, read, unless_wrong, ◌>>=◌}
 
 -- ---- one field

@@ -5,7 +5,7 @@ use Rattle.ncc_values.specs.Version.{count_width_of, offset_width_of}
 use Rattle.ncc_values.specs.declared.version.Version.{Version}
 use Rattle.ncc_values.specs.declared.version.Version.TheVariants.{V1, V2, V5}
 use Rattle.ncc_header.specs.declared.fault.FaultKind.{FaultKind}
-use Rattle.ncc_header.specs.declared.wrong.Wrong.{Wrong}
+use Rattle.ncc_header.specs.declared.fault.Wrong.{Wrong}
 use Rattle.ncc_schema.specs.Schema.{count_limit, length_limit, offset_limit, streaming_mark}
 use Rattle.ncc_header.specs.Fields.{unless, first, at_tag_if}
 

@@ -12,12 +12,15 @@ mod Recounting
 mod Unmarked
 mod CanonicalMarks
 mod ValuesGathered
-mod Turns
+mod Ends
 mod RefusedKinds
 mod OneField
 mod TakeField
 mod TakePiece
+mod AtLeast
+mod LeastLaws
 mod Feeding
+mod Expecting
 mod Deciding
 mod Answering
 mod FromSource

@@ -2,16 +2,16 @@
 use Rattle.std.proofs.Common.{◌≡◌, ◌≢◌, ℕ, ◌+◌, ◌-◌, ◌<◌, ◌≤◌, List, ◌∷◌, ◌++◌, length, take, drop, Option, Some, None, refl, sym, ap, ◌∙◌, append_assoc, arith, inl, inr}
 use Rattle.std.specs.Prelude.{is_some, if◌then◌else◌}
 use Rattle.std.proofs.lemmas.Bool.{cases_lt, le-ltb, lt-ltb}
-use Rattle.std.proofs.lemmas.List.{length-append, length-drop, length-take-le, take_at, drop_at, take-append-drop}
+use Rattle.std.proofs.lemmas.List.{length-append, take_at, drop_at}
 use Rattle.ncc_header.specs.declared.fault.FaultKind.{FaultKind}
 use Rattle.ncc_header.specs.declared.fault.FaultKind.TheVariants.{HeaderTooLong, EndsEarly}
-use Rattle.ncc_header.specs.declared.wrong.Wrong.{Wrong}
+use Rattle.ncc_header.specs.declared.fault.Wrong.{Wrong}
 use Rattle.ncc_header.specs.Grammar.{Label, Grammar, done, field, Outcome, stops, read, unless_wrong, lacking, Field, fields}
-use Rattle.ncc_header.specs.States.{size_of, label_of, Advances, IsRefused}
+use Rattle.ncc_header.specs.Steps.{size_of, label_of, Advances, IsRefused}
 use Rattle.ncc_header.proofs.FieldsLaws.{fields_first}
 use Rattle.ncc_header.proofs.GrammarLaws.{read_field, whole_front, outcomes_are_one}
 
-pub some_is : (m n : ℕ) → Some m ≡ Some n → m ≡ n
+some_is : (m n : ℕ) → Some m ≡ Some n → m ≡ n
 some_is m n h = cc
 
 -- the field's bytes have come, and are not wrong
@@ -116,58 +116,5 @@ lacks_none {A = A} (field label size wrong next) limit at input offset kind othe
             (lacks_if_wrong (wrong (take size input)) at offset _ kind (read (next (take size input)) limit (at + size) (drop size input))
             (rw (le-ltb limit (at + size) within, le-ltb (length input) size long) at h)
             (lacks_none (next (take size input)) limit (at + size) (drop size input) offset kind other))
-      ]
-    ]
-
-not_wrong : (w : Option Wrong) (l k : ℕ) → (if is_some w then 0 else l) ≡ k → 0 < k → (w ≡ None) × (l ≡ k)
-not_wrong None l k e pos = (refl, e)
-not_wrong (Some w) l k e pos = absurd (omega (arith, e, pos))
-
--- past a whole field, whatever follows
-goes_by : {A : Type 0} (label : Label) (size : ℕ) (wrong : List ℕ → Option Wrong) (next : List ℕ → Grammar A) (limit at : ℕ) (input more : List ℕ) → size ≤ length input → at + size ≤ limit → wrong (take size input) ≡ None
-    → read (field label size wrong next) limit at (input ++ more) ≡ read (next (take size input)) limit (at + size) (drop size input ++ more)
-goes_by label size wrong next limit at input more long within fine =
-    let parts : input ++ more ≡ take size input ++ (drop size input ++ more) = ap (λ (x : List ℕ). x ++ more) (sym (take-append-drop size input)) ∙ append_assoc (take size input) (drop size input) more in
-    ap (read (field label size wrong next) limit at) parts
-    ∙ read_field label size wrong next limit at (take size input) (drop size input ++ more) (length-take-le size input long) within fine
-
-early_behind : {A : Type 0} (o p : Outcome A) → o ≡ p → (offset : ℕ) × (p ≡ stops offset EndsEarly) → (offset : ℕ) × (o ≡ stops offset EndsEarly)
-early_behind o p e r = (r.0, e ∙ r.1)
-
--- what lacks more bytes than come still ends early
-pub still_early : {A : Type 0} (g : Grammar A) (limit at : ℕ) (input more : List ℕ) → length more < lacking g limit at input → (offset : ℕ) × (read g limit at (input ++ more) ≡ stops offset EndsEarly)
-unfolding read lacking
-still_early (done x) limit at input more h = absurd (omega (arith, h))
-still_early {A = A} (field label size wrong next) limit at input more h =
-    elim (cases_lt limit (at + size)) [
-      | inl past ↦ absurd (let none : length more < 0 = rw (lt-ltb limit (at + size) past) at h in omega (arith, none))
-      | inr within ↦ elim (cases_lt (length input) size) [
-        | inl short ↦
-            let few : length more < size - length input = rw (le-ltb limit (at + size) within, lt-ltb (length input) size short) at h in
-            (at, rw (le-ltb limit (at + size) within, lt-ltb (length (input ++ more)) size (omega (arith, length-append input more, few))) refl)
-        | inr long ↦
-            let few : length more < (if is_some (wrong (take size input)) then 0 else lacking (next (take size input)) limit (at + size) (drop size input)) = rw (le-ltb limit (at + size) within, le-ltb (length input) size long) at h in
-            let onward = lacking (next (take size input)) limit (at + size) (drop size input) in
-            let fine = not_wrong (wrong (take size input)) onward (if is_some (wrong (take size input)) then 0 else onward) refl (omega (arith, few)) in
-            early_behind (read (field label size wrong next) limit at (input ++ more)) (read (next (take size input)) limit (at + size) (drop size input ++ more)) (goes_by label size wrong next limit at input more long within fine.0)
-            (still_early (next (take size input)) limit (at + size) (drop size input) more (omega (arith, few, fine.1)))
-      ]
-    ]
-
--- what lacks bytes lacks none past the limit
-pub lacks_within : {A : Type 0} (g : Grammar A) (limit at : ℕ) (input : List ℕ) → 0 < lacking g limit at input → at + length input + lacking g limit at input ≤ limit
-unfolding lacking
-lacks_within (done x) limit at input h = absurd (omega (arith, h))
-lacks_within {A = A} (field label size wrong next) limit at input h =
-    elim (cases_lt limit (at + size)) [
-      | inl past ↦ absurd (let none : 0 < 0 = rw (lt-ltb limit (at + size) past) at h in omega (arith, none))
-      | inr within ↦ elim (cases_lt (length input) size) [
-        | inl short ↦ rw (le-ltb limit (at + size) within, lt-ltb (length input) size short) (omega (arith, within, short))
-        | inr long ↦
-            let some : 0 < (if is_some (wrong (take size input)) then 0 else lacking (next (take size input)) limit (at + size) (drop size input)) = rw (le-ltb limit (at + size) within, le-ltb (length input) size long) at h in
-            let onward = lacking (next (take size input)) limit (at + size) (drop size input) in
-            let fine = not_wrong (wrong (take size input)) onward (if is_some (wrong (take size input)) then 0 else onward) refl some in
-            let rest = lacks_within (next (take size input)) limit (at + size) (drop size input) (omega (arith, some, fine.1)) in
-            rw (le-ltb limit (at + size) within, le-ltb (length input) size long) (omega (arith, rest, fine.1, length-drop size input, long))
       ]
     ]

@@ -8,12 +8,14 @@ use Rattle.ncc_values.specs.declared.version.Version.{Version}
 use Rattle.ncc_header.specs.declared.fault.FaultKind.{FaultKind}
 use Rattle.ncc_header.specs.declared.fault.FaultKind.TheVariants.{BadMagic, BadVersion, NegativeCount, BadTag, BadType, TwoRecordDims, BadDimId, RecordDimNotFirst, NegativeOffset, EndsEarly}
 use Rattle.ncc_schema.specs.declared.schema.Dim.{Dim}
-use Rattle.ncc_header.specs.declared.state.State.{State}
-use Rattle.ncc_header.specs.declared.state.State.TheVariants as states
-use Rattle.ncc_header.specs.declared.wrong.Wrong.{Wrong}
+use Rattle.ncc_header.specs.declared.built.Built.{Built}
+use Rattle.ncc_header.specs.declared.built.Next.{Next}
+use Rattle.ncc_header.specs.declared.built.Next.TheVariants as nexts
+use Rattle.ncc_header.specs.declared.fault.Wrong.{Wrong}
 use Rattle.ncc_schema.specs.Schema.{count_limit, length_limit, offset_limit, record_dims, is_record}
 use Rattle.ncc_header.specs.Fields.{unless, at_tag_if, first, magic_wrong, version_wrong, nelems_wrong, tag_wrong, list_nelems_wrong, length_wrong, type_wrong, dimid_wrong, begin_wrong}
-use Rattle.ncc_header.specs.States.{left_of, version_of_owner, version_of_named, IsRefused}
+use Rattle.ncc_header.specs.Left.{left_of}
+use Rattle.ncc_header.specs.Steps.{IsRefused}
 
 -- what is wrong, if anything, is no early end
 record Other (u : Option Wrong) : Type 0 where
@@ -60,27 +62,27 @@ dimid_other dims before n = first_other (unless (ltb n (length dims)) BadDimId) 
 begin_other : (v : Version) (n : ℕ) → Other (begin_wrong v n)
 begin_other v n = unless_other (ltb n (offset_limit v)) NegativeOffset (λ h. cc)
 
-pub refused_other : (state : State) (front : List ℕ) (w : Wrong) → IsRefused (left_of state) front w → w.kind ≢ EndsEarly
-refused_other states.Magic front w h = (magic_other (number_of front)).never w h
-refused_other states.VersionByte front w h = (version_other (number_of front)).never w h
-refused_other (states.RecordCount v) front w h = absurd cc
-refused_other (states.DimsTag v c) front w h = (tag_other 10 (number_of front)).never w h
-refused_other (states.DimsCount v c t) front w h = (list_count_other v t (number_of front)).never w h
-refused_other (states.NameLength x) front w h = (count_other (version_of_named x) (number_of front)).never w h
-refused_other (states.NameText x n text) front w h = absurd cc
-refused_other (states.NamePadding x name) front w h = absurd cc
-refused_other (states.DimLength d name) front w h = (length_other d.version d.dims.items (number_of front)).never w h
-refused_other (states.AttrsTag o) front w h = (tag_other 12 (number_of front)).never w h
-refused_other (states.AttrsCount o t) front w h = (list_count_other (version_of_owner o) t (number_of front)).never w h
-refused_other (states.AttrType a name) front w h = (type_other (version_of_owner a.owner) (number_of front)).never w h
-refused_other (states.AttrCount a name t) front w h = (count_other (version_of_owner a.owner) (number_of front)).never w h
-refused_other (states.AttrValues b) front w h = absurd cc
-refused_other (states.AttrPadding a name n values) front w h = absurd cc
-refused_other (states.VarsTag head gatts) front w h = (tag_other 11 (number_of front)).never w h
-refused_other (states.VarsCount head gatts t) front w h = (list_count_other head.version t (number_of front)).never w h
-refused_other (states.DimIdsCount v name) front w h = (count_other v.head.version (number_of front)).never w h
-refused_other (states.DimId v name dims left) front w h = (dimid_other v.head.dims dims.items (number_of front)).never w h
-refused_other (states.VarType v name dims notes) front w h = (type_other v.head.version (number_of front)).never w h
-refused_other (states.VarSize v x) front w h = absurd cc
-refused_other (states.VarBegin v x size) front w h = (begin_other v.head.version (number_of front)).never w h
-refused_other (states.Whole s places) front w h = absurd h
+pub refused_other : (next : Next) (b : Built) (front : List ℕ) (w : Wrong) → IsRefused (left_of next b) front w → w.kind ≢ EndsEarly
+refused_other nexts.Magic b front w h = (magic_other (number_of front)).never w h
+refused_other nexts.VersionByte b front w h = (version_other (number_of front)).never w h
+refused_other nexts.RecordCount b front w h = absurd cc
+refused_other nexts.DimsTag b front w h = (tag_other 10 (number_of front)).never w h
+refused_other (nexts.DimsCount t) b front w h = (list_count_other b.lists.parts.version t (number_of front)).never w h
+refused_other (nexts.NameLength x) b front w h = (count_other b.lists.parts.version (number_of front)).never w h
+refused_other (nexts.NameText x n) b front w h = absurd cc
+refused_other (nexts.NamePadding x) b front w h = absurd cc
+refused_other nexts.DimLength b front w h = (length_other b.lists.parts.version b.lists.parts.dims.items (number_of front)).never w h
+refused_other (nexts.AttrsTag o) b front w h = (tag_other 12 (number_of front)).never w h
+refused_other (nexts.AttrsCount o t) b front w h = (list_count_other b.lists.parts.version t (number_of front)).never w h
+refused_other (nexts.AttrType o) b front w h = (type_other b.lists.parts.version (number_of front)).never w h
+refused_other (nexts.AttrCount o t) b front w h = (count_other b.lists.parts.version (number_of front)).never w h
+refused_other (nexts.AttrValues o k) b front w h = absurd cc
+refused_other (nexts.AttrPadding o n) b front w h = absurd cc
+refused_other nexts.VarsTag b front w h = (tag_other 11 (number_of front)).never w h
+refused_other (nexts.VarsCount t) b front w h = (list_count_other b.lists.parts.version t (number_of front)).never w h
+refused_other nexts.DimIdsCount b front w h = (count_other b.lists.parts.version (number_of front)).never w h
+refused_other (nexts.DimId k) b front w h = (dimid_other b.lists.parts.dims.items b.lists.var.dims.items (number_of front)).never w h
+refused_other nexts.VarType b front w h = (type_other b.lists.parts.version (number_of front)).never w h
+refused_other (nexts.VarSize t) b front w h = absurd cc
+refused_other (nexts.VarBegin t size) b front w h = (begin_other b.lists.parts.version (number_of front)).never w h
+refused_other nexts.Whole b front w h = absurd h

@@ -11,7 +11,7 @@ use Rattle.ncc_values.specs.Version.{byte_of, version_of, count_width_of}
 use Rattle.ncc_values.specs.declared.version.Version.{Version}
 use Rattle.ncc_values.specs.declared.version.Version.TheVariants.{V1, V2, V5}
 use Rattle.ncc_header.specs.declared.fault.FaultKind.TheVariants.{BadMagic, BadVersion}
-use Rattle.ncc_header.specs.declared.wrong.Wrong.{Wrong}
+use Rattle.ncc_header.specs.declared.fault.Wrong.{Wrong}
 use Rattle.ncc_schema.specs.declared.schema.Count.{Count}
 use Rattle.ncc_schema.specs.declared.schema.Count.TheVariants.{Known, Streaming}
 use Rattle.ncc_schema.specs.declared.schema.Dim.{Dim}

@@ -12,7 +12,7 @@ use Rattle.ncc_values.specs.declared.xtype.XType.{XType}
 use Rattle.ncc_values.specs.declared.xtype.XType.TheVariants.{Byte}
 use Rattle.ncc_header.specs.declared.fault.FaultKind.{FaultKind}
 use Rattle.ncc_header.specs.declared.fault.FaultKind.TheVariants.{BadMagic, BadVersion, NegativeCount, BadTag, BadType, TwoRecordDims, BadDimId, RecordDimNotFirst, NegativeOffset}
-use Rattle.ncc_header.specs.declared.wrong.Wrong.{Wrong}
+use Rattle.ncc_header.specs.declared.fault.Wrong.{Wrong}
 use Rattle.ncc_schema.specs.declared.schema.Count.{Count}
 use Rattle.ncc_schema.specs.declared.schema.Count.TheVariants.{Known, Streaming}
 use Rattle.ncc_schema.specs.declared.schema.Dim.{Dim}

@@ -3,7 +3,7 @@ use Rattle.std.specs.Prelude.{◌≡◌, ℕ, zero, suc, ◌+◌, ◌-◌, List,
 use Rattle.ncc_values.specs.Numbers.{IsBytes}
 use Rattle.ncc_header.specs.declared.fault.FaultKind.{FaultKind}
 use Rattle.ncc_header.specs.declared.fault.FaultKind.TheVariants.{HeaderTooLong, EndsEarly}
-use Rattle.ncc_header.specs.declared.wrong.Wrong.{Wrong}
+use Rattle.ncc_header.specs.declared.fault.Wrong.{Wrong}
 
 -- what a field is, for those who look for fields of a kind
 pub data Label : Type 0 where

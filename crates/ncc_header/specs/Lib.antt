@@ -2,10 +2,10 @@ pub mod Grammar
 pub mod Fields
 pub mod Marks
 pub mod Answers
-pub mod States
-pub mod Held
+pub mod Left
+pub mod Steps
+pub mod Least
 pub mod Reading
-pub mod Turns
 pub mod Standing
 pub mod Decoder
 pub mod FromSource

@@ -1,17 +1,18 @@
 -- What a reading has taken, and what it has still to read.
-use Rattle.std.specs.Prelude.{◌≡◌, ◌≢◌, ℕ, ◌+◌, ◌-◌, ◌≤◌, ◌<◌, List, [], ◌++◌, length, Some}
+use Rattle.std.specs.Prelude.{◌≡◌, ◌≢◌, ℕ, ◌+◌, ◌-◌, ◌*◌, ◌≤◌, ◌<◌, List, [], ◌++◌, length, take, Some}
 use Rattle.ncc_header.specs.declared.fault.Fault.{Fault}
 use Rattle.ncc_header.specs.declared.fault.FaultKind.TheVariants.{EndsEarly}
 use Rattle.ncc_header.specs.declared.fault.HeaderError.{HeaderError}
 use Rattle.ncc_header.specs.declared.fault.HeaderError.TheVariants as errors
 use Rattle.ncc_header.specs.declared.reading.Reading.{Reading}
 use Rattle.ncc_schema.specs.declared.schema.Mark.{Mark}
-use Rattle.ncc_header.specs.declared.state.StepError.{StepError}
-use Rattle.ncc_header.specs.declared.state.StepError.TheVariants as steps
+use Rattle.ncc_header.specs.declared.fault.StepError.{StepError}
+use Rattle.ncc_header.specs.declared.fault.StepError.TheVariants as steps
 use Rattle.ncc_header.specs.Grammar.{Grammar, Outcome, read, stops, lacking, fields}
 use Rattle.ncc_header.specs.Fields.{header}
 use Rattle.ncc_header.specs.Marks.{marks, begins}
-use Rattle.ncc_header.specs.States.{Given, left_of, begins_of, size_of, front_of}
+use Rattle.ncc_header.specs.Left.{Given, left_of, begins_of, front_of, idle_of}
+use Rattle.ncc_header.specs.Steps.{size_of}
 
 -- what becomes of an input: where reading it ends, what it lacks, and what its fields show
 pub record Course : Type 0 where
@@ -33,19 +34,36 @@ course g limit at shown begun input = record {
 abbrev pub from_start : (limit : ℕ) (input : List ℕ) → Course
 from_start limit input = course header limit 0 [] [] input
 
+-- what is left to read
+abbrev pub next_of : Reading → Grammar Given
+next_of r = left_of r.next r.built
+
 -- the bytes of the next field that have come
 abbrev pub held_of : Reading → List ℕ
-held_of r = front_of r.state r.held.items
+held_of r = front_of r.next r.built r.held.items
+
+-- where the begin fields so far were
+abbrev pub begun_of : Reading → List ℕ
+begun_of r = begins_of r.next r.built.lists.vars
 
 -- of an input of which a reading has come so far, where these bytes come next
 abbrev pub onward : Reading → (more : List ℕ) → Course
-onward r more = course (left_of r.state) r.limit r.at r.marks.items (begins_of r.state) (held_of r ++ more)
+onward r more = course (next_of r) r.limit r.at r.marks.items (begun_of r) (held_of r ++ more)
 
 -- The bytes of front were taken.
 pub record Takes (old new : Reading) (front : List ℕ) : Type 0 where
   pub limit : new.limit ≡ old.limit
   pub goes_on : (more : List ℕ) → onward old (front ++ more) ≡ onward new more
   pub long : new.at + length (held_of new) ≡ old.at + length (held_of old) + length front
+
+-- So many bytes of the piece were taken.
+pub record Went (old new : Reading) (piece : List ℕ) (used : ℕ) : Type 0 where
+  pub within : used ≤ length piece
+  pub takes : Takes old new (take used piece)
+
+-- how many fields may follow: each byte within the limit may end one with two behind it that have none
+abbrev pub effort_of : Reading → ℕ
+effort_of r = 3 * (r.limit - r.at) + idle_of r.next
 
 -- Behind the bytes of front the input stops so, whatever follows.
 pub record StopsBehind (old : Reading) (front : List ℕ) (f : Fault) : Type 0 where
@@ -60,7 +78,11 @@ FailsBehind old front errors.Memory = Unit {0}
 
 -- no field is left, or the next one is within the limit and not whole
 abbrev pub Waits : Reading → Type 0
-Waits r = (n : ℕ) → size_of (left_of r.state) ≡ Some n → (r.at + n ≤ r.limit) × (length (held_of r) < n)
+Waits r = (n : ℕ) → size_of (next_of r) ≡ Some n → (r.at + n ≤ r.limit) × (length (held_of r) < n)
+
+-- the same, behind so many bytes more
+abbrev pub WaitsBehind : Reading → (more : ℕ) → Type 0
+WaitsBehind r more = (n : ℕ) → size_of (next_of r) ≡ Some n → (r.at + n ≤ r.limit) × (length (held_of r) + more < n)
 
 -- the error of a field at this offset that is not taken
 abbrev pub told_of : (at : ℕ) → StepError → HeaderError

@@ -14,8 +14,8 @@ use Rattle.ncc_header.specs.declared.standing.Standing.TheVariants as standings
 use Rattle.ncc_schema.specs.Header.{IsHeader}
 use Rattle.ncc_schema.specs.Schema.{Place}
 use Rattle.ncc_header.specs.Answers.{Stops}
-use Rattle.ncc_header.specs.States.{left_of, size_of}
-use Rattle.ncc_header.specs.Reading.{from_start, held_of, onward}
+use Rattle.ncc_header.specs.Steps.{size_of}
+use Rattle.ncc_header.specs.Reading.{from_start, next_of, held_of, onward}
 
 -- ---- what was taken
 
@@ -24,7 +24,7 @@ pub record HasTaken (r : Reading) (taken : List ℕ) : Type 0 where
   pub bytes : IsBytes taken
   pub goes_on : (more : List ℕ) → from_start r.limit (taken ++ more) ≡ onward r more
   pub long : r.at + length (held_of r) ≡ length taken
-  pub partial : (n : ℕ) → size_of (left_of r.state) ≡ Some n → length (held_of r) < n
+  pub partial : (n : ℕ) → size_of (next_of r) ≡ Some n → length (held_of r) < n
 
 -- a fault that stays, whatever follows
 abbrev pub StopsForGood : (input : List ℕ) (limit : ℕ) → Fault → Type 0

@@ -1,57 +1,38 @@
 //! A decoder that takes a header in pieces.
 
-ghost use Rattle.std.specs.Prelude.{◌≡◌, ◌≤◌, ◌+◌, ◌++◌, ℕ, List, [], length, take, is_none, Ok, Err, IfOk, IfErr};
+ghost use Rattle.std.specs.Prelude.{◌≡◌, ◌≤◌, ◌<◌, ◌+◌, ◌++◌, ℕ, List, [], length, take, is_none, Ok, Err, IfOk, IfErr};
 ghost use Rattle.ncc_header.specs.declared.fault.Fault.{Fault as TheFault};
 ghost use Rattle.ncc_header.specs.declared.fault.HeaderError.{HeaderError as TheError};
 ghost use Rattle.ncc_header.specs.declared.standing.Fed.TheVariants as TheFed;
 ghost use Rattle.ncc_header.specs.Answers.{Answers};
 ghost use Rattle.ncc_header.specs.Fields.{header};
 ghost use Rattle.ncc_header.specs.Grammar.{lacking};
-ghost use Rattle.ncc_header.specs.States.{left_of, size_of};
+ghost use Rattle.ncc_header.specs.Reading.{next_of};
+ghost use Rattle.ncc_header.specs.Steps.{size_of};
 ghost use Rattle.ncc_header.specs.Standing.{IsSettled, IsWhole, StopsForGood, limit_at, TookAt, HasFailedAt, front_taken, fed_of, Feeds, FedOrMemory};
 
-use crate::discarding::discard_standing;
 use crate::fault::HeaderError;
-use crate::finishing::{finished, lacks};
 use crate::reading::Reading;
 use crate::standing::{Fed, Standing};
-use crate::state::State;
-use crate::step::size;
-use crate::turning::take;
-use arrayvec::ArrayVec;
+use crate::taking::take;
 use ncc_schema::Header;
 use std::alloc::Global;
-use std::mem;
 
 /// Takes a header in pieces of any size.
-#[derive(Debug)]
+#[derive(Debug, Drop)]
 pub struct Decoder {
     alloc: Global,
     standing: Standing,
 }
 
-impl Drop for Decoder {
-    fn drop(self) {
-        let Decoder { alloc: _, standing } = self;
-        discard_standing(standing);
-    }
-}
-
 /// What a reading says, once it has taken so many bytes of a piece.
 fn fed(reading: &Reading, used: usize) -> Fed
-    ensures { result ≡ fed_of (size_of (left_of reading.now.state)) used }
+    ensures { result ≡ fed_of (size_of (next_of reading.now)) used }
 {
-    match size(&reading.state) {
+    match reading.size() {
         Some(_) => Fed::More,
         None => Fed::Done(used),
     }
-}
-
-/// Is no field left?
-fn is_whole(reading: &Reading) -> bool
-    ensures { result ≡ is_none (size_of (left_of reading.now.state)) }
-{
-    size(&reading.state).is_none()
 }
 
 /// Takes a piece.
@@ -73,7 +54,7 @@ fn advance(alloc: Global, standing: &mut Standing, piece: &[u8]) -> Result<Fed, 
     let (limit, error) = match standing {
         Standing::Failed(_, error) => return Err(*error),
         Standing::Reading(reading) => {
-            if is_whole(reading) {
+            if reading.size().is_none() {
                 return Ok(Fed::Done(0));
             }
             let limit = reading.limit;
@@ -83,7 +64,8 @@ fn advance(alloc: Global, standing: &mut Standing, piece: &[u8]) -> Result<Fed, 
             }
         }
     };
-    discard_standing(mem::replace(standing, Standing::Failed(limit, error)));
+    // What was built is dropped here.
+    *standing = Standing::Failed(limit, error);
     Err(error)
 }
 
@@ -98,13 +80,7 @@ impl Decoder {
     {
         Decoder {
             alloc,
-            standing: Standing::Reading(Reading {
-                limit,
-                at: 0,
-                state: State::Magic,
-                held: ArrayVec::new(),
-                marks: Vec::new(alloc),
-            }),
+            standing: Standing::Reading(Reading::new(alloc, limit)),
         }
     }
 
@@ -145,7 +121,26 @@ impl Decoder {
         ensures failed { (e : TheError) → HasFailed self.now e → result ≡ 0 }
     {
         match &self.standing {
-            Standing::Reading(reading) => lacks(reading),
+            Standing::Reading(reading) => reading.lacks(),
+            Standing::Failed(_, _) => 0,
+        }
+    }
+
+    /// How many bytes are surely still to come: no header has fewer of them behind the pieces, none lies
+    /// past the limit, and the next field lacks no more. It is 0 where the header is whole or has a fault
+    /// that stays, and after want of memory.
+    pub(crate) fn expects(&self) -> u64
+        ensures fewest { (taken more : List ℕ) → Took self.now taken → IsWhole (taken ++ more) (limit_of self.now)
+            → result ≤ length more }
+        ensures within { (taken : List ℕ) → Took self.now taken → 0 < result
+            → length taken + result ≤ limit_of self.now }
+        ensures more { (taken : List ℕ) → Took self.now taken → ¬ HasFailed self.now HeaderError.Memory
+            → lacking header (limit_of self.now) 0 taken ≤ result }
+        ensures settled { (taken : List ℕ) → Took self.now taken → ¬ HasFailed self.now HeaderError.Memory
+            → result ≡ 0 → IsSettled taken (limit_of self.now) }
+    {
+        match &self.standing {
+            Standing::Reading(reading) => reading.expects(),
             Standing::Failed(_, _) => 0,
         }
     }
@@ -157,9 +152,8 @@ impl Decoder {
         ensures failed { (e : TheError) → HasFailed self e → result ≡ Err e }
         ensures memory { result ≡ Err HeaderError.Memory → HasFailed self HeaderError.Memory }
     {
-        let Decoder { alloc: _, standing } = self;
-        match standing {
-            Standing::Reading(reading) => finished(reading),
+        match self.standing {
+            Standing::Reading(reading) => reading.finish(),
             Standing::Failed(_, error) => Err(error),
         }
     }

@@ -2,6 +2,7 @@
 
 ghost use Rattle.std.specs.Prelude.{◌≡◌};
 ghost use Rattle.ncc_header.specs.declared.fault.HeaderError.TheVariants.{Device, Memory};
+ghost use Rattle.ncc_header.specs.declared.fault.StepError.TheVariants as steps;
 
 use ncc_schema::Failed;
 use std::alloc::{AllocError, AllocFailed};
@@ -64,6 +65,20 @@ pub enum HeaderError {
     Memory,
 }
 
+/// What is wrong with a field's value: the fault is told so many bytes before the field.
+#[derive(Clone, Copy, Debug, PartialEq, Eq)]
+pub struct Wrong {
+    pub back: u64,
+    pub kind: FaultKind,
+}
+
+/// Why the next field is not taken.
+#[derive(Clone, Copy, Debug, PartialEq, Eq)]
+pub enum StepError {
+    Memory,
+    Wrong(Wrong),
+}
+
 impl From<AllocError> for HeaderError {
     ghost from_gives = { λ _ e. e ≡ Memory };
 
@@ -85,5 +100,29 @@ impl From<Failed> for HeaderError {
 
     fn from(_e: Failed) -> HeaderError {
         HeaderError::Device
+    }
+}
+
+impl<T: Drop> From<AllocFailed<T>> for StepError {
+    ghost from_gives = { λ _ e. e ≡ steps.Memory };
+
+    fn from(_e: AllocFailed<T>) -> StepError {
+        StepError::Memory
+    }
+}
+
+impl From<AllocError> for StepError {
+    ghost from_gives = { λ _ e. e ≡ steps.Memory };
+
+    fn from(_e: AllocError) -> StepError {
+        StepError::Memory
+    }
+}
+
+impl From<Wrong> for StepError {
+    ghost from_gives = { λ w e. e ≡ steps.Wrong w };
+
+    fn from(wrong: Wrong) -> StepError {
+        StepError::Wrong(wrong)
     }
 }

@@ -35,7 +35,7 @@ fn read_piece<R: Source>(
     }
 }
 
-/// Reads until the decoder wants no byte more, or the source is at its end.
+/// Reads until the decoder expects no byte more, or the source is at its end.
 fn read_wanted<R: Source>(
     source: &mut R,
     decoder: &mut Decoder,
@@ -55,19 +55,19 @@ fn read_wanted<R: Source>(
 {
     let mut piece = [0; PIECE as usize];
     let mut taken = 0;
-    let mut wanted = decoder.wants();
+    let mut wanted = decoder.expects();
     while wanted > 0 {
         let room = &mut piece[..wanted.min(PIECE) as usize];
         let n = read_piece(source, decoder, room)?;
         taken += n as u64;
-        wanted = if n > 0 { decoder.wants() } else { 0 };
+        wanted = if n > 0 { decoder.expects() } else { 0 };
     }
     Ok(())
 }
 
 /// Reads the header at the front of a source, of at most `limit` bytes. Where there is one, exactly
-/// its bytes are read: a source is asked for no byte more than the next field lacks. Of a source that
-/// tells its bytes no byte past the limit is read, whatever the answer.
+/// its bytes are read: a source is asked for as many bytes as are surely still to come, 4,096 at most. Of a
+/// source that tells its bytes no byte past the limit is read, whatever the answer.
 pub fn read_header<R: Source>(
     alloc: Global,
     source: &mut R,

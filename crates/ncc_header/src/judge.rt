@@ -1,17 +1,23 @@
-//! What the value of each field is judged for.
+//! What the value of each field is judged for, and the marks that fields show.
 
-ghost use Rattle.std.specs.Prelude.{◌≡◌, nat_lt, Some, unwrap_or, IfOk};
+ghost use Rattle.std.specs.Prelude.{◌≡◌, ◌≤◌, ◌++◌, nat_lt, Some, unwrap_or, IfOk, IfErr, OnOk};
 ghost use Rattle.ncc_values.specs.Version.{version_of};
 ghost use Rattle.ncc_values.specs.XType.{type_of_code};
 ghost use Rattle.ncc_values.specs.declared.version.Version.TheVariants.{V1};
 ghost use Rattle.ncc_schema.specs.Schema.{record_dims};
 ghost use Rattle.ncc_header.specs.Fields.{magic_wrong, version_wrong, nelems_wrong, tag_wrong, list_nelems_wrong, length_wrong, type_wrong, dimid_wrong, begin_wrong, numrecs_of};
-ghost use Rattle.ncc_header.specs.States.{Judges};
+ghost use Rattle.ncc_header.specs.declared.built.Built.{Built as TheBuilt};
+ghost use Rattle.ncc_header.specs.Left.{left_of, come_of, first_at};
+ghost use Rattle.ncc_header.specs.Marks.{all_zero, mark_of};
+ghost use Rattle.ncc_header.specs.Steps.{Judges, label_of};
 
-use crate::fault::FaultKind;
-use crate::wrong::Wrong;
-use ncc_schema::{Count, Dim, limit_of_counts, limit_of_lengths, limit_of_offsets, streaming_mark};
+use crate::built::Next;
+use crate::fault::{FaultKind, Wrong};
+use ncc_schema::{
+    Count, Dim, Mark, limit_of_counts, limit_of_lengths, limit_of_offsets, streaming_mark,
+};
 use ncc_values::{Version, XType};
+use std::alloc::AllocError;
 
 /// The letters C, D and F.
 const MAGIC: u64 = 0x434446;
@@ -158,6 +164,40 @@ pub fn begin(version: Version, n: u64) -> Result<(), Wrong>
 {
     if n >= limit_of_offsets(version) {
         return refused(FaultKind::NegativeOffset);
+    }
+    Ok(())
+}
+
+/// Is each byte zero?
+fn are_zero(bytes: &[u8]) -> bool
+    ensures { result ≡ all_zero bytes.now }
+{
+    for byte in bytes {
+        if *byte != 0 {
+            return false;
+        }
+    }
+    true
+}
+
+/// Adds the mark of the next field, at the offset `at`, if these bytes of it show one.
+pub fn push_mark(marks: &mut Vec<Mark>, next: Next, at: u64, bytes: &[u8]) -> Result<(), AllocError>
+    ensures ok { OnOk result ((b : TheBuilt) → marks.new.items
+        ≡ marks.old.items ++ mark_of (label_of (left_of next b)) at (come_of next b ++ bytes.now)) }
+    ensures memory { IfErr result (λ _. 12 ≤ first_at next) }
+{
+    match next {
+        Next::NamePadding(_) | Next::AttrPadding(_, _) => {
+            if !are_zero(bytes) {
+                marks.push(Mark::Padding(at))?;
+            }
+        }
+        Next::DimsCount(tag) | Next::AttrsCount(_, tag) | Next::VarsCount(tag) => {
+            if tag != 0 && are_zero(bytes) {
+                marks.push(Mark::TaggedEmpty(at.saturating_sub(4)))?;
+            }
+        }
+        _ => {}
     }
     Ok(())
 }

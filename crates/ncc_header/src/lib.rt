@@ -1,32 +1,26 @@
 //! The header of a netCDF classic file: its grammar, its faults and a decoder that takes it in pieces.
 #![tactic(auto)]
 
+mod attrs;
+mod built;
 mod decoder;
 mod decoding;
-mod discarding;
+mod dims;
 mod fault;
-mod finishing;
 mod from_source;
 mod gathering;
 mod judge;
 pub mod laws;
-mod marking;
+mod least;
+mod names;
 mod reading;
 mod standing;
-mod state;
+mod start;
 mod step;
-mod step_attrs;
-mod step_dims;
-mod step_error;
-mod step_name;
-mod step_start;
-mod step_vars;
 mod taking;
 #[cfg(test)]
 mod tests;
-mod turn;
-mod turning;
-mod wrong;
+mod vars;
 
 pub use decoder::Decoder;
 pub use decoding::decode;

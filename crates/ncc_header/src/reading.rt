@@ -1,25 +1,146 @@
 //! Reading a header from pieces.
 
-ghost use Rattle.std.specs.Prelude.{◌≤◌, ◌<◌, max, length};
-ghost use Rattle.ncc_header.specs.States.{first_at, part_of};
-ghost use Rattle.ncc_header.specs.Held.{next_size, held_length};
+ghost use Rattle.std.specs.Prelude.{◌≤◌, ◌<◌, length};
+ghost use Rattle.ncc_header.specs.Left.{first_at, part_of};
+ghost use Rattle.ncc_header.specs.Steps.{next_size, held_length};
 
-use crate::state::State;
+use crate::built::{Built, Next};
+use crate::fault::{Fault, FaultKind, HeaderError};
+use crate::least::rest;
+use crate::step::size;
 use arrayvec::ArrayVec;
-use ncc_schema::Mark;
+use ncc_schema::{Header, Mark, Schema};
+use ncc_values::Seq;
+use std::alloc::Global;
 
 /// How far a header was read: `at` is the offset of the next field in bytes.
 #[derive(Debug, Drop)]
 pub struct Reading {
     pub limit: u64,
     pub at: u64,
-    pub state: State,
-    /// The bytes of the next field that have come, behind those that stand in the state.
+    pub next: Next,
+    pub built: Built,
+    /// The bytes of the next field that have come, behind those that stand where they stay.
     pub held: ArrayVec<u8, 8>,
     /// The marks of the fields so far.
     pub marks: Vec<Mark>,
     ghost within: { at ≤ limit },
-    ghost after: { first_at state ≤ at },
-    ghost partial: { held_length state held.items < max 1 (next_size state) },
-    ghost part: { length held.items < part_of state },
+    ghost after: { first_at next ≤ at },
+    ghost partial: { held_length next built held.items ≤ next_size next built },
+    ghost part: { length held.items < part_of next built },
+}
+
+impl Reading {
+    ghost use Rattle.std.specs.Prelude.{◌≡◌, ◌≢◌, ℕ, List, [], IfOk, IfErr};
+    ghost use Rattle.ncc_header.specs.Answers.{Answers};
+    ghost use Rattle.ncc_header.specs.Least.{rest_of, expects_of};
+    ghost use Rattle.ncc_header.specs.Steps.{size_of};
+    ghost use Rattle.ncc_header.specs.Reading.{next_of, held_of};
+    ghost use Rattle.ncc_header.specs.Standing.{HasTaken, cut_at, lacks_of};
+
+    /// A reading of a header of at most `limit` bytes, of which none has come.
+    pub fn new(alloc: Global, limit: u64) -> Reading
+        ensures took { HasTaken result [] }
+        ensures limit { result.limit ≡ limit }
+    {
+        Reading {
+            limit,
+            at: 0,
+            next: Next::Magic,
+            built: Built::new(alloc),
+            held: ArrayVec::new(),
+            marks: Vec::new(alloc),
+        }
+    }
+
+    /// The size of the next field in bytes; none where no field is left.
+    pub fn size(&self) -> Option<u128>
+        ensures { result ≡ size_of (next_of self.now) }
+    {
+        size(self.next, &self.built)
+    }
+
+    /// How many bytes of the next field have come.
+    pub fn held_len(&self) -> u128
+        ensures { result ≡ length (held_of self.now) }
+    {
+        let held = self.held.len() as u128;
+        match self.next {
+            Next::NameText(_, _) => self.built.name.len() as u128 + held,
+            Next::AttrValues(_, _) => {
+                let values = &self.built.body.values;
+                values.len() as u128 * values.xtype().size() as u128 + held
+            }
+            _ => held,
+        }
+    }
+
+    /// How many bytes the next field lacks, where it ends within the limit.
+    pub fn lacks(&self) -> u64
+        ensures { result
+            ≡ lacks_of (size_of (next_of self.now)) self.now.limit self.now.at (length (held_of self.now)) }
+    {
+        let room = (self.limit - self.at) as u128;
+        match self.size() {
+            Some(size) if size <= room => (size - self.held_len()) as u64,
+            _ => 0,
+        }
+    }
+
+    /// How many bytes are surely still to come, where the next field ends within the limit.
+    pub fn expects(&self) -> u64
+        ensures { result ≡ expects_of (size_of (next_of self.now)) (rest_of self.now.next self.now.built.lists)
+            self.now.limit self.now.at (length (held_of self.now)) }
+    {
+        let room = (self.limit - self.at) as u128;
+        match self.size() {
+            Some(size) if size <= room => {
+                let least = size + rest(self.next, &self.built.lists);
+                (least.min(room) - self.held_len()) as u64
+            }
+            _ => 0,
+        }
+    }
+
+    /// Why an input is refused that ends at the next field, of this size in bytes.
+    fn cut_short(&self, size: u128) -> Fault
+        ensures { result ≡ cut_at self.now.limit self.now.at size }
+    {
+        let kind = if size > (self.limit - self.at) as u128 {
+            FaultKind::HeaderTooLong
+        } else {
+            FaultKind::EndsEarly
+        };
+        Fault {
+            kind,
+            offset: self.at,
+        }
+    }
+
+    /// The header, where nothing comes behind what was read.
+    pub fn finish(self) -> Result<Header, HeaderError>
+        ensures answers { (taken : List ℕ) → HasTaken self taken → Answers taken self.limit result }
+        ensures whole { (taken : List ℕ) → HasTaken self taken → IfOk result (λ h. h.length ≡ length taken) }
+        ensures memory { IfErr result (λ e. e ≢ HeaderError.Memory) }
+    {
+        if let Some(size) = self.size() {
+            return Err(HeaderError::Fault(self.cut_short(size)));
+        }
+        let built = self.built;
+        let lists = built.lists;
+        let (parts, vars) = (lists.parts, lists.vars);
+        let schema = Schema {
+            version: parts.version,
+            count: parts.count,
+            dims: Seq::from_vec(parts.dims),
+            gatts: Seq::from_vec(parts.gatts),
+            vars: Seq::from_vec(vars.vars),
+        };
+        Ok(Header {
+            schema,
+            places: Seq::from_vec(vars.places),
+            length: self.at,
+            marks: Seq::from_vec(self.marks),
+        })
+    }
 }

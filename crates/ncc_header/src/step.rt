@@ -1,95 +1,90 @@
-//! One field more: the step that each state takes.
+//! One field more: the step that each field takes, and its size.
 
-ghost use Rattle.std.specs.Prelude.{◌≡◌, ◌<◌, ◌^◌, length, Some, IfOk};
+ghost use Rattle.std.specs.Prelude.{◌≡◌, ◌<◌, ◌^◌, ◌++◌, length, Some, IfOk};
 ghost use Rattle.ncc_values.specs.Version.{count_width_of};
-ghost use Rattle.ncc_header.specs.States.{left_of, size_of, front_of, part_of, idle_of, Steps};
+ghost use Rattle.ncc_header.specs.Left.{left_of, come_of, idle_of};
+ghost use Rattle.ncc_header.specs.Steps.{size_of, Steps};
 
-use crate::state::{State, StepError};
-use crate::step_attrs::{
+use crate::attrs::{
     after_attr_count, after_attr_padding, after_attr_type, after_attr_values, after_attrs_count,
     after_attrs_tag,
 };
-use crate::step_dims::{after_dim_length, after_dims_count, after_dims_tag};
-use crate::step_name::{after_name_length, after_name_padding, named_version, owner_version};
-use crate::step_start::{after_magic, after_record_count, after_version};
-use crate::step_vars::{
+use crate::built::{Built, Next};
+use crate::dims::{after_dim_length, after_dims_count, after_dims_tag};
+use crate::fault::StepError;
+use crate::names::{after_name_length, after_name_padding, after_name_text};
+use crate::start::{after_magic, after_record_count, after_version};
+use crate::vars::{
     after_begin, after_dimid, after_rank, after_var_type, after_vars_count, after_vars_tag,
     after_vsize,
 };
-use ncc_values::{Seq, Version, pad};
+use ncc_values::{Version, pad};
 use std::alloc::Global;
 
-/// Takes the next field: its bytes are `held`, behind those in the state. It stands at the offset
-/// `at`, which only the step over a begin field keeps; of the others only the contracts speak of it.
-pub fn step(alloc: Global, state: State, at: u64, held: &[u8]) -> Result<State, StepError>
-    requires whole { size_of (left_of state) ≡ Some (length (front_of state held.now)) }
-    requires part { length held.now < part_of state }
-    requires small { length (front_of state held.now) < 2 ^ 64 }
-    ensures steps { Steps state at (front_of state held.now) result }
+/// Takes the next field, and tells which one comes then. Its last bytes are `front`, behind those that
+/// stand where they stay. It begins at the offset `at`, which only the step over a begin field keeps; of
+/// the others only the contracts speak of it.
+pub fn step(
+    alloc: Global,
+    next: Next,
+    built: &mut Built,
+    at: u64,
+    front: &[u8],
+) -> Result<Next, StepError>
+    requires whole { size_of (left_of next built.old) ≡ Some (length (come_of next built.old ++ front.now)) }
+    requires small { length (come_of next built.old ++ front.now) < 2 ^ 64 }
+    ensures steps { Steps next built.old at (come_of next built.old ++ front.now) result built.new }
     // Fields without bytes come to an end.
-    ensures idle { size_of (left_of state) ≡ Some 0 → IfOk result (λ new. idle_of new < idle_of state) }
+    ensures idle { length (come_of next built.old ++ front.now) ≡ 0
+        → IfOk result (λ after. idle_of after < idle_of next) }
 {
-    match state {
-        State::Magic => after_magic(at, held),
-        State::VersionByte => after_version(at, held),
-        State::RecordCount(version) => after_record_count(version, at, held),
-        State::DimsTag(version, count) => after_dims_tag(version, count, at, held),
-        State::DimsCount(version, count, tag) => {
-            after_dims_count(alloc, version, count, tag, at, held)
-        }
-        State::NameLength(named) => after_name_length(alloc, named, at, held),
-        State::NameText(named, _, name) => { Ok(State::NamePadding(named, Seq::from_vec(name))) }
-        State::NamePadding(named, name) => after_name_padding(named, name, at, held),
-        State::DimLength(dims, name) => after_dim_length(dims, name, at, held),
-        State::AttrsTag(owner) => after_attrs_tag(owner, at, held),
-        State::AttrsCount(owner, tag) => after_attrs_count(alloc, owner, tag, at, held),
-        State::AttrType(attrs, name) => after_attr_type(attrs, name, at, held),
-        State::AttrCount(attrs, name, xtype) => {
-            after_attr_count(alloc, attrs, name, xtype, at, held)
-        }
-        State::AttrValues(body) => after_attr_values(body, at, held),
-        State::AttrPadding(attrs, name, n, values) => {
-            after_attr_padding(attrs, name, n, values, at, held)
-        }
-        State::VarsTag(head, gatts) => after_vars_tag(head, gatts, at, held),
-        State::VarsCount(head, gatts, tag) => {
-            after_vars_count(alloc, head, gatts, tag, at, held)
-        }
-        State::DimIdsCount(vars, name) => after_rank(alloc, vars, name, at, held),
-        State::DimId(vars, name, dims, left) => after_dimid(vars, name, dims, left, at, held),
-        State::VarType(vars, name, dims, attrs) => {
-            after_var_type(vars, name, dims, attrs, at, held)
-        }
-        State::VarSize(vars, var) => after_vsize(vars, var, at, held),
-        State::VarBegin(vars, var, vsize) => after_begin(vars, var, vsize, at, held),
-        State::Whole(_, _) => unreachable!(),
+    match next {
+        Next::Magic => after_magic(built, at, front),
+        Next::VersionByte => after_version(built, at, front),
+        Next::RecordCount => after_record_count(built, at, front),
+        Next::DimsTag => after_dims_tag(built, at, front),
+        Next::DimsCount(tag) => after_dims_count(alloc, built, tag, at, front),
+        Next::NameLength(named) => after_name_length(built, named, at, front),
+        Next::NameText(named, n) => after_name_text(built, named, n, at, front),
+        Next::NamePadding(named) => after_name_padding(alloc, built, named, at, front),
+        Next::DimLength => after_dim_length(alloc, built, at, front),
+        Next::AttrsTag(owner) => after_attrs_tag(built, owner, at, front),
+        Next::AttrsCount(owner, tag) => after_attrs_count(alloc, built, owner, tag, at, front),
+        Next::AttrType(owner) => after_attr_type(built, owner, at, front),
+        Next::AttrCount(owner, xtype) => after_attr_count(alloc, built, owner, xtype, at, front),
+        Next::AttrValues(owner, n) => after_attr_values(built, owner, n, at, front),
+        Next::AttrPadding(owner, n) => after_attr_padding(alloc, built, owner, n, at, front),
+        Next::VarsTag => after_vars_tag(built, at, front),
+        Next::VarsCount(tag) => after_vars_count(alloc, built, tag, at, front),
+        Next::DimIdsCount => after_rank(alloc, built, at, front),
+        Next::DimId(left) => after_dimid(built, left, at, front),
+        Next::VarType => after_var_type(built, at, front),
+        Next::VarSize(xtype) => after_vsize(built, xtype, at, front),
+        Next::VarBegin(xtype, vsize) => after_begin(alloc, built, xtype, vsize, at, front),
+        Next::Whole => unreachable!(),
     }
 }
 
 /// The size of the next field in bytes; none where no field is left.
-pub fn size(state: &State) -> Option<u128>
-    ensures { result ≡ size_of (left_of state.now) }
+pub fn size(next: Next, built: &Built) -> Option<u128>
+    ensures { result ≡ size_of (left_of next built.now) }
 {
-    let size = match state {
-        State::Magic => 3,
-        State::VersionByte => 1,
-        State::RecordCount(version) | State::DimsCount(version, _, _) => width(*version),
-        State::DimsTag(_, _) | State::AttrsTag(_) | State::VarsTag(_, _) => 4,
-        State::NameLength(named) => width(named_version(named)),
-        State::NameText(_, n, _) => *n as u128,
-        State::NamePadding(_, name) => pad(name.len() as u64) as u128,
-        State::DimLength(dims, _) => width(dims.version),
-        State::AttrsCount(owner, _) => width(owner_version(owner)),
-        State::AttrType(_, _) | State::VarType(_, _, _, _) => 4,
-        State::AttrCount(attrs, _, _) => width(owner_version(&attrs.owner)),
-        State::AttrValues(body) => body.number as u128 * body.values.xtype().size() as u128,
-        State::AttrPadding(_, _, n, _) => pad(*n) as u128,
-        State::VarsCount(head, _, _) => width(head.version),
-        State::DimIdsCount(vars, _) | State::DimId(vars, _, _, _) | State::VarSize(vars, _) => {
-            width(vars.head.version)
-        }
-        State::VarBegin(vars, _, _) => vars.head.version.offset_width() as u128,
-        State::Whole(_, _) => return None,
+    let version = built.lists.parts.version;
+    let size = match next {
+        Next::Magic => 3,
+        Next::VersionByte => 1,
+        Next::DimsTag | Next::AttrsTag(_) | Next::VarsTag => 4,
+        Next::AttrType(_) | Next::VarType => 4,
+        Next::NameText(_, n) => n as u128,
+        Next::NamePadding(_) => pad(built.name.len() as u64) as u128,
+        Next::AttrValues(_, n) => n as u128 * built.body.values.xtype().size() as u128,
+        Next::AttrPadding(_, n) => pad(n) as u128,
+        Next::RecordCount | Next::DimsCount(_) | Next::AttrsCount(_, _) => width(version),
+        Next::VarsCount(_) | Next::NameLength(_) | Next::DimLength => width(version),
+        Next::AttrCount(_, _) | Next::DimIdsCount | Next::DimId(_) => width(version),
+        Next::VarSize(_) => width(version),
+        Next::VarBegin(_, _) => version.offset_width() as u128,
+        Next::Whole => return None,
     };
     Some(size)
 }

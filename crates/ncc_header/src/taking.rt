@@ -1,37 +1,21 @@
-//! Taking the bytes of one field.
+//! Taking the bytes of a piece, field by field.
 
-ghost use Rattle.std.specs.Prelude.{◌≡◌, ◌+◌, ◌≤◌, ◌<◌, ◌^◌, ◌++◌, ℕ, [], length, take, Some, Err, OnOk, OnErr, IfErr};
+ghost use Rattle.std.specs.Prelude.{◌≡◌, ◌≢◌, ◌+◌, ◌-◌, ◌≤◌, ◌<◌, ◌^◌, ℕ, List, [], ◌++◌, length, take, Some, None, Err, OnOk, IfOk, IfErr, IfSome, IfNone};
+ghost use Rattle.ncc_header.specs.Left.{left_of, come_of, idle_of};
 ghost use Rattle.ncc_header.specs.Marks.{mark_of};
-ghost use Rattle.ncc_header.specs.declared.state.State.TheVariants as states;
-ghost use Rattle.ncc_header.specs.States.{left_of, label_of, size_of, front_of, part_of, idle_of, first_at, StepsTo, Steps};
-ghost use Rattle.ncc_header.specs.Held.{next_size, held_length};
-ghost use Rattle.ncc_header.specs.Reading.{held_of, told_of, Takes, FailsBehind, Waits};
+ghost use Rattle.ncc_header.specs.Steps.{size_of, label_of, StepsTo, Steps};
+ghost use Rattle.ncc_header.specs.Reading.{next_of, held_of, told_of, Takes, Went, FailsBehind, Waits, WaitsBehind, effort_of};
 
-use crate::discarding::discard;
-use crate::fault::{Fault, HeaderError};
+use crate::built::{Built, Next};
+use crate::fault::{Fault, FaultKind, HeaderError, StepError};
 use crate::gathering::gather;
-use crate::marking::push_mark;
+use crate::judge::push_mark;
 use crate::reading::Reading;
-use crate::state::{State, StepError};
 use crate::step::step;
 use arrayvec::ArrayVec;
 use ncc_schema::Mark;
 use std::alloc::Global;
 use std::mem;
-
-/// How many bytes of the next field have come.
-pub fn held_len(reading: &Reading) -> u128
-    ensures { result ≡ length (held_of reading.now) }
-{
-    let held = reading.held.len() as u128;
-    match &reading.state {
-        State::NameText(_, _, name) => name.len() as u128,
-        State::AttrValues(body) => {
-            body.values.len() as u128 * body.values.xtype().size() as u128 + held
-        }
-        _ => held,
-    }
-}
 
 /// The error of a field at this offset that is not taken.
 fn told(at: u64, error: StepError) -> HeaderError
@@ -46,97 +30,214 @@ fn told(at: u64, error: StepError) -> HeaderError
     }
 }
 
-/// Leaves nothing behind an error.
-fn fail(state: &mut State, held: &mut ArrayVec<u8, 8>)
-    ensures state { state.new ≡ states.Magic }
-    ensures held { held.new.items ≡ [] }
-{
-    discard(mem::replace(state, State::Magic));
-    held.clear();
-}
-
-/// Takes the last bytes of the next field, its mark, and the step over it.
-fn stepped(
+/// Adds the next field's mark, and takes the step over it.
+fn marked_step(
     alloc: Global,
-    state: &mut State,
-    held: &mut ArrayVec<u8, 8>,
+    next: Next,
+    built: &mut Built,
     marks: &mut Vec<Mark>,
     at: u64,
-    front: &[u8],
-) -> Result<(), StepError>
-    requires whole { size_of (left_of state.old) ≡ Some (length (front_of state.old held.old.items ++ front.now)) }
-    requires part { length held.old.items < part_of state.old }
-    requires small { length (front_of state.old held.old.items ++ front.now) < 2 ^ 64 }
-    ensures held { held.new.items ≡ [] }
-    ensures ok { OnOk result (StepsTo state.old at (front_of state.old held.old.items ++ front.now) state.new) }
+    bytes: &[u8],
+) -> Result<Next, StepError>
+    requires whole { size_of (left_of next built.old) ≡ Some (length (come_of next built.old ++ bytes.now)) }
+    requires small { length (come_of next built.old ++ bytes.now) < 2 ^ 64 }
+    ensures steps { Steps next built.old at (come_of next built.old ++ bytes.now) result built.new }
     ensures marks { OnOk result (marks.new.items
-        ≡ marks.old.items ++ mark_of (label_of (left_of state.old)) at (front_of state.old held.old.items ++ front.now)) }
-    ensures idle { size_of (left_of state.old) ≡ Some 0 → OnOk result (idle_of state.new < idle_of state.old) }
-    ensures none { OnErr result (state.new ≡ states.Magic) }
-    ensures err { IfErr result (λ e. Steps state.old at (front_of state.old held.old.items ++ front.now) (Err e)) }
+        ≡ marks.old.items ++ mark_of (label_of (left_of next built.old)) at (come_of next built.old ++ bytes.now)) }
+    ensures idle { length (come_of next built.old ++ bytes.now) ≡ 0
+        → IfOk result (λ after. idle_of after < idle_of next) }
 {
-    if let Err(error) = gather(state, held, front) {
-        fail(state, held);
-        return Err(error.into());
-    }
-    if let Err(error) = push_mark(marks, state, at, held.as_slice()) {
-        fail(state, held);
-        return Err(error.into());
-    }
-    let answer = step(
-        alloc,
-        mem::replace(state, State::Magic),
-        at,
-        held.as_slice(),
-    );
-    held.clear();
-    // What stands there owns nothing.
-    mem::forget(mem::replace(state, answer?));
-    Ok(())
+    push_mark(marks, next, at, bytes)?;
+    step(alloc, next, built, at, bytes)
 }
 
-/// Takes the last bytes of the next field, and so the field. After an error nothing is left of what
-/// was taken.
-pub fn take_field(
+/// Takes the next field, of this size in bytes: these are its bytes behind those that stand where they
+/// stay.
+fn take_bytes(
+    alloc: Global,
+    reading: &mut Reading,
+    size: u64,
+    bytes: &[u8],
+) -> Result<(), HeaderError>
+    requires none { reading.old.held.items ≡ [] }
+    requires size { size_of (next_of reading.old) ≡ Some size }
+    requires last { length (come_of reading.old.next reading.old.built ++ bytes.now) ≡ size }
+    requires within { reading.old.at + size ≤ reading.old.limit }
+    ensures takes { OnOk result (Takes reading.old reading.new bytes.now) }
+    ensures less { OnOk result (effort_of reading.new < effort_of reading.old) }
+    ensures fails { IfErr result (FailsBehind reading.old bytes.now) }
+    ensures memory { result ≡ Err HeaderError.Memory → 12 ≤ reading.old.at }
+{
+    let at = reading.at;
+    let (built, marks) = (&mut reading.built, &mut reading.marks);
+    match marked_step(alloc, reading.next, built, marks, at, bytes) {
+        Ok(next) => {
+            reading.next = next;
+            reading.at = at + size;
+            Ok(())
+        }
+        Err(error) => {
+            // What a reading promises holds of any that begins, whatever was built.
+            reading.next = Next::Magic;
+            Err(told(at, error))
+        }
+    }
+}
+
+/// Takes bytes of the next field, and holds those that have no place to stay yet.
+fn hold(reading: &mut Reading, front: &[u8]) -> Result<(), HeaderError>
+    requires { (n : ℕ) × (size_of (next_of reading.old) ≡ Some n)
+        × (length (held_of reading.old) + length front.now ≤ n) }
+    ensures takes { OnOk result (Takes reading.old reading.new front.now) }
+    ensures left { OnOk result (next_of reading.new ≡ next_of reading.old) }
+    ensures next { OnOk result (reading.new.next ≡ reading.old.next) }
+    ensures limit { OnOk result (reading.new.limit ≡ reading.old.limit) }
+    ensures at { OnOk result (reading.new.at ≡ reading.old.at) }
+    ensures held { OnOk result (held_of reading.new ≡ held_of reading.old ++ front.now) }
+    ensures memory { IfErr result (λ e. (e ≡ HeaderError.Memory) × (12 ≤ reading.old.at)) }
+{
+    match gather(reading.next, &mut reading.built, &mut reading.held, front) {
+        Ok(()) => Ok(()),
+        Err(_) => {
+            reading.next = Next::Magic;
+            reading.held.clear();
+            Err(HeaderError::Memory)
+        }
+    }
+}
+
+/// Takes the last bytes of the next field, and so the field.
+fn take_field(
     alloc: Global,
     reading: &mut Reading,
     size: u64,
     front: &[u8],
 ) -> Result<(), HeaderError>
-    requires size { size_of (left_of reading.old.state) ≡ Some size }
+    requires size { size_of (next_of reading.old) ≡ Some size }
     requires last { length (held_of reading.old) + length front.now ≡ size }
     requires within { reading.old.at + size ≤ reading.old.limit }
     ensures takes { OnOk result (Takes reading.old reading.new front.now) }
-    ensures idle { size ≡ 0 → OnOk result (idle_of reading.new.state < idle_of reading.old.state) }
+    ensures less { OnOk result (effort_of reading.new < effort_of reading.old) }
     ensures fails { IfErr result (FailsBehind reading.old front.now) }
     ensures memory { result ≡ Err HeaderError.Memory → 12 ≤ reading.old.at }
 {
-    let at = reading.at;
-    let (state, held, marks) = (&mut reading.state, &mut reading.held, &mut reading.marks);
-    match stepped(alloc, state, held, marks, at, front) {
-        Ok(()) => {
-            reading.at = at + size;
-            Ok(())
-        }
-        Err(error) => Err(told(at, error)),
+    if reading.held.is_empty() {
+        return take_bytes(alloc, reading, size, front);
+    }
+    if let Err(error) = hold(reading, front) {
+        return Err(error);
+    }
+    let held = mem::replace(&mut reading.held, ArrayVec::new());
+    take_bytes(alloc, reading, size, held.as_slice())
+}
+
+/// The size of the next field in bytes, which ends within the limit; none where no field is left.
+fn size_within(reading: &Reading) -> Result<Option<u64>, HeaderError>
+    ensures some { IfOk result (λ o. IfSome o (λ n. (size_of (next_of reading.now) ≡ Some n)
+        × (reading.now.at + n ≤ reading.now.limit))) }
+    ensures none { IfOk result (λ o. IfNone o (size_of (next_of reading.now) ≡ None)) }
+    ensures err { IfErr result (λ e. (e ≢ HeaderError.Memory) × ((rest : List ℕ) → FailsBehind reading.now rest e)) }
+{
+    let Some(size) = reading.size() else {
+        return Ok(None);
+    };
+    if size > (reading.limit - reading.at) as u128 {
+        return Err(HeaderError::Fault(Fault {
+            kind: FaultKind::HeaderTooLong,
+            offset: reading.at,
+        }));
+    }
+    Ok(Some(size as u64))
+}
+
+/// Takes the next field, of this size in bytes, where the rest of a piece makes it whole, and tells how
+/// many bytes of the rest are its.
+fn take_whole(
+    alloc: Global,
+    reading: &mut Reading,
+    size: u64,
+    rest: &[u8],
+) -> Result<Option<usize>, HeaderError>
+    requires size { size_of (next_of reading.old) ≡ Some size }
+    requires within { reading.old.at + size ≤ reading.old.limit }
+    ensures some { IfOk result (λ o. IfSome o (λ n. Went reading.old reading.new rest.now n)) }
+    ensures less { IfOk result (λ o. IfSome o (λ n. effort_of reading.new < effort_of reading.old)) }
+    ensures none { IfOk result (λ o. IfNone o (reading.new ≡ reading.old)) }
+    ensures waits { IfOk result (λ o. IfNone o (WaitsBehind reading.old (length rest.now))) }
+    ensures fails { IfErr result (FailsBehind reading.old rest.now) }
+    ensures memory { result ≡ Err HeaderError.Memory → 12 ≤ reading.old.at }
+{
+    let lacking = size - reading.held_len() as u64;
+    if (rest.len() as u64) < lacking {
+        return Ok(None);
+    }
+    let (front, _after) = rest.split_at(lacking as usize);
+    match take_field(alloc, reading, size, front) {
+        Ok(()) => Ok(Some(lacking as usize)),
+        Err(error) => Err(error),
     }
 }
 
-/// Takes bytes that don't make the next field whole. After an error nothing is left of what was
-/// taken.
-pub fn hold(reading: &mut Reading, front: &[u8]) -> Result<(), HeaderError>
-    requires { length (held_of reading.old) + length front.now < next_size reading.old.state }
-    ensures takes { OnOk result (Takes reading.old reading.new front.now) }
-    ensures left { OnOk result (left_of reading.new.state ≡ left_of reading.old.state) }
-    ensures at { OnOk result (reading.new.at ≡ reading.old.at) }
-    ensures held { OnOk result (held_of reading.new ≡ held_of reading.old ++ front.now) }
-    ensures memory { IfErr result (λ e. (e ≡ HeaderError.Memory) × (12 ≤ reading.old.at)) }
+/// Takes the next field, where there is one and the rest of a piece makes it whole, and tells how many
+/// bytes of the rest are its.
+fn take_next(
+    alloc: Global,
+    reading: &mut Reading,
+    rest: &[u8],
+) -> Result<Option<usize>, HeaderError>
+    ensures some { IfOk result (λ o. IfSome o (λ n. Went reading.old reading.new rest.now n)) }
+    ensures less { IfOk result (λ o. IfSome o (λ n. effort_of reading.new < effort_of reading.old)) }
+    ensures none { IfOk result (λ o. IfNone o (reading.new ≡ reading.old)) }
+    ensures waits { IfOk result (λ o. IfNone o (WaitsBehind reading.old (length rest.now))) }
+    ensures fails { IfErr result (FailsBehind reading.old rest.now) }
+    ensures memory { result ≡ Err HeaderError.Memory → 12 ≤ reading.old.at }
 {
-    match gather(&mut reading.state, &mut reading.held, front) {
-        Ok(()) => Ok(()),
-        Err(_) => {
-            fail(&mut reading.state, &mut reading.held);
-            Err(HeaderError::Memory)
+    match size_within(reading) {
+        Ok(Some(size)) => take_whole(alloc, reading, size, rest),
+        Ok(None) => Ok(None),
+        Err(error) => Err(error),
+    }
+}
+
+/// Takes the whole fields at the front of a piece, and tells how many bytes they are.
+fn take_fields(alloc: Global, reading: &mut Reading, piece: &[u8]) -> Result<usize, HeaderError>
+    ensures went { IfOk result (λ used. Went reading.old reading.new piece.now used) }
+    ensures waits { IfOk result (λ used. WaitsBehind reading.new (length piece.now - used)) }
+    ensures fails { IfErr result (FailsBehind reading.old piece.now) }
+    ensures memory { result ≡ Err HeaderError.Memory
+        → 12 ≤ reading.old.at + length (held_of reading.old) + length piece.now }
+{
+    let mut used = 0;
+    loop {
+        let (_taken, rest) = piece.split_at(used);
+        match take_next(alloc, reading, rest) {
+            Ok(Some(n)) => used += n,
+            Ok(None) => return Ok(used),
+            Err(error) => return Err(error),
         }
+    }
+}
+
+/// Takes the bytes of a piece as far as the header goes, and tells how many.
+pub fn take(alloc: Global, reading: &mut Reading, piece: &[u8]) -> Result<usize, HeaderError>
+    ensures within { IfOk result (λ used. used ≤ length piece.now) }
+    ensures takes { IfOk result (λ used. Takes reading.old reading.new (take used piece.now)) }
+    ensures waits { IfOk result (λ _. Waits reading.new) }
+    ensures all { IfOk result (λ used. (n : ℕ) → size_of (next_of reading.new) ≡ Some n → used ≡ length piece.now) }
+    ensures fails { IfErr result (FailsBehind reading.old piece.now) }
+    ensures memory { result ≡ Err HeaderError.Memory
+        → 12 ≤ reading.old.at + length (held_of reading.old) + length piece.now }
+{
+    let used = match take_fields(alloc, reading, piece) {
+        Ok(used) => used,
+        Err(error) => return Err(error),
+    };
+    if reading.size().is_none() {
+        return Ok(used);
+    }
+    let (_taken, rest) = piece.split_at(used);
+    match hold(reading, rest) {
+        Ok(()) => Ok(piece.len()),
+        Err(error) => Err(error),
     }
 }

@@ -1,11 +1,11 @@
 -- The rule of names, and its test.
-use Rattle.std.proofs.Common.{◌≡◌, ◌↔◌, ℕ, Bool, true, false, ◌&&◌, List, chars, refl, sym}
+use Rattle.std.proofs.Common.{◌≡◌, ◌↔◌, ℕ, true, ◌&&◌, List, chars}
 use Rattle.std.specs.Prelude.{IsTrue}
 use Rattle.std.specs.Str.{is_utf8}
 use Rattle.std.proofs.lemmas.Bool.{and_parts}
 use Rattle.std.proofs.lemmas.Slice.Eq.{bytes_eq-Decides}
 use Rattle.std.proofs.lemmas.Str.{IsUtf8-from_is_utf8, is_utf8-from_IsUtf8}
-use Rattle.unicode_normalization.specs.Forms.{Nfc, nfc, is_nfc}
+use Rattle.unicode_normalization.specs.Forms.{nfc, is_nfc}
 use Rattle.ncc_values.specs.Name.{are_name_characters, FitsAsName, is_name}
 
 told_name : (name : List ℕ) → is_name name ≡ true → FitsAsName name
@@ -26,13 +26,3 @@ name_is name fits =
 
 pub name_told : (name : List ℕ) → IsTrue (is_name name) ↔ FitsAsName name
 name_told name = (told_name name, name_is name)
-
-told_by : (tested told : Bool) (P : Type 0) → (IsTrue tested ↔ P) → (IsTrue told ↔ P) → told ≡ tested
-told_by true true P test is = refl
-told_by true false P test is = is.1 (test.0 refl)
-told_by false true P test is = sym (test.1 (is.0 refl))
-told_by false false P test is = refl
-
--- whatever tells which names fit says what the test says
-pub told_is : (name : List ℕ) (told : Bool) → (IsTrue told ↔ FitsAsName name) → told ≡ is_name name
-told_is name told is = told_by (is_name name) told (FitsAsName name) (name_told name) is

@@ -1,5 +1,5 @@
 -- Where the bytes of each element of a file are those of its value, those of a slab are the slab's values.
-use Rattle.std.proofs.Common.{◌≡◌, ◌⊎◌, inl, inr, ℕ, ◌+◌, ◌*◌, ◌<◌, ◌≤◌, Bool, true, false, List, [], ◌∷◌, ◌++◌, length, take, drop, refl, sym, ap, ap₂, subst, ◌∙◌, arith, length-append, length-drop}
+use Rattle.std.proofs.Common.{◌≡◌, ◌⊎◌, inl, inr, ℕ, ◌+◌, ◌*◌, ◌<◌, ◌≤◌, Bool, true, false, List, [], ◌∷◌, ◌++◌, length, take, drop, sym, ap, ap₂, subst, ◌∙◌, arith, length-append, length-drop}
 use Rattle.std.specs.Prelude.{if◌then◌else◌}
 use Rattle.std.proofs.lemmas.List.{length-take-le, take-append-drop}
 use Rattle.std.proofs.lemmas.Nat.{mul-le}
@@ -15,7 +15,7 @@ use Rattle.ncc_layout.specs.Elements.{Inside, placed_from, placed_var, placed_wi
 use Rattle.ncc_layout.specs.Plans.{known}
 use Rattle.ncc_layout.specs.Sizes.{inner, slab}
 use Rattle.ncc_slab.specs.SlabPlaces.{slab_begin}
-use Rattle.ncc_build.specs.Dataset.{Dataset, IsDataset, Slab, elements}
+use Rattle.ncc_build.specs.Dataset.{Dataset, Slab, elements}
 use Rattle.ncc_write.specs.Holds.{bytes_at, slab_with, stored_at, value_at, vars_of}
 use Rattle.ncc_write.proofs.Indices.{var_placed}
 use Rattle.ncc_write.proofs.Pieces.{Split, read_in, split_at}

@@ -14,7 +14,7 @@ use Rattle.ncc_layout.specs.Sizes.{record_vars}
 use Rattle.ncc_build.specs.Dataset.{AreSlabsOf, Dataset, IsDataset, IsSlabOf, Slab, fixed_slabs, fixed_vars, in_order, record_slabs, slabs_from, slabs_of}
 use Rattle.ncc_write.specs.Holds.{no_slab, slab_with}
 use Rattle.ncc_write.proofs.Parts.{as_many}
-use Rattle.ncc_write.proofs.SlabPlaces.{fixed_placed, record_at, record_placed}
+use Rattle.ncc_write.proofs.SlabPlaces.{fixed_placed, record_placed}
 
 -- ---- where a slab is
 

@@ -82,11 +82,54 @@ fn calls_needed<R: Abort + AllocGlobal>(rt: &R, input: &[u8], most: u64) -> Opti
     None
 }
 
+/// Three dimensions, three attributes and three variables, of which two have attributes and one has dimensions.
+const MANY: [u32; 87] = [
+    0x43444601, 0, 10, 3, 1, 0x78000000, 2, 1, 0x79000000, 3, 1, 0x7a000000, 4, 12, 3, 1,
+    0x61000000, 3, 1, 0x00010000, 1, 0x62000000, 3, 1, 0x00010000, 1, 0x63000000, 3, 1, 0x00010000,
+    11, 3, 1, 0x75000000, 0, 12, 2, 1, 0x64000000, 3, 1, 0x00010000, 1, 0x65000000, 3, 1,
+    0x00010000, 1, 4, 0, 1, 0x76000000, 0, 12, 3, 1, 0x66000000, 3, 1, 0x00010000, 1, 0x67000000,
+    3, 1, 0x00010000, 1, 0x68000000, 3, 1, 0x00010000, 1, 4, 0, 1, 0x77000000, 6, 0, 1, 2, 0, 1, 2,
+    0, 0, 1, 576, 0,
+];
+
+/// The same in CDF-5.
+const MANY_IN_CDF_5: [u32; 134] = [
+    0x43444605, 0, 0, 10, 0, 3, 0, 1, 0x78000000, 0, 2, 0, 1, 0x79000000, 0, 3, 0, 1, 0x7a000000,
+    0, 4, 12, 0, 3, 0, 1, 0x61000000, 3, 0, 1, 0x00010000, 0, 1, 0x62000000, 3, 0, 1, 0x00010000,
+    0, 1, 0x63000000, 3, 0, 1, 0x00010000, 11, 0, 3, 0, 1, 0x75000000, 0, 0, 12, 0, 2, 0, 1,
+    0x64000000, 3, 0, 1, 0x00010000, 0, 1, 0x65000000, 3, 0, 1, 0x00010000, 1, 0, 4, 0, 0, 0, 1,
+    0x76000000, 0, 0, 12, 0, 3, 0, 1, 0x66000000, 3, 0, 1, 0x00010000, 0, 1, 0x67000000, 3, 0, 1,
+    0x00010000, 0, 1, 0x68000000, 3, 0, 1, 0x00010000, 1, 0, 4, 0, 0, 0, 1, 0x77000000, 0, 6, 0, 0,
+    0, 1, 0, 2, 0, 0, 0, 1, 0, 2, 0, 0, 0, 1, 0, 576, 0, 0,
+];
+
+/// As many bytes are asked for as are surely still to come, by the numbers of items that are left: in CDF-1 32, 29,
+/// 43, 17, 7, 84, 48, 52 and 36.
+#[test]
+fn many_items(rt: HostRuntime) -> Result<(), Fail> {
+    let many = bytes_of(rt.alloc(), &MANY)?;
+    assert!(rt; calls_needed(&rt, &many, 1000) == Some((9, 348)));
+    let many = bytes_of(rt.alloc(), &MANY_IN_CDF_5)?;
+    assert!(rt; calls_needed(&rt, &many, 1000) == Some((16, 536)));
+    Ok(())
+}
+
+/// An attribute of 10,000 chars: at most 4,096 bytes are asked for at once, here 32, 16, 4,096, 4,096 and 1,808.
+#[test]
+fn long_values(rt: HostRuntime) -> Result<(), Fail> {
+    let words = [0x43444601, 0, 0, 0, 12, 1, 1, 0x6e000000, 2, 10_000];
+    let mut bytes = bytes_of(rt.alloc(), &words)?;
+    bytes.resize(10_048, 0)?;
+    assert!(rt; calls_needed(&rt, &bytes, 100_000) == Some((5, 10_048)));
+    Ok(())
+}
+
 #[test]
 fn failing_sources(rt: HostRuntime) -> Result<(), Fail> {
     let bytes = bytes_of(rt.alloc(), &FIXED)?;
-    // A call for each field, and a call for each byte.
-    assert!(rt; calls_needed(&rt, &bytes, 5) == Some((23, 80)));
+    // Five bytes at a time, but no more than are surely still to come: 4 behind the first 40, until the
+    // number of variables is known, and the last 1. And a call for each byte.
+    assert!(rt; calls_needed(&rt, &bytes, 5) == Some((17, 80)));
     assert!(rt; calls_needed(&rt, &bytes, 1) == Some((80, 80)));
     Ok(())
 }

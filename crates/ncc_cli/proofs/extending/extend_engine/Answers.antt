@@ -1,23 +1,20 @@
 use Rattle.std.proofs.Math.Logic.{∥∥₁_map}
-use Rattle.std.proofs.Common.{◌≡◌, ◌≢◌, ◌⊎◌, ◌+◌, inl, inr, ⊎_elim, false, ℕ, List, Bool, Result, Ok, Err, OnOk, refl, ap, sym, subst, ◌∙◌, arith}
-use Rattle.ncc_schema.specs.Schema.{Place}
+use Rattle.std.proofs.Common.{◌≡◌, ◌≢◌, ◌⊎◌, ◌+◌, inl, inr, ⊎_elim, false, ℕ, List, Bool, Ok, Err, refl, ap, sym, subst, ◌∙◌}
 use Rattle.ncc_layout.specs.Placed.{records_of_file}
 use Rattle.ncc_store.specs.Store.{LeavesOnly, Only, Unmoved}
 use Rattle.ncc_check.specs.Appending.{IsFull}
 use Rattle.ncc_check.specs.declared.append_error.AppendError.{AppendError}
 use Rattle.ncc_check.specs.declared.append_error.AppendError.TheVariants as errors
 use Rattle.ncc_cli.specs.Extending.{IsFilledSome, IsFilledUp}
-use Rattle.std.specs.Prelude.{IfErr}
 use Rattle.ncc_store.proofs.Moments.{joined, stays}
 use Rattle.ncc_check.specs.Checks.{Opens, Refuses}
 use Rattle.ncc_check.specs.Files.{store_of, schema_of, placed_of}
 use Rattle.ncc_check.specs.declared.fault.Refusal.{Refusal}
-use Rattle.ncc_build.specs.Dataset.{Dataset, IsDataset}
 use Rattle.ncc_write.specs.Additions.{HoldsAll}
-use Rattle.ncc_write.specs.Extends.{Contains, ExtendsAs, HasRecords, HoldsSome, LeavesFills, filled_bytes, with_fills}
+use Rattle.ncc_write.specs.Extends.{Contains, ExtendsAs, HoldsSome, LeavesFills, filled_bytes, with_fills}
 use Rattle.ncc_write.proofs.MoreFills.{at_start}
 use Rattle.ncc_cli.specs.declared.answer.Answer.{Answer}
-use Rattle.ncc_cli.proofs.Extended.{Told, fault_went, filled_up, is_full, some_filled, refused_for, none_more, passed_ok, stopped_went, went}
+use Rattle.ncc_cli.proofs.Extended.{Told, fault_went, filled_up, is_full, some_filled, refused_for, none_more, passed_ok, went}
 use Rattle.ncc_cli.proofs.extending.extend_engine.Goals as goal
 
 pub returns-in-Ok-clause-extends : goal.returns-in-Ok-clause-extends

@@ -1,4 +1,4 @@
-use Rattle.std.proofs.Common.{◌≡◌, ◌≢◌, Ok, Err, refl, sym, subst, rules}
+use Rattle.std.proofs.Common.{◌≢◌, Ok, Err, refl, sym, subst, rules}
 use Rattle.ncc_check.specs.declared.append_error.AppendError.TheVariants as errors
 use Rattle.ncc_lines.specs.Refusals.{append_line}
 use Rattle.ncc_schema.specs.declared.schema.Count.TheVariants.{Known}

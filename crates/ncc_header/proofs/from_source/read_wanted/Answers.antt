@@ -15,10 +15,10 @@ loop-wanted-init g c =
     record {
       read = read;
       fresh = c.requires.fresh;
-      lacks = λ some bytes took. c.wants-wanted.ensures.lacks bytes took c.requires.fresh;
-      within = λ some. wanted_within d left left c.args.limit 0 c.wants-wanted.result read (λ bytes took. c.wants-wanted.ensures.lacks bytes took c.requires.fresh) some;
+      fewest = c.expects-wanted.ensures.fewest;
+      within = λ some. wanted_within d left left c.args.limit 0 c.expects-wanted.result read c.expects-wanted.ensures.within some;
       most = omega arith;
-      over = λ none. inr (λ bytes took. subst (IsSettled bytes) c.requires.limit (c.wants-wanted.ensures.settled bytes took c.requires.fresh none));
+      over = λ none. inr (λ bytes took. subst (IsSettled bytes) c.requires.limit (c.expects-wanted.ensures.settled bytes took c.requires.fresh none));
       count = refl;
     }
 
@@ -36,17 +36,17 @@ loop-wanted-preserved-then-n-gt0 g c =
     let d = c.loop-wanted.decoder in
     let e = c.read_piece.new.decoder in
     let f = c.in_ok-n.ensures.ok in
-    let wants = c.wants-wanted-then-n-gt0 in
+    let expects = c.expects-wanted-then-n-gt0 in
     let read : HasRead old now e c.args.limit (c.loop-wanted.taken + c.in_ok-n.n) =
     has_read_more old (left c.loop-wanted.source) now d e c.args.limit c.loop-wanted.taken _ c.in_ok-n.n c.loop-wanted.invariant.read f
-    (λ bytes took. omega (arith, c.loop-wanted.invariant.lacks c.loop-wanted-test.true bytes took, length-take c.min.result c.loop-wanted.piece, c.min.ensures)) in
+    (λ bytes more took w. omega (arith, c.loop-wanted.invariant.fewest bytes more took w, length-take c.min.result c.loop-wanted.piece, c.min.ensures)) in
     record {
       read = read;
       fresh = f.fresh;
-      lacks = λ some bytes took. wants.ensures.lacks bytes took f.fresh;
-      within = λ some. wanted_within e old now c.args.limit (c.loop-wanted.taken + c.in_ok-n.n) wants.result read (λ bytes took. wants.ensures.lacks bytes took f.fresh) some;
+      fewest = expects.ensures.fewest;
+      within = λ some. wanted_within e old now c.args.limit (c.loop-wanted.taken + c.in_ok-n.n) expects.result read expects.ensures.within some;
       most = omega (arith, f.few, length-take c.min.result c.loop-wanted.piece, c.min.ensures, c.loop-wanted.invariant.within c.loop-wanted-test.true);
-      over = λ none. inr (λ bytes took. subst (IsSettled bytes) read.limit_is (wants.ensures.settled bytes took f.fresh none));
+      over = λ none. inr (λ bytes took. subst (IsSettled bytes) read.limit_is (expects.ensures.settled bytes took f.fresh none));
       count = c.in_ok-n.ensures.count ∙ c.loop-wanted.invariant.count;
     }
 
@@ -56,9 +56,9 @@ loop-wanted-preserved g c =
     let f = c.in_ok-n.ensures.ok in
     record {
       read = has_read_more (left c.args.source.now) (left c.loop-wanted.source) (left c.read_piece.new.source) c.loop-wanted.decoder c.read_piece.new.decoder c.args.limit c.loop-wanted.taken _ c.in_ok-n.n c.loop-wanted.invariant.read f
-          (λ bytes took. omega (arith, c.loop-wanted.invariant.lacks c.loop-wanted-test.true bytes took, length-take c.min.result c.loop-wanted.piece, c.min.ensures));
+          (λ bytes more took w. omega (arith, c.loop-wanted.invariant.fewest bytes more took w, length-take c.min.result c.loop-wanted.piece, c.min.ensures));
       fresh = f.fresh;
-      lacks = λ some. absurd (omega (arith, some));
+      fewest = λ bytes more took w. omega arith;
       within = λ some. absurd (omega (arith, some));
       most = omega (arith, f.few, length-take c.min.result c.loop-wanted.piece, c.min.ensures, c.loop-wanted.invariant.within c.loop-wanted-test.true);
       over = λ none. inl (f.end (omega (arith, c.if-n-gt0.false)) (omega (arith, length-take c.min.result c.loop-wanted.piece, c.min.ensures, c.min.array_long, c.loop-wanted-test.true)));

@@ -1,4 +1,4 @@
-use Rattle.std.proofs.Common.{◌≡◌, ◌+◌, ◌-◌, ℕ, length, length-drop, take, drop, Ok, Err, subst, ◌∙◌, arith}
+use Rattle.std.proofs.Common.{◌≡◌, ◌+◌, ◌-◌, ℕ, length, length-drop, take, drop, Ok, subst, ◌∙◌, arith}
 use Rattle.std.proofs.lemmas.List.{length-take-le}
 use Rattle.ncc_write.specs.Outlet.{Paged, sink_of, waiting}
 use Rattle.ncc_write.specs.Streams.{Streams}

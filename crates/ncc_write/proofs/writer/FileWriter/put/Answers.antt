@@ -1,7 +1,7 @@
-use Rattle.std.proofs.Common.{◌≡◌, ◌<◌, ◌≤◌, false, refl, ap, sym, subst, ◌∙◌, arith, rules}
+use Rattle.std.proofs.Common.{◌≡◌, ◌<◌, false, refl, ap, sym, subst, ◌∙◌, arith, rules}
 use Rattle.ncc_schema.specs.declared.schema.Schema.{Schema}
-use Rattle.ncc_values.specs.Values.{count_of, type_of}
-use Rattle.ncc_write.specs.Turns.{IsCourse, turn_at}
+use Rattle.ncc_values.specs.Values.{type_of}
+use Rattle.ncc_write.specs.Turns.{IsCourse}
 use Rattle.ncc_write.specs.Writing.{with_values, as_failed}
 use Rattle.ncc_write.specs.declared.turn.Turn.{Turn}
 use Rattle.ncc_write.proofs.Facing.{faces_other, faces_fewer, faces_room, faces_failure}

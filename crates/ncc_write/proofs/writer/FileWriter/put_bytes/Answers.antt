@@ -1,8 +1,8 @@
-use Rattle.std.proofs.Common.{◌≡◌, ◌<◌, ◌≤◌, ℕ, List, false, refl, ap, sym, subst, ◌∙◌, arith, rules}
+use Rattle.std.proofs.Common.{◌≡◌, ◌<◌, ℕ, List, false, refl, ap, sym, subst, ◌∙◌, arith, rules}
 use Rattle.ncc_schema.specs.declared.schema.Schema.{Schema}
 use Rattle.ncc_values.specs.Values.{count_of, type_of, values_of}
 use Rattle.ncc_values.proofs.ValuesLemmas.{type_of-values_of, count_of-values_of, bytes_of-values_of}
-use Rattle.ncc_write.specs.Turns.{IsCourse, turn_at}
+use Rattle.ncc_write.specs.Turns.{IsCourse}
 use Rattle.ncc_write.specs.Writer.{Stands, Stops, sink_in}
 use Rattle.ncc_write.specs.Writing.{with_values, with_more, as_failed}
 use Rattle.ncc_write.specs.declared.turn.Turn.{Turn}

@@ -1,4 +1,4 @@
-use Rattle.std.proofs.Common.{◌≡◌, ◌*◌, ℕ, length, ap, subst, ◌∙◌}
+use Rattle.std.proofs.Common.{◌*◌, ap, subst, ◌∙◌}
 use Rattle.ncc_schema.specs.declared.schema.Schema.{Schema}
 use Rattle.ncc_values.specs.XType.{size_of}
 use Rattle.ncc_write.specs.declared.turn.Turn.{Turn}

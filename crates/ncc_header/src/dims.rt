@@ -1,0 +1,73 @@
+//! The fields of the list of dimensions.
+
+ghost use Rattle.std.specs.Prelude.{◌≡◌, ◌≤◌, [], length};
+ghost use Rattle.ncc_values.specs.Version.{count_width_of};
+ghost use Rattle.ncc_header.specs.declared.built.Next.TheVariants as nexts;
+ghost use Rattle.ncc_header.specs.Left.{left_of, from_dims, begins_of, come_of, first_at};
+ghost use Rattle.ncc_header.specs.Steps.{Steps};
+
+use crate::built::{Built, Named, Next, Owner};
+use crate::fault::StepError;
+use crate::judge;
+use ncc_schema::{Dim, NC_DIMENSION};
+use ncc_values::{Seq, number};
+use std::alloc::Global;
+use std::mem;
+
+/// The tag: dim_list = ABSENT | **NC_DIMENSION** nelems [dim ...]
+pub fn after_dims_tag(built: &Built, at: u64, front: &[u8]) -> Result<Next, StepError>
+    requires { length front.now ≡ 4 }
+    ensures { Steps nexts.DimsTag built.now at front.now result built.now }
+{
+    let tag = number(front);
+    judge::tag(NC_DIMENSION, tag)?;
+    Ok(Next::DimsCount(tag))
+}
+
+/// The dimension that begins, or where none of so many is left the attributes of the file.
+fn next_dim(built: &mut Built, left: u64) -> Next
+    ensures left { left_of result built.new ≡ from_dims built.old.lists.parts left }
+    ensures begins { begins_of result built.new.lists.vars ≡ [] }
+    ensures fresh { come_of result built.new ≡ [] }
+    ensures at { first_at result ≤ 12 }
+{
+    if left == 0 {
+        return Next::AttrsTag(Owner::File);
+    }
+    built.lists.dims_left = left - 1;
+    Next::NameLength(Named::Dim)
+}
+
+/// The number of items: dim_list = ABSENT | NC_DIMENSION **nelems** [dim ...]
+pub fn after_dims_count(
+    alloc: Global,
+    built: &mut Built,
+    tag: u64,
+    at: u64,
+    front: &[u8],
+) -> Result<Next, StepError>
+    requires { length front.now ≡ count_width_of built.old.lists.parts.version }
+    ensures { Steps (nexts.DimsCount tag) built.old at front.now result built.new }
+{
+    let n = number(front);
+    judge::list_nelems(built.lists.parts.version, tag, n)?;
+    built.lists.parts.dims = Vec::new(alloc);
+    Ok(next_dim(built, n))
+}
+
+/// The length: dim = name **dim_length**
+pub fn after_dim_length(
+    alloc: Global,
+    built: &mut Built,
+    at: u64,
+    front: &[u8],
+) -> Result<Next, StepError>
+    requires { length front.now ≡ count_width_of built.old.lists.parts.version }
+    ensures { Steps nexts.DimLength built.old at front.now result built.new }
+{
+    let length = number(front);
+    judge::dim_length(built.lists.parts.version, &built.lists.parts.dims, length)?;
+    let name = Seq::from_vec(mem::replace(&mut built.name, Vec::new(alloc)));
+    built.lists.parts.dims.push(Dim { name, length })?;
+    Ok(next_dim(built, built.lists.dims_left))
+}
