@@ -10,8 +10,6 @@ pub mod laws;
 mod names;
 mod ranges;
 mod rebuilding;
-#[cfg(test)]
-mod tests;
 
 pub use builder::SchemaBuilder;
 pub use built::Built;

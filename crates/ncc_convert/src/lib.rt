@@ -8,6 +8,3 @@ mod lines;
 
 pub use converting::convert;
 pub use lines::{send_converted, send_plan_refusal};
-
-#[cfg(test)]
-mod tests;

@@ -14,8 +14,6 @@ mod refusals;
 mod row;
 mod sending;
 mod sheet;
-#[cfg(test)]
-mod tests;
 mod word;
 
 pub use named::var_named;

@@ -18,8 +18,6 @@ mod standing;
 mod start;
 mod step;
 mod taking;
-#[cfg(test)]
-mod tests;
 mod vars;
 
 pub use decoder::Decoder;

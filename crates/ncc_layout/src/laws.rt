@@ -136,6 +136,3 @@ pub fn one_more_is_placed()
         → s.count ≡ Known n → Holds s places header file p → HasOneMore p more q
         → Holds (with_count s (n + 1)) places header more q }
 {}
-
-#[cfg(test)]
-mod tests;

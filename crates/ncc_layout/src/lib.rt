@@ -17,8 +17,6 @@ mod records;
 mod rules;
 mod size_list;
 mod sizing;
-#[cfg(test)]
-mod tests;
 mod vsize;
 
 pub use element::place;

@@ -105,6 +105,3 @@ pub fn next_count(version: Version, n: u64) -> Option<u64>
     }
     Some(n + 1)
 }
-
-#[cfg(test)]
-mod tests;

@@ -1,11 +1,14 @@
-//! Files in stores, and what `check` and `open` say of them: rows of files, files that are cut or
-//! changed, and stores that fail.
+//! Files in stores, and what `check` and `open` say of them: rows of files, notes of headers, files that
+//! are cut or changed, stores that fail, and memory that is refused.
 
 mod changes;
 mod counts;
 mod cuts;
 mod failing;
 mod helpers;
+mod memory;
 mod names;
+mod noted;
+mod notes;
 mod records;
 mod rows;

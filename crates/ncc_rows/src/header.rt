@@ -1,11 +1,13 @@
 //! Headers: the answer to each piece, marks, places and names, sources that fail, headers that are cut
-//! or changed, and what is written.
+//! or changed, what is written, and decoding where memory is refused.
 
 mod answers;
 pub mod cuts;
 mod encoding;
 mod feeding;
 pub mod helpers;
+mod laws;
+mod memory;
 mod names;
 mod pieces;
 pub mod plain;

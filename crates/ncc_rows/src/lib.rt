@@ -1,4 +1,4 @@
-//! Tests that cross crates: files by their words, and what is said of them.
+//! Tests of values, of headers, and of files by their words, with what is said of them.
 #![tactic(auto)]
 
 #[cfg(test)]
@@ -7,3 +7,5 @@ mod check;
 mod header;
 #[cfg(test)]
 mod layout;
+#[cfg(test)]
+mod values;

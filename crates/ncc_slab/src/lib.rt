@@ -24,6 +24,3 @@ pub use reader::SlabReader;
 pub use reading::read_slab;
 pub use slab::Slab;
 pub use whole_slab::slab_of;
-
-#[cfg(test)]
-mod tests;

@@ -28,6 +28,3 @@ pub use seq::Seq;
 pub use values::Values;
 pub use version::Version;
 pub use xtype::XType;
-
-#[cfg(test)]
-mod tests;

@@ -138,6 +138,3 @@ pub fn open_file_has_sizes<S: Store>(file: &NcFile<S>)
 {
     open_file_stands(file);
 }
-
-#[cfg(test)]
-mod tests;

@@ -1,10 +1,12 @@
-//! Files that are written, and read back.
+//! Tests of files that are written and read back, and of files in another version.
 #![tactic(auto)]
 
 #[cfg(test)]
 mod adding_memory;
 #[cfg(test)]
 mod appending;
+#[cfg(test)]
+mod converting;
 #[cfg(test)]
 mod expecting;
 #[cfg(test)]
@@ -21,6 +23,8 @@ mod fills;
 mod full;
 #[cfg(test)]
 mod helpers;
+#[cfg(test)]
+mod laws;
 #[cfg(test)]
 mod memory;
 #[cfg(test)]

@@ -1,0 +1,91 @@
+//! A sheet whose values are read in two parts.
+
+use super::helpers::slab;
+use ncc_csv::send_sheet;
+use ncc_check::open;
+use ncc_files::{FIXED_IN_CDF_5, LIMIT, bytes_of};
+use ncc_header::WriteSink;
+use ncc_lines::{Halt, Progress};
+use ncc_store::MemStore;
+use std::alloc::{AllocError, Global};
+use std::test::*;
+
+/// What was told of the work: how often, first and last.
+#[derive(Clone, Copy, Debug, PartialEq, Eq)]
+struct Told {
+    times: u64,
+    first: (u64, u64),
+    last: (u64, u64),
+}
+
+impl Progress for Told {
+    fn rows(&mut self, done: u64, all: u64) {
+        if self.times == 0 {
+            self.first = (done, all);
+        }
+        self.times = self.times.saturating_add(1);
+        self.last = (done, all);
+    }
+
+    fn bytes(&mut self, _more: u64, _all: u64) {}
+
+    fn end(&mut self) {}
+}
+
+/// The variable double v(x) of 8,193 zeros: one more than a part has.
+fn zeros(alloc: Global) -> Result<Vec<u8>, AllocError> {
+    let mut words = FIXED_IN_CDF_5;
+    words[10] = 8_193;
+    words[27] = 6;
+    words[29] = 65_544;
+    let mut bytes = bytes_of(alloc, &words)?;
+    bytes.truncate(128);
+    bytes.resize(128 + 65_544, 0)?;
+    Ok(bytes)
+}
+
+/// The sheet of all of them, with the answer and what was told.
+fn sheet_of_zeros(
+    alloc: Global,
+) -> Result<Option<(Result<bool, Halt>, Told, Vec<u8>)>, AllocError> {
+    let mut told = Told {
+        times: 0,
+        first: (0, 0),
+        last: (0, 0),
+    };
+    let slab = slab(alloc, [&[0], &[8_193], &[1]])?;
+    match open(alloc, MemStore::new(zeros(alloc)?), LIMIT) {
+        Ok(file) => {
+            let mut file = file;
+            let mut sink = WriteSink::new(Vec::new(alloc));
+            let answer = send_sheet(alloc, &mut file, 0, &slab, &mut sink, &mut told);
+            Ok(Some((answer, told, sink.into_inner())))
+        }
+        Err(_) => Ok(None),
+    }
+}
+
+/// How many lines there are.
+fn lines_in(text: &[u8]) -> usize {
+    let mut lines = 0usize;
+    for byte in text {
+        if *byte == b'\n' {
+            lines = lines.saturating_add(1);
+        }
+    }
+    lines
+}
+
+#[test]
+fn two_parts(rt: HostRuntime) -> Result<(), Fail> {
+    let (answer, told, sent) = sheet_of_zeros(rt.alloc())?.expect(&rt, "it passes");
+    assert!(rt; answer == Ok(true));
+    assert!(rt; told.times == 2);
+    assert!(rt; told.first == (8_192, 8_193));
+    assert!(rt; told.last == (8_193, 8_193));
+    assert!(rt; lines_in(&sent) == 8_194);
+    assert!(rt; sent.starts_with(b"x,v\n0,0x0000000000000000\n1,0x0000000000000000\n"));
+    let end = b"\n8191,0x0000000000000000\n8192,0x0000000000000000\n";
+    assert!(rt; sent.ends_with(end));
+    Ok(())
+}
