@@ -1,8 +1,7 @@
 //! Checking and opening where memory may be refused. A test takes memory once itself, for its store:
 //! scripts/refuse_test_memory.sh refuses one allocation after another.
 
-use ncc_check::{Note, NoteKind};
-use ncc_check::{NcFile, Refusal, Report, check, open};
+use ncc_check::{NcFile, Note, NoteKind, Refusal, Report, check, open};
 use ncc_store::MemStore;
 use ncc_values::Version;
 use std::process::Abort;

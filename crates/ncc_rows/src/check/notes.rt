@@ -1,7 +1,7 @@
 //! Headers and their notes.
 
-use ncc_check::{Note, NoteKind};
 use super::noted::{notes_in, notes_of_bytes};
+use ncc_check::{Note, NoteKind};
 use ncc_files::bytes_of;
 use std::test::Fail;
 

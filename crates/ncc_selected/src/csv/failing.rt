@@ -1,8 +1,8 @@
 //! Sinks and stores that fail.
 
 use super::helpers::{INTS, INTS_TEXT, slab};
-use ncc_csv::send_sheet;
 use ncc_check::open;
+use ncc_csv::send_sheet;
 use ncc_files::{LIMIT, bytes_of};
 use ncc_header::{FuseSink, WriteSink};
 use ncc_lines::{Halt, Unshown};

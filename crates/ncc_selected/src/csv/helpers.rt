@@ -1,7 +1,7 @@
 //! Sheets of files in words, and what is expected of them.
 
-use ncc_csv::send_sheet;
 use ncc_check::open;
+use ncc_csv::send_sheet;
 use ncc_files::{LIMIT, bytes_of};
 use ncc_header::{Seq, WriteSink};
 use ncc_lines::{Halt, Unshown};

@@ -1,8 +1,8 @@
 //! A sheet whose values are read in two parts.
 
 use super::helpers::slab;
-use ncc_csv::send_sheet;
 use ncc_check::open;
+use ncc_csv::send_sheet;
 use ncc_files::{FIXED_IN_CDF_5, LIMIT, bytes_of};
 use ncc_header::WriteSink;
 use ncc_lines::{Halt, Progress};

@@ -2,8 +2,8 @@
 
 use super::files::{File, bytes_of, fused, open_file};
 use super::helpers::{Pick, add_next, parts_of, read_with_calls, slab};
-use ncc_slab::{SlabFault, SlabParts};
 use ncc_check::NcFile;
+use ncc_slab::{SlabFault, SlabParts};
 use ncc_store::Store;
 use ncc_values::Values;
 use std::alloc::Global;

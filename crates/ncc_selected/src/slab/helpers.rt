@@ -1,8 +1,8 @@
 //! Selections of a table's files.
 
 use super::files::{File, bytes_of, calls_of, counted, open_file};
-use ncc_slab::{Slab, SlabFault, SlabParts, SlabReader, read_slab};
 use ncc_check::NcFile;
+use ncc_slab::{Slab, SlabFault, SlabParts, SlabReader, read_slab};
 use ncc_store::Store;
 use ncc_values::{Seq, Values};
 use std::alloc::{AllocError, Global};

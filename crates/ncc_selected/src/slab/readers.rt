@@ -7,8 +7,8 @@ ghost use Rattle.ncc_check.specs.Files.{store_of, schema_of, placed_of, must_reo
 use super::files::open_file;
 use super::helpers::{Pick, reads, slab};
 use super::parts::{DOUBLES, HUNDRED};
-use ncc_slab::{Slab, SlabFault, SlabParts, SlabReader};
 use ncc_check::NcFile;
+use ncc_slab::{Slab, SlabFault, SlabParts, SlabReader};
 use ncc_store::{MemStore, Store};
 use ncc_values::Values;
 use std::alloc::Global;

@@ -3,9 +3,9 @@
 use super::files::open_file;
 use super::helpers::{Pick, slab};
 use super::rows::TABLE;
+use ncc_check::NcFile;
 use ncc_slab::SlabFault::*;
 use ncc_slab::{Places, SlabFault};
-use ncc_check::NcFile;
 use ncc_store::MemStore;
 use std::alloc::{AllocError, Global};
 use std::process::Abort;

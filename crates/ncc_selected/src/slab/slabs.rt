@@ -1,8 +1,8 @@
 //! Whole slabs: their selections, and where they begin.
 
 use super::files::{File, header_length, open_file};
-use ncc_slab::{Slab, SlabFault, slab_of, slab_place};
 use ncc_check::NcFile;
+use ncc_slab::{Slab, SlabFault, slab_of, slab_place};
 use ncc_store::MemStore;
 use std::alloc::Global;
 use std::process::Abort;

@@ -2,9 +2,9 @@
 
 use super::helpers::{read_next, reads, slab};
 use super::plans::{MOST, Plan, product};
-use ncc_slab::{Places, Slab, SlabFault, SlabReader};
 use ncc_check::NcFile;
 use ncc_layout::place;
+use ncc_slab::{Places, Slab, SlabFault, SlabReader};
 use ncc_store::MemStore;
 use ncc_values::Values;
 use std::alloc::{AllocError, Global};

@@ -5,8 +5,8 @@ ghost use Rattle.ncc_build.specs.Builds.{schema_of as planned_schema};
 ghost use Rattle.ncc_check.specs.Files.{schema_of, placed_of};
 ghost use Rattle.ncc_write.specs.Planned.{IsPlanned};
 
-use ncc_convert::convert;
 use ncc_check::{NcFile, open};
+use ncc_convert::convert;
 use ncc_files::{FIXED, FIXED_IN_CDF_2, LIMIT, bytes_of};
 use ncc_lines::{Halt, Unshown};
 use ncc_schema::WriteSink;
