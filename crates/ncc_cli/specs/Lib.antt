@@ -1,8 +1,1 @@
-pub mod Answers
-pub mod Listing
-pub mod Checking
-pub mod Selecting
-pub mod Extending
 pub mod Status
-pub mod Converting
-pub mod Planning

@@ -2,10 +2,10 @@
 use Rattle.std.specs.Prelude.{◌≡◌, ℕ, ◌⊎◌}
 use Rattle.clap.specs.declared.error.kind.ErrorKind.{ErrorKind}
 use Rattle.clap.specs.declared.error.kind.ErrorKind.TheVariants.{DisplayHelp, DisplayVersion, OutOfMemory}
-use Rattle.ncc_cli.specs.declared.answer.Answer.{Answer}
+use Rattle.ncc_engines.specs.declared.answer.Answer.{Answer}
 use Rattle.ncc_cli.specs.declared.picking.WordFault.{WordFault}
 use Rattle.ncc_cli.specs.declared.picking.WordFault.TheVariants as words
-use Rattle.ncc_cli.specs.declared.answer.Answer.TheVariants.{Passed, Refused, Device, Memory}
+use Rattle.ncc_engines.specs.declared.answer.Answer.TheVariants.{Passed, Refused, Device, Memory}
 
 abbrev pub status_of : Answer → ℕ
 status_of Passed = 0

@@ -5,9 +5,9 @@ ghost use Rattle.std.specs.Io.Buffered.{writer_buffer};
 ghost use Rattle.clap.specs.Values.{kind_of};
 ghost use Rattle.ncc_cli.specs.Status.{status_of, Explains, Flushes};
 
-use crate::answer::Answer;
 use clap::Error;
 use clap::error::ErrorKind;
+use ncc_engines::Answer;
 use std::alloc::Global;
 use std::io::{BufWriter, Write};
 

@@ -1,23 +1,16 @@
 //! `ncc`: checks, lists, reads, extends and converts netCDF classic files.
 #![tactic(auto)]
 
-mod answer;
-mod checking;
 mod commands;
-mod converting;
 mod converting_files;
-mod extending;
 mod finishing;
-mod listing;
 mod picking;
-mod planning;
 mod progress;
 mod run;
-mod selecting;
 #[cfg(test)]
 mod tests;
 
-use answer::Answer;
+use ncc_engines::Answer;
 use progress::Terminals;
 use std::io::{ErrorKind, IsTerminal};
 use std::process::ExitCode;

@@ -4,10 +4,10 @@ ghost use Rattle.std.specs.Prelude.{◌≡◌};
 ghost use Rattle.ncc_cli.specs.Status.{status_of_words};
 ghost use Rattle.ncc_cli.specs.declared.picking.WordFault.TheVariants.{Memory};
 
-use crate::answer::Answer;
 use crate::finishing::{USAGE, finish};
 use clap::ArgMatches;
 use ncc_csv::{Pick, parse_list};
+use ncc_engines::Answer;
 use ncc_header::Seq;
 use std::alloc::{AllocError, Global};
 use std::io::Write;

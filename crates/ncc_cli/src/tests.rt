@@ -1,12 +1,116 @@
-//! Lines, faults, values, verdicts, failing sources, stores and sinks, and whole runs.
+//! Runs whose outputs take nothing, and what is told of an answer.
 
-mod converts;
-mod extends;
-mod failures;
-mod faults;
-mod helpers;
-mod lists;
-mod runs;
-mod selections;
-mod values;
-mod verdicts;
+use crate::finishing::finish;
+use crate::progress::Terminals;
+use crate::run::run;
+use ncc_engines::Answer;
+use ncc_files::{EMPTY, TITLED, bytes_of, with_byte};
+use std::alloc::{AllocError, Global};
+use std::fs::File;
+use std::io::{Error, ErrorKind, Write};
+use std::process::Abort;
+use std::rt::{Clock, Files};
+use std::test::*;
+use std::{fs, io};
+
+const NO_TERMINALS: Terminals = Terminals {
+    out: false,
+    err: false,
+};
+
+fn line_of(alloc: Global, line: &str) -> Result<Vec<String>, AllocError> {
+    let mut words = Vec::new(alloc);
+    for word in line.split(' ') {
+        words.push(word.to_string(alloc)?)?;
+    }
+    Ok(words)
+}
+
+/// A writer that takes bytes and gives none on, or takes none at all.
+#[derive(Drop)]
+struct Stuck {
+    takes: bool,
+}
+
+impl Write for Stuck {
+    fn write(&mut self, bytes: &[u8]) -> io::Result<usize> {
+        if self.takes {
+            return Ok(bytes.len());
+        }
+        Err(Error::from(ErrorKind::Other))
+    }
+
+    fn flush(&mut self) -> io::Result<()> {
+        Err(Error::from(ErrorKind::Other))
+    }
+}
+
+/// Where the output takes nothing, or is not flushed, each command ends with `error device`.
+fn expect_stuck<R: Abort + Files<File = File> + Clock + AllocGlobal>(
+    rt: &R,
+    line: &str,
+) -> Result<(), AllocError> {
+    for takes in [false, true] {
+        let mut err = Vec::new(rt.alloc());
+        let words = line_of(rt.alloc(), line)?;
+        let status = run(rt, &words, &mut Stuck { takes }, &mut err, NO_TERMINALS);
+        assert_eq!(rt; status, 3, "{line}");
+        assert!(rt; err.as_slice() == b"error device\n".as_slice(), "{line}");
+    }
+    Ok(())
+}
+
+#[test]
+fn outputs_that_take_nothing(rt: HostRuntime) -> Result<(), Fail> {
+    let name = "ncc_test_stuck.nc";
+    fs::write(&rt, name, bytes_of(rt.alloc(), &TITLED)?)?;
+    expect_stuck(&rt, "ncc list ncc_test_stuck.nc")?;
+    expect_stuck(&rt, "ncc check ncc_test_stuck.nc")?;
+    expect_stuck(&rt, "ncc csv ncc_test_stuck.nc v")?;
+    fs::write(&rt, name, with_byte(rt.alloc(), &EMPTY, 3, 4)?)?;
+    expect_stuck(&rt, "ncc list ncc_test_stuck.nc")?;
+    expect_stuck(&rt, "ncc check ncc_test_stuck.nc")?;
+    expect_stuck(&rt, "ncc csv ncc_test_stuck.nc v")?;
+    fs::remove_file(&rt, name)?;
+    expect_stuck(&rt, "ncc --help")?;
+    expect_stuck(&rt, "ncc --version")?;
+    Ok(())
+}
+
+/// What kept a run from its end is told on the error output.
+#[test]
+fn errors_are_told(rt: HostRuntime) -> Result<(), Fail> {
+    let told = [
+        (Answer::Passed, 0, ""),
+        (Answer::Refused, 1, ""),
+        (Answer::Device, 3, "error device\n"),
+        (Answer::Memory, 3, "error memory\n"),
+    ];
+    for (answer, status, text) in told {
+        let mut err = Vec::new(rt.alloc());
+        assert_eq!(rt; finish(answer, &mut err), status);
+        assert!(rt; err.as_slice() == text.as_bytes());
+    }
+    Ok(())
+}
+
+/// What can't be written to the error output changes no status.
+#[test]
+fn error_output_that_takes_nothing(rt: HostRuntime) -> Result<(), Fail> {
+    for (line, status) in [("ncc list ncc_test_not_there.nc", 3), ("ncc list", 2)] {
+        let words = line_of(rt.alloc(), line)?;
+        let mut out = Vec::new(rt.alloc());
+        assert_eq!(rt;
+            run(
+                &rt,
+                &words,
+                &mut out,
+                &mut Stuck { takes: false },
+                NO_TERMINALS
+            ),
+            status
+        );
+        assert!(rt; out.is_empty());
+    }
+    Ok(())
+}

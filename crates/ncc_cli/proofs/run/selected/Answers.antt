@@ -1,6 +1,6 @@
 use Rattle.std.proofs.Common.{ℕ, List, subst}
 use Rattle.ncc_schema.specs.Device.{Puts}
-use Rattle.ncc_cli.specs.Selecting.{SelectsInto}
+use Rattle.ncc_engines.specs.Selecting.{SelectsInto}
 use Rattle.ncc_cli.specs.declared.commands.TheConstants.{LIMIT}
 use Rattle.ncc_cli.proofs.run.selected.Goals as goal
 

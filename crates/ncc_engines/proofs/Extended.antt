@@ -1,0 +1,232 @@
+-- What `extend` sent is the line of its answer, or a front of it.
+use Rattle.std.proofs.Common.{◌≡◌, ◌≢◌, ◌⊎◌, inl, inr, ℕ, zero, suc, ◌+◌, Bool, IsTrue, add-one, List, [], Option, Some, None, Result, Ok, Err, refl, sym, ap, subst, ◌∙◌, arith, false}
+use Rattle.std.specs.Prelude.{OnOk, IfErr}
+use Rattle.std.proofs.Math.Logic.{∥∥₁_map}
+use Rattle.std.proofs.lemmas.List.{append-nil}
+use Rattle.ncc_schema.specs.Device.{Puts}
+use Rattle.ncc_schema.specs.declared.schema.Count.TheVariants.{Known}
+use Rattle.ncc_schema.specs.declared.schema.Schema.{Schema}
+use Rattle.ncc_layout.specs.declared.placed_file.Placed.{Placed}
+use Rattle.ncc_layout.specs.Placed.{records_of_file}
+use Rattle.ncc_check.specs.Checks.{Opens}
+use Rattle.ncc_check.specs.Faults.{Fails}
+use Rattle.ncc_check.specs.declared.append_error.AppendError.{AppendError}
+use Rattle.ncc_check.specs.declared.append_error.AppendError.TheVariants as errors
+use Rattle.ncc_check.specs.AppendLaws.{CanGrow}
+use Rattle.ncc_check.specs.Appending.{IsFull}
+use Rattle.ncc_check.specs.declared.fault.FileFault.{FileFault}
+use Rattle.ncc_lines.specs.Sends.{SendsAll}
+use Rattle.ncc_lines.specs.Texts.{records_line}
+use Rattle.ncc_lines.specs.Verdicts.{file_fault_line}
+use Rattle.ncc_lines.specs.declared.halt.Halt.{Halt}
+use Rattle.ncc_lines.specs.declared.halt.Halt.TheVariants as halts
+use Rattle.ncc_schema.specs.Schema.{Place}
+use Rattle.ncc_layout.specs.Plans.{IsKnown}
+use Rattle.ncc_build.specs.Dataset.{Dataset, IsDataset}
+use Rattle.ncc_write.specs.Additions.{HoldsAll}
+use Rattle.ncc_write.specs.Extends.{ExtendsAs, HoldsSome, IsFullFor, LeavesFills, filled_bytes}
+use Rattle.ncc_write.proofs.MoreRecords.{as_first, full_now}
+use Rattle.ncc_write.specs.Records.{followed_by}
+use Rattle.ncc_engines.specs.declared.answer.Answer.{Answer}
+use Rattle.ncc_engines.specs.declared.answer.Answer.TheVariants.{Passed, Refused, Device, Memory}
+use Rattle.ncc_engines.specs.Answers.{Texts, answer_of}
+use Rattle.ncc_engines.specs.Extending.{ExtendsInto, IsExtendText, IsFilledSome, IsFilledUp, IsFrontOfText, Tells, TellsText}
+
+-- these went out
+abbrev pub Told : Result (Unit {0}) AppendError → (records : ℕ) → (old new : Option (List ℕ)) → Answer → Type 0
+Told result records old new answer = (out : List ℕ) × Puts old new out × Tells result records answer out
+
+abbrev pub Went : (bytes : List ℕ) (limit more : ℕ) (old new : Option (List ℕ)) → Answer → Type 0
+Went b limit n old new answer = (out : List ℕ) × Puts old new out × ExtendsInto b limit n answer out
+
+nothing_put : (put : Option (List ℕ)) → Puts put put []
+nothing_put None = tt
+nothing_put (Some bytes) = ap Some (sym (append-nil bytes))
+
+-- ---- telling
+
+whole : (result : Result (Unit {0}) AppendError) (records : ℕ) (answer : Answer) (text : List ℕ)
+    → TellsText result records answer text → Tells result records answer text
+whole result records Passed text is = is
+whole result records Refused text is = is
+whole (Ok x) records Device text is = absurd is
+whole (Err e) records Device text is = absurd is
+whole (Ok x) records Memory text is = absurd is
+whole (Err e) records Memory text is = absurd is
+
+pub told_sent : (result : Result (Unit {0}) AppendError) (records : ℕ) (answer : Answer) (text : List ℕ)
+    (old new : Option (List ℕ)) (sent : Result (Unit {0}) Halt) → TellsText result records answer text
+    → SendsAll old new text sent → Told result records old new (answer_of sent answer)
+told_sent result records answer text old new (Ok x) is s = (text, s, whole result records answer text is)
+told_sent result records answer text old new (Err halts.Device) is s =
+    (s.0, s.3, inr (answer, text, s.1, is, s.2))
+told_sent result records answer text old new (Err halts.Memory) is s =
+    (s.0, s.3, inr (answer, text, s.1, is, s.2))
+
+pub told_nothing : (result : Result (Unit {0}) AppendError) (records : ℕ) (put : Option (List ℕ))
+    → Told result records put put Device × Told result records put put Memory
+told_nothing result records put = (([], nothing_put put, inl refl), ([], nothing_put put, inl refl))
+
+-- ---- of bytes
+
+extended_text : (b : List ℕ) (limit n : ℕ) (s : Schema) (p : Placed) → Opens b limit s p
+    → (result : Result (Unit {0}) AppendError) (records : ℕ) → ExtendsAs false s p n result
+    → ((x : Unit {0}) → result ≡ Ok x → records ≡ records_of_file p + n)
+    → (answer : Answer) (text : List ℕ) → TellsText result records answer text → IsExtendText b limit n answer text
+extended_text b limit n s p o (Ok x) records how many Passed text is =
+    (s, p, o, (how, is ∙ ap (λ (m : ℕ). records_line (Known m)) (many x refl)))
+extended_text b limit n s p o (Ok x) records how many Refused text is = absurd is
+extended_text b limit n s p o (Ok x) records how many Device text is = absurd is
+extended_text b limit n s p o (Ok x) records how many Memory text is = absurd is
+extended_text b limit n s p o (Err e) records how many Passed text is = absurd is
+extended_text b limit n s p o (Err e) records how many Refused text is = inl (s, p, o, (e, how, is.0, is.1, is.2))
+extended_text b limit n s p o (Err e) records how many Device text is = absurd is
+extended_text b limit n s p o (Err e) records how many Memory text is = absurd is
+
+front_of : (P Q : Texts) → ((answer : Answer) (text : List ℕ) → P answer text → Q answer text) → (out : List ℕ)
+    → IsFrontOfText P out → IsFrontOfText Q out
+front_of P Q into out (inl none) = inl none
+front_of P Q into out (inr (answer, text, rest, is, joined)) = inr (answer, text, rest, into answer text is, joined)
+
+pub went : (b : List ℕ) (limit n : ℕ) (s : Schema) (p : Placed) → Opens b limit s p
+    → (result : Result (Unit {0}) AppendError) (records : ℕ) → ExtendsAs false s p n result
+    → ((x : Unit {0}) → result ≡ Ok x → records ≡ records_of_file p + n)
+    → (old new : Option (List ℕ)) (answer : Answer) → Told result records old new answer
+    → Went b limit n old new answer
+went b limit n s p o result records how many old new Passed (out, puts, is) =
+    (out, puts, extended_text b limit n s p o result records how many Passed out is)
+went b limit n s p o result records how many old new Refused (out, puts, is) =
+    (out, puts, extended_text b limit n s p o result records how many Refused out is)
+went b limit n s p o result records how many old new Device (out, puts, is) = (
+  out,
+  puts,
+  front_of (TellsText result records) (IsExtendText b limit n) (extended_text b limit n s p o result records how many) out is,
+)
+went b limit n s p o result records how many old new Memory (out, puts, is) = (
+  out,
+  puts,
+  front_of (TellsText result records) (IsExtendText b limit n) (extended_text b limit n s p o result records how many) out is,
+)
+
+-- ---- of bytes that don't pass
+
+pub fault_went : (b : List ℕ) (limit n : ℕ) (old new : Option (List ℕ)) (f : FileFault) (answer : Answer)
+    (sent : Result (Unit {0}) Halt) → Fails b limit f → SendsAll old new (file_fault_line f) sent
+    → answer ≡ answer_of sent Refused → Went b limit n old new answer
+fault_went b limit n old new f answer sent fails s is = subst (Went b limit n old new) (sym is) (by sent s)
+  where
+    by : (sent : Result (Unit {0}) Halt) → SendsAll old new (file_fault_line f) sent
+        → Went b limit n old new (answer_of sent Refused)
+    by (Ok x) s = (file_fault_line f, s, inr (f, fails, refl))
+    by (Err halts.Device) s = (s.0, s.3, inr (Refused, file_fault_line f, s.1, inr (f, fails, refl), s.2))
+    by (Err halts.Memory) s = (s.0, s.3, inr (Refused, file_fault_line f, s.1, inr (f, fails, refl), s.2))
+
+pub stopped_went : (b : List ℕ) (limit n : ℕ) (put : Option (List ℕ))
+    → Went b limit n put put Device × Went b limit n put put Memory
+stopped_went b limit n put = (([], nothing_put put, inl refl), ([], nothing_put put, inl refl))
+
+-- ---- what stands
+
+-- none of the records was added
+pub none_more : ((d : Dataset) → IsKnown d.schema.count → followed_by d [] ≡ d) → (b : List ℕ) (limit : ℕ)
+    (places : List Place) (d : Dataset) (n : ℕ) → IsDataset d → HoldsAll b limit places d
+    → ∥ HoldsSome b limit places d n ∥₁
+none_more none b limit places d n is all = ∣ record {
+  more = 0;
+  few = omega arith;
+  holds = subst (λ (e : Dataset). HoldsAll b limit places e) (sym (none d is.counted)) all;
+} ∣₁
+
+-- all of them were, where that was told
+pub passed_ok : (result : Result (Unit {0}) AppendError) (records : ℕ) (old new : Option (List ℕ))
+    → Told result records old new Passed → {P : Type 0} → OnOk result P → P
+passed_ok (Ok x) records old new told h = h
+passed_ok (Err e) records old new told h = absurd told.2
+
+-- ---- the records that there is room for
+
+pub is_full : (e : AppendError) → (e ≡ errors.CountFull) ⊎ (e ≢ errors.CountFull)
+is_full errors.CountFull = inl refl
+is_full errors.Reopen = inr (λ is. cc is)
+is_full errors.NoRecordVariable = inr (λ is. cc is)
+is_full errors.NotPacked = inr (λ is. cc is)
+is_full errors.Streaming = inr (λ is. cc is)
+is_full (errors.WrongValues k) = inr (λ is. cc is)
+is_full errors.Device = inr (λ is. cc is)
+is_full errors.Memory = inr (λ is. cc is)
+
+can_grow : (s : Schema) (p : Placed) (n : ℕ) → ExtendsAs false s p n (Err errors.CountFull) → CanGrow s p
+can_grow s p zero how = absurd how
+can_grow s p (suc n) how = how.1
+
+pub filled_up : (old : List ℕ) (limit : ℕ) (s : Schema) (p : Placed) → Opens old limit s p → (n : ℕ)
+    → ExtendsAs false s p n (Err errors.CountFull) → (t : Schema) (q : Placed) (told : Bool) (new : List ℕ)
+    → IsTrue told → LeavesFills old s p t q told n errors.CountFull new → IsFull t.version q
+    → IsFilledUp old limit n new
+filled_up old limit s p o n how t q told new is leaves full = record {
+  fits = leaves.more;
+  fewer = leaves.fewer;
+  filled = record { schema = s; placed = p; opens = o; bytes = leaves.stands is (λ device. cc device) };
+  grows = can_grow s p n how;
+  full = subst (IsFullFor s.version p) (sym (add-one leaves.more)) (full_now s p leaves.more t q leaves.has full);
+}
+
+-- why the answer was Refused
+pub refused_for : (result : Result (Unit {0}) AppendError) (records : ℕ) (old new : Option (List ℕ))
+    → Told result records old new Refused → (e : AppendError) × (result ≡ Err e) × (e ≢ errors.Device)
+refused_for (Ok x) records old new told = absurd told.2
+refused_for (Err e) records old new told = (e, refl, told.2.0)
+
+-- ---- whatever the answer
+
+-- nothing was written, or some of the records stand
+pub some_filled : (old : List ℕ) (limit : ℕ) (s : Schema) (p : Placed) → Opens old limit s p → (n : ℕ)
+    → (result : Result (Unit {0}) AppendError) → ExtendsAs false s p n result
+    → (t : Schema) (q : Placed) (told : Bool) (new : List ℕ) → IsTrue told
+    → OnOk result (new ≡ filled_bytes old s p n) → IfErr result (λ e. ∥ LeavesFills old s p t q told n e new ∥₁)
+    → (U : Type 0) → (n ≡ 0 → U) → IfErr result (λ e. e ≢ errors.Device → e ≢ errors.CountFull → U)
+    → U ⊎ (∥ IsFilledSome old limit n new ∥₁)
+some_filled old limit s p o zero (Ok x) how t q told new is bytes leaves U none same = inl (none refl)
+some_filled old limit s p o zero (Err e) how t q told new is bytes leaves U none same = absurd how
+some_filled old limit s p o (suc k) (Ok x) how t q told new is bytes leaves U none same =
+    inr ∣ record {
+      schema = s;
+      placed = p;
+      opens = o;
+      grows = how.1.0;
+      more = suc k;
+      few = omega arith;
+      is = inl bytes;
+    } ∣₁
+some_filled old limit s p o (suc k) (Err errors.CountFull) how t q told new is bytes leaves U none same =
+    inr (∥∥₁_map leaves (λ left. record {
+      schema = s;
+      placed = p;
+      opens = o;
+      grows = how.1;
+      more = left.more;
+      few = omega (arith, left.fewer);
+      is = inl (left.stands is (λ device. cc device));
+    }))
+some_filled old limit s p o (suc k) (Err errors.Device) how t q told new is bytes leaves U none same =
+    inr (∥∥₁_map leaves (λ left. record {
+      schema = s;
+      placed = p;
+      opens = o;
+      grows = as_first s p how.1;
+      more = left.more;
+      few = omega (arith, left.fewer);
+      is = inr (left.fewer, left.failed is);
+    }))
+some_filled old limit s p o (suc k) (Err errors.Reopen) how t q told new is bytes leaves U none same =
+    inl (same (λ e. cc e) (λ e. cc e))
+some_filled old limit s p o (suc k) (Err errors.NoRecordVariable) how t q told new is bytes leaves U none same =
+    inl (same (λ e. cc e) (λ e. cc e))
+some_filled old limit s p o (suc k) (Err errors.NotPacked) how t q told new is bytes leaves U none same =
+    inl (same (λ e. cc e) (λ e. cc e))
+some_filled old limit s p o (suc k) (Err errors.Streaming) how t q told new is bytes leaves U none same =
+    inl (same (λ e. cc e) (λ e. cc e))
+some_filled old limit s p o (suc k) (Err (errors.WrongValues j)) how t q told new is bytes leaves U none same =
+    inl (same (λ e. cc e) (λ e. cc e))
+some_filled old limit s p o (suc k) (Err errors.Memory) how t q told new is bytes leaves U none same =
+    inl (same (λ e. cc e) (λ e. cc e))

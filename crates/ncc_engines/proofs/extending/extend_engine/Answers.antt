@@ -1,0 +1,174 @@
+use Rattle.std.proofs.Math.Logic.{∥∥₁_map}
+use Rattle.std.proofs.Common.{◌≡◌, ◌≢◌, ◌⊎◌, ◌+◌, inl, inr, ⊎_elim, false, ℕ, List, Bool, Ok, Err, refl, ap, sym, subst, ◌∙◌}
+use Rattle.ncc_layout.specs.Placed.{records_of_file}
+use Rattle.ncc_store.specs.Store.{LeavesOnly, Only, Unmoved}
+use Rattle.ncc_check.specs.Appending.{IsFull}
+use Rattle.ncc_check.specs.declared.append_error.AppendError.{AppendError}
+use Rattle.ncc_check.specs.declared.append_error.AppendError.TheVariants as errors
+use Rattle.ncc_engines.specs.Extending.{IsFilledSome, IsFilledUp}
+use Rattle.ncc_store.proofs.Moments.{joined, stays}
+use Rattle.ncc_check.specs.Checks.{Opens, Refuses}
+use Rattle.ncc_check.specs.Files.{store_of, schema_of, placed_of}
+use Rattle.ncc_check.specs.declared.fault.Refusal.{Refusal}
+use Rattle.ncc_write.specs.Additions.{HoldsAll}
+use Rattle.ncc_write.specs.Extends.{Contains, ExtendsAs, HoldsSome, LeavesFills, filled_bytes, with_fills}
+use Rattle.ncc_write.proofs.MoreFills.{at_start}
+use Rattle.ncc_engines.specs.declared.answer.Answer.{Answer}
+use Rattle.ncc_engines.proofs.Extended.{Told, fault_went, filled_up, is_full, some_filled, refused_for, none_more, passed_ok, went}
+use Rattle.ncc_engines.proofs.extending.extend_engine.Goals as goal
+
+pub returns-in-Ok-clause-extends : goal.returns-in-Ok-clause-extends
+returns-in-Ok-clause-extends g c = λ told.
+    let f = c.in-Ok.opened in
+    let answer = subst (λ (b : Bool). ExtendsAs b (schema_of f) (placed_of f) c.args.more c.extend-extended.result) c.in-Ok.ensures.fresh c.extend-extended.ensures.answer in
+    let many : (x : Unit {0}) → c.extend-extended.result ≡ Ok x → c.records.result ≡ records_of_file (placed_of f) + c.args.more =
+    λ x is. c.records.ensures ∙ (rw is at c.extend-extended.ensures.added).records_are in
+    went (g.S.Store.bytes c.args.store) c.args.limit c.args.more (schema_of f) (placed_of f) (c.in-Ok.ensures.passes told)
+    c.extend-extended.result c.records.result answer many (g.W.Sink.put c.args.sink.now) (g.W.Sink.put c.tell-answer.new.sink)
+    c.tell-answer.result c.tell-answer.ensures.tells
+
+pub returns-in-Ok-clause-holds : goal.returns-in-Ok-clause-holds
+returns-in-Ok-clause-holds g c = λ told passed places d is all.
+    let f = c.in-Ok.opened in
+    let same = c.in-Ok.ensures.unmoved.same in
+    let start : Contains (g.S.Store.bytes (store_of f)) c.args.limit places d (schema_of f) (placed_of f) =
+    subst (λ (b : List ℕ). Contains b c.args.limit places d (schema_of f) (placed_of f)) (sym same)
+    (record { dataset = is; all = all; opens = c.in-Ok.ensures.passes told }) in
+    let tells = subst (λ (a : Answer). Told c.extend-extended.result c.records.result (g.W.Sink.put c.args.sink.now) (g.W.Sink.put c.tell-answer.new.sink) a) passed c.tell-answer.ensures.tells in
+    subst (λ s. ∥ HoldsAll (g.S.Store.bytes s) c.args.limit places (with_fills d c.args.more) ∥₁) (sym c.into_store.ensures)
+    (passed_ok c.extend-extended.result c.records.result _ _ tells (c.extend-extended.ensures.holds told) c.args.limit places d start)
+
+pub returns-in-Ok-clause-holds_some : goal.returns-in-Ok-clause-holds_some
+returns-in-Ok-clause-holds_some g c = λ told places d is all.
+    let f = c.in-Ok.opened in
+    let same = c.in-Ok.ensures.unmoved.same in
+    let start : Contains (g.S.Store.bytes (store_of f)) c.args.limit places d (schema_of f) (placed_of f) =
+    subst (λ (b : List ℕ). Contains b c.args.limit places d (schema_of f) (placed_of f)) (sym same)
+    (record { dataset = is; all = all; opens = c.in-Ok.ensures.passes told }) in
+    subst (λ s. ∥ HoldsSome (g.S.Store.bytes s) c.args.limit places d c.args.more ∥₁) (sym c.into_store.ensures)
+    (c.extend-extended.ensures.holds_some told c.args.limit places d start)
+
+pub returns-in-Ok-clause-any_moment : goal.returns-in-Ok-clause-any_moment
+returns-in-Ok-clause-any_moment g c = λ told only places d is all.
+    let f = c.in-Ok.opened in
+    let still = c.in-Ok.ensures.unmoved in
+    let start : Contains (g.S.Store.bytes (store_of f)) c.args.limit places d (schema_of f) (placed_of f) =
+    subst (λ (b : List ℕ). Contains b c.args.limit places d (schema_of f) (placed_of f)) (sym still.same)
+    (record { dataset = is; all = all; opens = c.in-Ok.ensures.passes told }) in
+    let first = at_start g.S.Store.bytes g.S.Store.images g.S.Store.moment g.S.Store.images_since c.args.store
+    (λ i. ∥ HoldsSome i c.args.limit places d c.args.more ∥₁) (λ i left. g.met.S.Store.only_now c.args.store i left)
+    only (none_more c.followed_twice.ensures.none (g.S.Store.bytes c.args.store) c.args.limit places d c.args.more is all) in
+    let pending : Only (g.S.Store.bytes (store_of f)) (g.S.Store.images (store_of f)) = λ i im. only i (still.within i im) ∙ sym still.same in
+    subst (λ s. LeavesOnly g.S.Store.moment g.S.Store.images_since c.args.store s (λ i. ∥ HoldsSome i c.args.limit places d c.args.more ∥₁)) (sym c.into_store.ensures)
+    (joined g.S.Store.moment g.S.Store.images_since c.args.store (store_of f) (store_of c.extend-extended.new.file) _ _ _
+    (stays g.S.Store.moment g.S.Store.images_since g.S.Store.bytes g.S.Store.images c.args.store c.args.store (store_of f) _ first still)
+    (c.extend-extended.ensures.any_moment told pending c.args.limit places d start) (λ i h. h) (λ i h. h))
+
+pub returns-in-Ok-clause-refused : goal.returns-in-Ok-clause-refused
+returns-in-Ok-clause-refused g c = λ told fails.
+    let o = c.in-Ok.ensures.passes told in
+    absurd (fails (o.header, o.passes))
+
+pub returns-in-Fault-clause-extends : goal.returns-in-Fault-clause-extends
+returns-in-Fault-clause-extends g c = λ told.
+    let fails = subst (λ (r : Refusal). Refuses (g.S.Store.bytes c.args.store) c.args.limit r) c.in-Fault.is (c.in-Err.ensures.refused told) in
+    fault_went (g.S.Store.bytes c.args.store) c.args.limit c.args.more (g.W.Sink.put c.args.sink.now) (g.W.Sink.put c.send_file_fault.new.sink)
+    c.in-Fault.fault c.answered.result c.send_file_fault.result fails c.send_file_fault.ensures.sent c.answered.ensures
+
+pub returns-in-Device-clause-holds_some : goal.returns-in-Device-clause-holds_some
+returns-in-Device-clause-holds_some g c = λ told places d is all.
+    subst (λ (b : List ℕ). ∥ HoldsSome b c.args.limit places d c.args.more ∥₁) (sym c.in-Err.ensures.unmoved.same)
+    (none_more c.followed_twice.ensures.none (g.S.Store.bytes c.args.store) c.args.limit places d c.args.more is all)
+
+pub returns-in-Device-clause-any_moment : goal.returns-in-Device-clause-any_moment
+returns-in-Device-clause-any_moment g c = λ told only places d is all.
+    stays g.S.Store.moment g.S.Store.images_since g.S.Store.bytes g.S.Store.images c.args.store c.args.store c.in-Err.store _
+    (at_start g.S.Store.bytes g.S.Store.images g.S.Store.moment g.S.Store.images_since c.args.store
+    (λ i. ∥ HoldsSome i c.args.limit places d c.args.more ∥₁) (λ i left. g.met.S.Store.only_now c.args.store i left)
+    only (none_more c.followed_twice.ensures.none (g.S.Store.bytes c.args.store) c.args.limit places d c.args.more is all)) c.in-Err.ensures.unmoved
+
+pub returns-in-Memory-clause-holds_some : goal.returns-in-Memory-clause-holds_some
+returns-in-Memory-clause-holds_some g c = λ told places d is all.
+    subst (λ (b : List ℕ). ∥ HoldsSome b c.args.limit places d c.args.more ∥₁) (sym c.in-Err.ensures.unmoved.same)
+    (none_more c.followed_twice.ensures.none (g.S.Store.bytes c.args.store) c.args.limit places d c.args.more is all)
+
+pub returns-in-Memory-clause-any_moment : goal.returns-in-Memory-clause-any_moment
+returns-in-Memory-clause-any_moment g c = λ told only places d is all.
+    stays g.S.Store.moment g.S.Store.images_since g.S.Store.bytes g.S.Store.images c.args.store c.args.store c.in-Err.store _
+    (at_start g.S.Store.bytes g.S.Store.images g.S.Store.moment g.S.Store.images_since c.args.store
+    (λ i. ∥ HoldsSome i c.args.limit places d c.args.more ∥₁) (λ i left. g.met.S.Store.only_now c.args.store i left)
+    only (none_more c.followed_twice.ensures.none (g.S.Store.bytes c.args.store) c.args.limit places d c.args.more is all)) c.in-Err.ensures.unmoved
+
+pub returns-in-Ok-clause-bytes : goal.returns-in-Ok-clause-bytes
+returns-in-Ok-clause-bytes g c = λ told passed.
+    let f = c.in-Ok.opened in
+    let tells = subst (λ (a : Answer). Told c.extend-extended.result c.records.result (g.W.Sink.put c.args.sink.now) (g.W.Sink.put c.tell-answer.new.sink) a) passed c.tell-answer.ensures.tells in
+    ∣ record {
+      schema = schema_of f;
+      placed = placed_of f;
+      opens = c.in-Ok.ensures.passes told;
+      bytes = ap g.S.Store.bytes c.into_store.ensures
+          ∙ passed_ok c.extend-extended.result c.records.result _ _ tells (c.extend-extended.ensures.bytes told)
+          ∙ ap (λ (b : List ℕ). filled_bytes b (schema_of f) (placed_of f) c.args.more) c.in-Ok.ensures.unmoved.same;
+    } ∣₁
+
+pub returns-in-Ok-clause-untouched : goal.returns-in-Ok-clause-untouched
+returns-in-Ok-clause-untouched g c = λ told refused.
+    let f = c.in-Ok.opened in
+    let s = schema_of f in
+    let p = placed_of f in
+    let new = c.extend-extended.new.file in
+    let same = c.in-Ok.ensures.unmoved.same in
+    let tells = subst (λ (a : Answer). Told c.extend-extended.result c.records.result (g.W.Sink.put c.args.sink.now) (g.W.Sink.put c.tell-answer.new.sink) a) refused c.tell-answer.ensures.tells in
+    let why = refused_for c.extend-extended.result c.records.result (g.W.Sink.put c.args.sink.now) (g.W.Sink.put c.tell-answer.new.sink) tells in
+    let e = why.0 in
+    let answer : ExtendsAs false s p c.args.more c.extend-extended.result =
+    subst (λ (b : Bool). ExtendsAs b s p c.args.more c.extend-extended.result) c.in-Ok.ensures.fresh c.extend-extended.ensures.answer in
+    let unchanged : e ≢ errors.Device → e ≢ errors.CountFull → new ≡ f = rw why.1 at c.extend-extended.ensures.unchanged in
+    ⊎_elim
+    (λ full.
+    let is : c.extend-extended.result ≡ Err errors.CountFull = why.1 ∙ ap (λ (x : AppendError). Err x) full in
+    let partly : ∥ LeavesFills (g.S.Store.bytes (store_of f)) s p (schema_of new) (placed_of new) g.S.Store.tells_bytes c.args.more errors.CountFull (g.S.Store.bytes (store_of new)) ∥₁ =
+    rw is at c.extend-extended.ensures.partly in
+    let room : IsFull (schema_of new).version (placed_of new) = (rw is at c.extend-extended.ensures.full) refl in
+    let how : ExtendsAs false s p c.args.more (Err errors.CountFull) = rw is at answer in
+    inr (subst (λ x. ∥ IsFilledUp (g.S.Store.bytes c.args.store) c.args.limit c.args.more (g.S.Store.bytes x) ∥₁) (sym c.into_store.ensures)
+    (∥∥₁_map partly (λ leaves. filled_up (g.S.Store.bytes c.args.store) c.args.limit s p (c.in-Ok.ensures.passes told) c.args.more how
+    (schema_of new) (placed_of new) g.S.Store.tells_bytes (g.S.Store.bytes (store_of new)) told
+    (subst (λ (b : List ℕ). LeavesFills b s p (schema_of new) (placed_of new) g.S.Store.tells_bytes c.args.more errors.CountFull (g.S.Store.bytes (store_of new))) same leaves) room))))
+    (λ other. inl (subst (λ x. Unmoved g.S.Store.bytes g.S.Store.images g.S.Store.moment g.S.Store.images_since c.args.store x)
+    (sym (c.into_store.ensures ∙ ap (λ x. store_of x) (unchanged why.2 other))) c.in-Ok.ensures.unmoved))
+    (is_full e)
+
+pub returns-in-Ok-clause-settled : goal.returns-in-Ok-clause-settled
+returns-in-Ok-clause-settled g c = λ some passed.
+    let tells = subst (λ (a : Answer). Told c.extend-extended.result c.records.result (g.W.Sink.put c.args.sink.now) (g.W.Sink.put c.tell-answer.new.sink) a) passed c.tell-answer.ensures.tells in
+    subst (λ s. Only (g.S.Store.bytes s) (g.S.Store.images s)) (sym c.into_store.ensures)
+    (passed_ok c.extend-extended.result c.records.result _ _ tells (c.extend-extended.ensures.settled some))
+
+pub returns-in-Ok-clause-leaves : goal.returns-in-Ok-clause-leaves
+returns-in-Ok-clause-leaves g c = λ told.
+    let f = c.in-Ok.opened in
+    let s = schema_of f in
+    let p = placed_of f in
+    let new = c.extend-extended.new.file in
+    let same = c.in-Ok.ensures.unmoved.same in
+    let stays : new ≡ f → Unmoved g.S.Store.bytes g.S.Store.images g.S.Store.moment g.S.Store.images_since c.args.store c.into_store.result =
+    λ is. subst (λ x. Unmoved g.S.Store.bytes g.S.Store.images g.S.Store.moment g.S.Store.images_since c.args.store x)
+    (sym (c.into_store.ensures ∙ ap (λ x. store_of x) is)) c.in-Ok.ensures.unmoved in
+    let filled = subst (λ (b : List ℕ). (new ≡ f) ⊎ (∥ IsFilledSome b c.args.limit c.args.more (g.S.Store.bytes (store_of new)) ∥₁)) same
+    (some_filled (g.S.Store.bytes (store_of f)) c.args.limit s p
+    (subst (λ (b : List ℕ). Opens b c.args.limit s p) (sym same) (c.in-Ok.ensures.passes told)) c.args.more
+    c.extend-extended.result
+    (subst (λ (b : Bool). ExtendsAs b s p c.args.more c.extend-extended.result) c.in-Ok.ensures.fresh c.extend-extended.ensures.answer)
+    (schema_of new) (placed_of new) g.S.Store.tells_bytes (g.S.Store.bytes (store_of new)) told
+    (c.extend-extended.ensures.bytes told) c.extend-extended.ensures.partly (new ≡ f)
+    c.extend-extended.ensures.none c.extend-extended.ensures.unchanged) in
+    ⊎_elim (λ is. inl (stays is))
+    (λ some. inr (subst (λ x. ∥ IsFilledSome (g.S.Store.bytes c.args.store) c.args.limit c.args.more (g.S.Store.bytes x) ∥₁)
+    (sym c.into_store.ensures) some)) filled
+
+pub returns-in-Ok-clause-calls_refused : goal.returns-in-Ok-clause-calls_refused
+returns-in-Ok-clause-calls_refused g c = λ told fails.
+    let o = c.in-Ok.ensures.passes told in
+    absurd (fails (o.header, o.passes))

@@ -1,0 +1,52 @@
+use Rattle.std.proofs.Common.{◌≡◌, List, ℕ, ap, sym, subst, ◌∙◌, arith}
+use Rattle.ncc_schema.specs.declared.schema.Header.{Header}
+use Rattle.ncc_schema.specs.declared.schema.Schema.{Schema}
+use Rattle.ncc_check.specs.declared.fault.Refusal.{Refusal}
+use Rattle.ncc_check.specs.Checks.{Refuses}
+use Rattle.ncc_check.specs.Files.{store_of, schema_of, placed_of}
+use Rattle.ncc_csv.specs.Named.{IsFirstNamed}
+use Rattle.ncc_engines.specs.Selecting.{Contents, contents_in, contents_of, value_calls, IsCsvText, IsSelection}
+use Rattle.ncc_engines.proofs.Sent.{Gone}
+use Rattle.ncc_engines.proofs.SentTable.{Laws, OneAnswer, opened_contents, sent_opened, sent_fault}
+use Rattle.ncc_engines.proofs.selecting.csv_engine.Goals as goal
+
+pub returns-in-Ok-clause-selects : goal.returns-in-Ok-clause-selects
+returns-in-Ok-clause-selects g c = λ told.
+    let laws : Laws = record { apart = c.passing_has_no_fault.ensures.apart; one_header = c.header_or_stop.ensures.one_header; one_fault = c.passing_has_no_fault.ensures.one_fault } in
+    let f = c.in-Ok.opened in
+    let old = g.W.Sink.put c.args.sink.now in
+    let new = g.W.Sink.put c.select-answer.new.sink in
+    let gone = subst (λ (b : List ℕ). Gone (IsSelection (contents_in b (schema_of f) (placed_of f)) c.args.name.now c.args.pick) old new c.select-answer.result) c.in-Ok.ensures.unmoved.same (c.select-answer.ensures.selects told) in
+    sent_opened laws (g.S.Store.bytes c.args.store) c.args.limit c.args.name.now c.args.pick (schema_of f) (placed_of f) (c.in-Ok.ensures.passes told) old new c.select-answer.result gone
+
+pub returns-in-Fault-clause-selects : goal.returns-in-Fault-clause-selects
+returns-in-Fault-clause-selects g c = λ told.
+    let fails = subst (λ (r : Refusal). Refuses (g.S.Store.bytes c.args.store) c.args.limit r) c.in-Fault.is (c.in-Err.ensures.refused told) in
+    let one : OneAnswer (IsCsvText (g.S.Store.bytes c.args.store) c.args.limit c.args.name.now c.args.pick) = λ a b t u x y. c.one_csv_text.ensures (g.S.Store.bytes c.args.store) c.args.limit c.args.name.now c.args.pick a b t u x y in
+    sent_fault (g.S.Store.bytes c.args.store) c.args.limit c.args.name.now c.args.pick one (g.W.Sink.put c.args.sink.now) (g.W.Sink.put c.send_file_fault.new.sink) c.in-Fault.fault c.answered.result c.send_file_fault.result
+    fails c.send_file_fault.ensures.sent c.answered.ensures
+
+pub returns-in-Ok-clause-calls : goal.returns-in-Ok-clause-calls
+returns-in-Ok-clause-calls g c = λ told h passes number is.
+    let f = c.in-Ok.opened in
+    let bytes = g.S.Store.bytes c.args.store in
+    let o = c.in-Ok.ensures.passes told in
+    let same : h ≡ o.header = c.header_or_stop.ensures.one_header bytes c.args.limit h o.header passes.begins o.passes.begins in
+    let schema : h.schema ≡ schema_of f = ap (λ (k : Header). k.schema) same ∙ sym o.schema_is in
+    let named = subst (λ (s : Schema). IsFirstNamed s.vars c.args.name.now number) schema is in
+    let contents : contents_in (g.S.Store.bytes (store_of f)) (schema_of f) (placed_of f) ≡ contents_of bytes h =
+    ap (λ (b : List ℕ). contents_in b (schema_of f) (placed_of f)) c.in-Ok.ensures.unmoved.same
+    ∙ opened_contents bytes c.args.limit (schema_of f) (placed_of f) o
+    ∙ ap (contents_of bytes) (sym same) in
+    omega (
+      arith,
+      c.select-answer.ensures.calls number named,
+      c.in-Ok.ensures.calls told,
+      ap (λ (k : Contents). value_calls k c.args.pick number) contents,
+      ap g.S.Store.calls c.into_store.ensures,
+    )
+
+pub returns-in-Ok-clause-stopped : goal.returns-in-Ok-clause-stopped
+returns-in-Ok-clause-stopped g c = λ told fails.
+    let o = c.in-Ok.ensures.passes told in
+    absurd (fails (o.header, o.passes))

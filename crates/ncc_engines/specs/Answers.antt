@@ -1,0 +1,27 @@
+-- What a command wrote, by its answer.
+use Rattle.std.specs.Prelude.{◌≡◌, ℕ, List, ◌++◌, Result, Ok, Err}
+use Rattle.ncc_lines.specs.declared.halt.Halt.{Halt}
+use Rattle.ncc_lines.specs.declared.halt.Halt.TheVariants as halts
+use Rattle.ncc_engines.specs.declared.answer.Answer.{Answer}
+use Rattle.ncc_engines.specs.declared.answer.Answer.TheVariants.{Passed, Refused, Device, Memory}
+
+-- which texts are right for a command that comes to this answer by itself: Passed or Refused
+abbrev pub Texts : Type 1
+Texts = Answer → List ℕ → Type 0
+
+-- each right text begins with what went out
+abbrev pub BeginsEach : Texts → (out : List ℕ) → Type 0
+BeginsEach IsText out = (answer : Answer) → (text : List ℕ) → IsText answer text → (rest : List ℕ) × (text ≡ out ++ rest)
+
+-- what went out: the text, or after a failure of the device or a want of memory a front of it
+abbrev pub Writes : Texts → Answer → (out : List ℕ) → Type 0
+Writes IsText Passed out = IsText Passed out
+Writes IsText Refused out = IsText Refused out
+Writes IsText Device out = BeginsEach IsText out
+Writes IsText Memory out = BeginsEach IsText out
+
+-- this answer, where the text went out
+abbrev pub answer_of : Result (Unit {0}) Halt → Answer → Answer
+answer_of (Ok x) answer = answer
+answer_of (Err halts.Device) answer = Device
+answer_of (Err halts.Memory) answer = Memory

@@ -1,0 +1,95 @@
+-- What the extend engine writes.
+use Rattle.std.specs.Prelude.{◌≡◌, ◌≢◌, ◌⊎◌, ℕ, ◌+◌, ◌<◌, ◌≤◌, Bool, false, List, [], ◌++◌, Result, Ok, Err}
+use Rattle.ncc_schema.specs.declared.schema.Count.TheVariants.{Known}
+use Rattle.ncc_schema.specs.declared.schema.Schema.{Schema}
+use Rattle.ncc_layout.specs.declared.placed_file.Placed.{Placed}
+use Rattle.ncc_layout.specs.Placed.{records_of_file}
+use Rattle.ncc_check.specs.Checks.{Opens}
+use Rattle.ncc_check.specs.declared.append_error.AppendError.{AppendError}
+use Rattle.ncc_check.specs.declared.append_error.AppendError.TheVariants as errors
+use Rattle.ncc_lines.specs.Refusals.{append_line}
+use Rattle.ncc_lines.specs.Texts.{records_line}
+use Rattle.ncc_check.specs.AppendLaws.{CanGrow}
+use Rattle.ncc_write.specs.Extends.{ExtendsAs, HasFillsOrNot, IsFullFor, filled_bytes}
+use Rattle.ncc_engines.specs.declared.answer.Answer.{Answer}
+use Rattle.ncc_engines.specs.declared.answer.Answer.TheVariants.{Passed, Refused, Device, Memory}
+use Rattle.ncc_engines.specs.Answers.{Texts}
+use Rattle.ncc_engines.specs.Checking.{IsFaultOf}
+
+-- ---- an open file
+
+-- all of the records can be added, and the line says how many there are then; or one of them can't, and the line says why
+abbrev pub IsExtended : Schema → Placed → (more : ℕ) → Answer → (text : List ℕ) → Type 0
+IsExtended s p n Passed text =
+    ExtendsAs false s p n (Ok tt) × (text ≡ records_line (Known (records_of_file p + n)))
+IsExtended s p n Refused text = (e : AppendError) × ExtendsAs false s p n (Err e)
+    × (e ≢ errors.Device) × (e ≢ errors.Memory) × (text ≡ append_line e)
+IsExtended s p n Device text = ⊥
+IsExtended s p n Memory text = ⊥
+
+-- ---- of bytes
+
+abbrev pub IsExtensionOf : (bytes : List ℕ) (limit more : ℕ) → Answer → (text : List ℕ) → Type 0
+IsExtensionOf b limit n answer text =
+    (s : Schema) × (p : Placed) × Opens b limit s p × IsExtended s p n answer text
+
+abbrev pub IsExtendText : (bytes : List ℕ) (limit more : ℕ) → Answer → (text : List ℕ) → Type 0
+IsExtendText b limit n Passed text = IsExtensionOf b limit n Passed text
+IsExtendText b limit n Refused text = IsExtensionOf b limit n Refused text ⊎ IsFaultOf b limit text
+IsExtendText b limit n Device text = ⊥
+IsExtendText b limit n Memory text = ⊥
+
+-- nothing went out, or a front of a right text
+abbrev pub IsFrontOfText : Texts → (out : List ℕ) → Type 0
+IsFrontOfText IsText out = (out ≡ []) ⊎
+    ((answer : Answer) × (text : List ℕ) × (rest : List ℕ) × IsText answer text × (text ≡ out ++ rest))
+
+-- what went out, by the answer
+abbrev pub ExtendsInto : (bytes : List ℕ) (limit more : ℕ) → Answer → (out : List ℕ) → Type 0
+ExtendsInto b limit n Passed out = IsExtendText b limit n Passed out
+ExtendsInto b limit n Refused out = IsExtendText b limit n Refused out
+ExtendsInto b limit n Device out = IsFrontOfText (IsExtendText b limit n) out
+ExtendsInto b limit n Memory out = IsFrontOfText (IsExtendText b limit n) out
+
+-- ---- what stands
+
+-- bytes that were opened, with so many records of fill values more
+pub record IsFilled (old : List ℕ) (limit more : ℕ) (new : List ℕ) : Type 0 where
+  pub schema : Schema
+  pub placed : Placed
+  pub opens : Opens old limit schema placed
+  pub bytes : new ≡ filled_bytes old schema placed more
+
+-- the records that there is room for were added, and no more
+pub record IsFilledUp (old : List ℕ) (limit more : ℕ) (new : List ℕ) : Type 0 where
+  pub fits : ℕ
+  pub fewer : fits < more
+  pub filled : IsFilled old limit fits new
+  pub grows : CanGrow filled.schema filled.placed
+  pub full : IsFullFor filled.schema.version filled.placed (fits + 1)
+
+-- some of the records were added to a file that takes records, at most so many, and of the next one nothing below its
+-- place or all
+pub record IsFilledSome (old : List ℕ) (limit most : ℕ) (new : List ℕ) : Type 0 where
+  pub schema : Schema
+  pub placed : Placed
+  pub opens : Opens old limit schema placed
+  pub grows : CanGrow schema placed
+  pub more : ℕ
+  pub few : more ≤ most
+  pub is : (new ≡ filled_bytes old schema placed more) ⊎ ((more < most) × HasFillsOrNot old schema placed more new)
+
+-- ---- telling
+
+abbrev pub TellsText : Result (Unit {0}) AppendError → (records : ℕ) → Texts
+TellsText (Ok x) n Passed text = text ≡ records_line (Known n)
+TellsText (Ok x) n answer text = ⊥
+TellsText (Err e) n Refused text = (e ≢ errors.Device) × (e ≢ errors.Memory) × (text ≡ append_line e)
+TellsText (Err e) n answer text = ⊥
+
+-- what went out, by the answer
+abbrev pub Tells : Result (Unit {0}) AppendError → (records : ℕ) → Answer → (out : List ℕ) → Type 0
+Tells result n Passed out = TellsText result n Passed out
+Tells result n Refused out = TellsText result n Refused out
+Tells result n Device out = IsFrontOfText (TellsText result n) out
+Tells result n Memory out = IsFrontOfText (TellsText result n) out

@@ -1,0 +1,7 @@
+pub mod Answers
+pub mod Listing
+pub mod Checking
+pub mod Selecting
+pub mod Extending
+pub mod Converting
+pub mod Planning

@@ -1,0 +1,18 @@
+//! What each command of `ncc` does, over any source, store and sink.
+#![tactic(auto)]
+
+mod answer;
+mod checking;
+mod converting;
+mod extending;
+mod listing;
+mod planning;
+mod selecting;
+
+pub use answer::{Answer, answered};
+pub use checking::check_engine;
+pub use converting::convert_engine;
+pub use extending::extend_engine;
+pub use listing::list_engine;
+pub use planning::plan;
+pub use selecting::csv_engine;

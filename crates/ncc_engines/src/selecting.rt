@@ -1,0 +1,136 @@
+//! `csv`: the names and rows of a selection.
+
+ghost use Rattle.std.specs.Prelude.{◌≡◌, ◌⊎◌, ◌+◌, ◌≤◌, ℕ, Option, List, length, IsTrue};
+ghost use Rattle.ncc_schema.specs.Device.{Puts};
+ghost use Rattle.ncc_schema.specs.declared.schema.Header.{Header};
+ghost use Rattle.ncc_store.specs.Store.{Unmoved, KeepsImages};
+ghost use Rattle.ncc_values.specs.Failures.{Rose};
+ghost use Rattle.ncc_check.specs.Files.{store_of, schema_of, placed_of};
+ghost use Rattle.ncc_check.specs.FromStore.{calls_for};
+ghost use Rattle.ncc_check.specs.Passes.{Passes, PassesWith, HasOwnElements};
+ghost use Rattle.ncc_csv.specs.Named.{IsFirstNamed};
+ghost use Rattle.ncc_engines.specs.Answers.{Writes};
+ghost use Rattle.ncc_engines.specs.Selecting.{contents_in, contents_of, value_calls, sheet_answer, IsCsvText, IsSelection, SelectsInto};
+ghost use Rattle.ncc_engines.specs.declared.answer.Answer.{Answer as GivenAnswer};
+ghost use Rattle.ncc_csv.specs.declared.pick.Pick.{Pick as GivenPick};
+
+use crate::answer::{Answer, answered};
+use ncc_check::{NcFile, Refusal, laws as check_laws, open};
+use ncc_csv::{Pick, laws as csv_laws, send_refusal, send_sheet, var_named};
+use ncc_header::Sink;
+use ncc_header::laws::header_or_stop;
+use ncc_lines::{Halt, Progress, send_file_fault};
+use ncc_slab::SlabFault;
+use ncc_store::Store;
+use std::alloc::Global;
+
+/// Of any bytes one answer and one text at most is right.
+fn one_csv_text()
+    ensures { (bytes : List ℕ) (limit : ℕ) (name : List ℕ) (pick : GivenPick) (a b : GivenAnswer) (t u : List ℕ)
+        → IsCsvText bytes limit name pick a t → IsCsvText bytes limit name pick b u → (a ≡ b) × (t ≡ u) }
+{
+    check_laws::passing_has_no_fault();
+    header_or_stop();
+}
+
+/// What a selection comes to that was sent, or refused.
+fn told(sent: Result<bool, Halt>) -> Answer
+    ensures { result ≡ sheet_answer sent }
+{
+    match sent {
+        Ok(true) => Answer::Passed,
+        Ok(false) => Answer::Refused,
+        Err(Halt::Device) => Answer::Device,
+        Err(Halt::Memory) => Answer::Memory,
+    }
+}
+
+/// Writes the names and rows of a selection of an open file, or the line of its refusal.
+fn select<S: Store, W: Sink, P: Progress>(
+    alloc: Global,
+    file: &mut NcFile<S>,
+    name: &[u8],
+    pick: Pick,
+    sink: &mut W,
+    progress: &mut P,
+) -> Answer
+    ensures selects { IsTrue S.tells_bytes → (out : List ℕ) × Puts (W.put sink.old) (W.put sink.new) out × Writes
+        (IsSelection (contents_in (S.bytes (store_of file.old)) (schema_of file.old) (placed_of file.old))
+        name.now pick)
+        result out }
+    ensures unmoved { Unmoved S.bytes S.images S.moment S.images_since (store_of file.old) (store_of file.new) }
+    ensures kept { KeepsImages (S.images (store_of file.old)) (S.images (store_of file.new)) }
+    ensures quiet { (result ≡ Answer.Device → ⊥) → (S.failures (store_of file.new) ≡ S.failures (store_of file.old))
+        × (W.failures sink.new ≡ W.failures sink.old) }
+    ensures device { result ≡ Answer.Device → Rose (S.failures (store_of file.old)) (S.failures (store_of file.new))
+        ⊎ Rose (W.failures sink.old) (W.failures sink.new) }
+    ensures calls { (number : Option ℕ) → IsFirstNamed (schema_of file.old).vars name.now number
+        → S.calls (store_of file.new) ≤ S.calls (store_of file.old) + value_calls
+        (contents_in (S.bytes (store_of file.old)) (schema_of file.old) (placed_of file.old)) pick number }
+{
+    check_laws::open_file_places_all(file);
+    csv_laws::pick_fault_is_shape_fault();
+    let Some(var) = var_named(file.schema().vars.as_slice(), name) else {
+        return answered(
+            send_refusal(alloc, SlabFault::NoVariable, sink),
+            Answer::Refused,
+        );
+    };
+    match pick.slab(alloc, file.placed().shape(var)) {
+        Ok(slab) => told(send_sheet(alloc, file, var, &slab, sink, progress)),
+        Err(fault) => {
+            if fault == SlabFault::Memory {
+                return Answer::Memory;
+            }
+            answered(send_refusal(alloc, fault, sink), Answer::Refused)
+        }
+    }
+}
+
+/// Writes the names and rows of what is picked of the first variable of this name, in a file that passes
+/// with at most `limit` bytes of header; or the line of its refusal, or of the file's first fault.
+pub fn csv_engine<S: Store, W: Sink, P: Progress>(
+    alloc: Global,
+    store: S,
+    limit: u64,
+    name: &[u8],
+    pick: Pick,
+    sink: &mut W,
+    progress: &mut P,
+) -> (S, Answer)
+    ensures selects { IsTrue S.tells_bytes → (out : List ℕ) × Puts (W.put sink.old) (W.put sink.new) out
+        × SelectsInto (S.bytes store) limit name.now pick result.1 out }
+    ensures own { IsTrue S.tells_bytes → result.1 ≡ Answer.Passed → HasOwnElements (S.bytes store) limit }
+    ensures unmoved { Unmoved S.bytes S.images S.moment S.images_since store result.0 }
+    ensures kept { KeepsImages (S.images store) (S.images result.0) }
+    ensures quiet { (result.1 ≡ Answer.Device → ⊥)
+        → (S.failures result.0 ≡ S.failures store) × (W.failures sink.new ≡ W.failures sink.old) }
+    ensures device { result.1 ≡ Answer.Device
+        → Rose (S.failures store) (S.failures result.0) ⊎ Rose (W.failures sink.old) (W.failures sink.new) }
+    ensures calls { IsTrue S.tells_bytes → (h : Header) → PassesWith (S.bytes store) limit h
+        → (number : Option ℕ) → IsFirstNamed h.schema.vars name.now number → S.calls result.0 ≤ S.calls store
+        + calls_for (length (S.bytes store)) limit + value_calls (contents_of (S.bytes store) h) pick number }
+    ensures stopped { IsTrue S.tells_bytes → (Passes (S.bytes store) limit → ⊥)
+        → S.calls result.0 ≤ S.calls store + calls_for (length (S.bytes store)) limit }
+{
+    check_laws::passing_has_no_fault();
+    header_or_stop();
+    one_csv_text();
+    match open(alloc, store, limit) {
+        Ok(opened) => {
+            let mut file = opened;
+            let answer = select(alloc, &mut file, name, pick, sink, progress);
+            (file.into_store(), answer)
+        }
+        Err((store, refusal)) => match refusal {
+            Refusal::Fault(fault) => {
+                (
+                    store,
+                    answered(send_file_fault(alloc, fault, sink), Answer::Refused),
+                )
+            }
+            Refusal::Device => (store, Answer::Device),
+            Refusal::Memory => (store, Answer::Memory),
+        },
+    }
+}

@@ -1,0 +1,171 @@
+//! Files that are extended: what is printed, and what they are then.
+
+use ncc_engines::{Answer, extend_engine};
+use ncc_files::{FIXED, LIMIT, RECORDS, RECORDS_DATA, TWO_RECORD_VARIABLES, bytes_of, with_byte};
+use ncc_header::WriteSink;
+use ncc_store::{FuseStore, MemStore};
+use std::alloc::{AllocError, Global};
+use std::test::*;
+
+/// A file, how many records are added, what that comes to and prints, and what the file is then.
+#[derive(Drop)]
+struct Row {
+    bytes: Vec<u8>,
+    more: u64,
+    answer: Answer,
+    text: &'static str,
+    after: Vec<u8>,
+}
+
+/// Three records of a short, and these bytes behind them, with this many records by the header.
+fn records(alloc: Global, count: u8, behind: &[u8]) -> Result<Vec<u8>, AllocError> {
+    let mut bytes = with_byte(alloc, &RECORDS, 7, count)?;
+    bytes.extend_from_slice(&RECORDS_DATA)?;
+    bytes.extend_from_slice(behind)?;
+    Ok(bytes)
+}
+
+/// Two records of a byte and of a short, which has no padding behind the last.
+fn two_variables(alloc: Global, count: u8, behind: &[u8]) -> Result<Vec<u8>, AllocError> {
+    let mut bytes = with_byte(alloc, &TWO_RECORD_VARIABLES, 7, count)?;
+    bytes.truncate(130);
+    bytes.extend_from_slice(behind)?;
+    Ok(bytes)
+}
+
+/// Two records whose second variable begins two bytes behind the padding of the first.
+fn with_gap(alloc: Global) -> Result<Vec<u8>, AllocError> {
+    with_byte(alloc, &TWO_RECORD_VARIABLES, 115, 122)
+}
+
+/// Three records of a short, the last of which lacks a byte.
+fn records_cut(alloc: Global) -> Result<Vec<u8>, AllocError> {
+    let mut bytes = records(alloc, 3, &[])?;
+    bytes.truncate(85);
+    Ok(bytes)
+}
+
+/// The three records of a file that is still written.
+fn streaming(alloc: Global) -> Result<Vec<u8>, AllocError> {
+    let mut words = RECORDS;
+    words[1] = 0xffffffff;
+    let mut bytes = bytes_of(alloc, &words)?;
+    bytes.extend_from_slice(&RECORDS_DATA)?;
+    Ok(bytes)
+}
+
+/// The file is refused by this line, and stays.
+fn refused(
+    alloc: Global,
+    bytes: Vec<u8>,
+    more: u64,
+    text: &'static str,
+) -> Result<Row, AllocError> {
+    let after = bytes.to_vec(alloc)?;
+    Ok(Row {
+        bytes,
+        more,
+        answer: Answer::Refused,
+        text,
+        after,
+    })
+}
+
+/// The file has these bytes then.
+fn extended(bytes: Vec<u8>, more: u64, text: &'static str, after: Vec<u8>) -> Row {
+    Row {
+        bytes,
+        more,
+        answer: Answer::Passed,
+        text,
+        after,
+    }
+}
+
+fn rows(alloc: Global) -> Result<Vec<Row>, AllocError> {
+    let three = [0x80, 1, 0x80, 1, 0x80, 1];
+    let both = [0, 0, 0x81, 0x81, 0x81, 0x81, 0x80, 1, 0x80, 1];
+    let mut rows = Vec::new(alloc);
+    rows.push(extended(
+        records(alloc, 3, &[])?,
+        1,
+        "records 4\n",
+        records(alloc, 4, &three[..2])?,
+    ))?;
+    rows.push(extended(
+        records(alloc, 3, &[])?,
+        3,
+        "records 6\n",
+        records(alloc, 6, &three)?,
+    ))?;
+    rows.push(extended(
+        records(alloc, 3, &[])?,
+        0,
+        "records 3\n",
+        records(alloc, 3, &[])?,
+    ))?;
+    rows.push(extended(
+        two_variables(alloc, 2, &[])?,
+        1,
+        "records 3\n",
+        two_variables(alloc, 3, &both)?,
+    ))?;
+    rows.push(extended(
+        bytes_of(alloc, &FIXED)?,
+        0,
+        "records 0\n",
+        bytes_of(alloc, &FIXED)?,
+    ))?;
+    rows.push(extended(streaming(alloc)?, 0, "records 3\n", streaming(alloc)?))?;
+    rows.push(refused(
+        alloc,
+        bytes_of(alloc, &FIXED)?,
+        1,
+        "refused NoRecordVariable\n",
+    )?)?;
+    rows.push(refused(alloc, streaming(alloc)?, 2, "refused Streaming\n")?)?;
+    rows.push(refused(alloc, with_gap(alloc)?, 1, "refused NotPacked\n")?)?;
+    rows.push(extended(with_gap(alloc)?, 0, "records 2\n", with_gap(alloc)?))?;
+    rows.push(refused(alloc, Vec::new(alloc), 0, "fault EndsEarly at 0\n")?)?;
+    rows.push(refused(alloc, records_cut(alloc)?, 1, "fault Truncated at 76\n")?)?;
+    Ok(rows)
+}
+
+#[test]
+fn files_that_are_extended(rt: HostRuntime) -> Result<(), Fail> {
+    let alloc = rt.alloc();
+    for row in rows(alloc)? {
+        let Row {
+            bytes,
+            more,
+            answer,
+            text,
+            after,
+        } = row;
+        let mut sink = WriteSink::new(Vec::new(alloc));
+        let (store, found) = extend_engine(alloc, MemStore::new(bytes), LIMIT, more, &mut sink);
+        assert!(rt; found == answer);
+        assert!(rt; sink.into_inner().as_slice() == text.as_bytes(), "{text}");
+        assert!(rt; store.into_bytes().as_slice() == after.as_slice());
+    }
+    Ok(())
+}
+
+/// Two calls check the file; each record takes four, or five where bytes are missing before it.
+#[test]
+fn stores_that_fail(rt: HostRuntime) -> Result<(), Fail> {
+    let alloc = rt.alloc();
+    for calls in 0..12 {
+        let store = FuseStore::new(MemStore::new(two_variables(alloc, 2, &[])?), calls);
+        let mut sink = WriteSink::new(Vec::new(alloc));
+        let (_, answer) = extend_engine(alloc, store, LIMIT, 2, &mut sink);
+        let (wanted, text) = if calls < 11 {
+            (Answer::Device, "")
+        } else {
+            (Answer::Passed, "records 4\n")
+        };
+        assert!(rt; answer == wanted);
+        assert!(rt; sink.into_inner().as_slice() == text.as_bytes());
+    }
+    Ok(())
+}

@@ -1,0 +1,126 @@
+//! What `list` and `check` say of a file.
+
+use ncc_csv::{Pick, parse_list};
+use ncc_engines::{Answer, check_engine, csv_engine, list_engine};
+use ncc_files::LIMIT;
+use ncc_header::{ReadSource, Seq, WriteSink};
+use ncc_lines::Unshown;
+use ncc_store::MemStore;
+use std::alloc::{AllocError, Global};
+use std::process::Abort;
+
+/// What `list` says of it.
+pub const ATTRIBUTES_TEXT: &str = "format CDF-1
+records 0
+dimension 0  2
+attribute global n short 0
+variable 0 s double fixed begin 184 dims 0
+attribute 0 u int 2 -1 7
+attribute 0 e char 0
+variable 1 v byte fixed begin 192 dims 1 
+attribute 1 c char 3 a\\x5c\\x20
+";
+
+/// A header with a note of each kind: its number of records, the padding of x, the other x, the empty list of
+/// attributes, the name `/`, and of its two variables the vsize, the begin, and the order of the begins.
+pub const EACH_NOTE: [u32; 31] = [
+    0x43444601, 0x80000000, 0x0a, 2, 1, 0x78000001, 3, 1, 0x78000000, 4, 0x0c, 0, 0x0b, 2, 1,
+    0x2f000000, 0, 0, 0, 1, 5, 121, 1, 0x62000000, 0, 0, 0, 1, 4, 120, 0,
+];
+
+/// What `check` says of it.
+pub const EACH_NOTE_TEXT: &str = "ok CDF-1 records 2147483648 variables 2
+note LargeCount at 4
+note HeaderPadding at 21
+note DuplicateName at 28
+note TaggedEmpty at 40
+note NameRule at 56
+note VsizeField at 80
+note UnalignedBegin at 84
+note Order at 116
+";
+
+/// `list` of this input, with headers of at most `limit` bytes, has this answer and text.
+pub fn expect_within<R: Abort + AllocGlobal>(
+    rt: &R,
+    input: &[u8],
+    limit: u64,
+    answer: Answer,
+    text: &str,
+) {
+    let mut source = ReadSource::new(input);
+    let mut sink = WriteSink::new(Vec::new(rt.alloc()));
+    assert!(rt; list_engine(rt.alloc(), &mut source, limit, &mut sink) == answer);
+    let written = sink.into_inner();
+    assert!(rt; written.as_slice() == text.as_bytes());
+}
+
+/// The input passes, and its lines are these.
+pub fn expect_list<R: Abort + AllocGlobal>(rt: &R, input: &[u8], text: &str) {
+    expect_within(rt, input, LIMIT, Answer::Passed, text);
+}
+
+/// The input is refused, by this line.
+pub fn expect_fault<R: Abort + AllocGlobal>(rt: &R, input: &[u8], line: &str) {
+    expect_within(rt, input, LIMIT, Answer::Refused, line);
+}
+
+/// `check` of these bytes has this answer and text, by whether notes are faults.
+pub fn expect_verdict<R: Abort + AllocGlobal>(
+    rt: &R,
+    bytes: &[u8],
+    strict: bool,
+    answer: Answer,
+    text: &str,
+) -> Result<(), AllocError> {
+    let alloc = rt.alloc();
+    let mut store = MemStore::new(bytes.to_vec(alloc)?);
+    let mut sink = WriteSink::new(Vec::new(alloc));
+    assert!(rt; check_engine(alloc, &mut store, LIMIT, strict, &mut sink) == answer);
+    let written = sink.into_inner();
+    assert!(rt; written.as_slice() == text.as_bytes());
+    assert!(rt; store.into_bytes().as_slice() == bytes);
+    Ok(())
+}
+
+/// The first so many bytes, or all of them.
+pub fn front(bytes: &[u8], size: usize) -> &[u8] {
+    bytes.split_at(size.min(bytes.len())).0
+}
+
+/// The numbers of a list that is given, or none where it is empty.
+fn numbers(alloc: Global, list: &str) -> Result<Option<Seq<u64>>, AllocError> {
+    if list.is_empty() {
+        return Ok(None);
+    }
+    parse_list(alloc, list)
+}
+
+/// What is picked by these lists: start, count and stride.
+pub fn pick_of(alloc: Global, start: &str, count: &str, stride: &str) -> Result<Pick, AllocError> {
+    Ok(Pick {
+        start: numbers(alloc, start)?,
+        count: numbers(alloc, count)?,
+        stride: numbers(alloc, stride)?,
+    })
+}
+
+/// What `csv` prints of what is picked of a variable in a file of these bytes has this answer and text.
+pub fn expect_rows<R: Abort + AllocGlobal>(
+    rt: &R,
+    bytes: &[u8],
+    name: &str,
+    pick: Pick,
+    answer: Answer,
+    text: &str,
+) -> Result<(), AllocError> {
+    let alloc = rt.alloc();
+    let store = MemStore::new(bytes.to_vec(alloc)?);
+    let mut sink = WriteSink::new(Vec::new(alloc));
+    let name = name.as_bytes();
+    let (_, found) = csv_engine(alloc, store, LIMIT, name, pick, &mut sink, &mut Unshown);
+    assert!(rt; found == answer);
+    let written = sink.into_inner();
+    assert!(rt; written.as_slice() == text.as_bytes(), "{text}");
+    Ok(())
+}
