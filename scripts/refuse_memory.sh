@@ -1,14 +1,15 @@
 #!/usr/bin/env bash
 # Refuses each allocation, one in each run, of a run of each command, of `ncc check` over a file with a note of each
-# kind. Each run must write the whole text with status 0, or a beginning of it and `error memory` with status 3. The
-# program is the first word, or the one that scripts/test.sh left. It needs a C compiler.
+# kind. Each run must write the whole text with status 0, or a beginning of it and `error memory` with status 3. Then
+# each sync: what wants one must write nothing and `error device` with status 3. The program is the first word, or the
+# one that scripts/test.sh left. It needs a C compiler.
 set -uo pipefail
 top=$(cd "$(dirname "$0")/.." && pwd)
 ncc=$(realpath "${1:-$top/crates/ncc_cli/out/ncc_cli}") || exit 1
 folder=$(mktemp -d)
 trap 'rm -rf "$folder"' EXIT
 cd "$folder" || exit 1
-cc -O1 -shared -fPIC -o refuse.so "$top/scripts/refuse_allocation.c" -ldl || exit 1
+cc -O1 -shared -fPIC -o refuse.so "$top/scripts/refuse_calls.c" -ldl || exit 1
 
 # A run of the program's words in a new folder with the examples.
 run() {
@@ -37,8 +38,21 @@ refuse() {
   echo "$*: $count allocations refused, $memory answered error memory, the others were whole"
 }
 
+# The run of the command line that follows, of which each sync fails.
+unsynced() {
+  UNSYNCED=1 run "$@"
+  local found="status $?, wrote: $(cat out)$(cat err)"
+  if [ "$found" != 'status 3, wrote: error device' ]; then
+    echo "$*: no sync: $found"
+    exit 1
+  fi
+  echo "$*: no sync: $found"
+}
+
 refuse "$(cat "$top/examples/noted.listed")" list noted.nc
 refuse "$(cat "$top/examples/noted.checked")" check noted.nc
 refuse "$(printf 'dim,vx\n1,1\n3,1')" csv tiny.nc vx --start 1 --stride 2
 refuse "records 3" extend ocean.nc 1
 refuse "ok CDF-2" convert --to 2 tiny.nc out.nc
+unsynced extend ocean.nc 1
+unsynced convert --to 2 tiny.nc out.nc

@@ -12,7 +12,7 @@ tests=$(realpath "$tests")
 folder=$(mktemp -d)
 trap 'rm -rf "$folder"' EXIT
 cd "$folder" || exit 1
-cc -O1 -shared -fPIC -o refuse.so "$top/scripts/refuse_allocation.c" -ldl || exit 1
+cc -O1 -shared -fPIC -o refuse.so "$top/scripts/refuse_calls.c" -ldl || exit 1
 runs=0
 failed=0
 for name in $("$tests" --list | sed -n 's/: test$//p' | grep without_memory); do

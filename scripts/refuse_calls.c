@@ -1,5 +1,6 @@
-// Refuses one allocation of a run: the one whose number the variable REFUSED has. At the end of the run it writes how
-// many there were onto the file that COUNTED names. Preloaded by refuse_memory.sh and refuse_test_memory.sh.
+// Refuses one allocation of a run, the one whose number the variable REFUSED has; or each sync, where UNSYNCED is there.
+// At the end of the run it writes how many allocations there were onto the file that COUNTED names. Preloaded by
+// refuse_memory.sh and refuse_test_memory.sh.
 #define _GNU_SOURCE
 #include <dlfcn.h>
 #include <errno.h>
@@ -12,6 +13,7 @@ static int counts;
 static void *(*given_malloc)(size_t);
 static void *(*given_realloc)(void *, size_t);
 static int (*given_memalign)(void **, size_t, size_t);
+static int (*given_fsync)(int);
 
 __attribute__((constructor)) static void begin(void) {
   const char *number = getenv("REFUSED");
@@ -19,6 +21,7 @@ __attribute__((constructor)) static void begin(void) {
   given_malloc = dlsym(RTLD_NEXT, "malloc");
   given_realloc = dlsym(RTLD_NEXT, "realloc");
   given_memalign = dlsym(RTLD_NEXT, "posix_memalign");
+  given_fsync = dlsym(RTLD_NEXT, "fsync");
   counts = 1;
 }
 
@@ -41,6 +44,12 @@ static int is_refused(void) {
 void *malloc(size_t size) { return is_refused() ? NULL : given_malloc(size); }
 
 void *realloc(void *old, size_t size) { return is_refused() ? NULL : given_realloc(old, size); }
+
+int fsync(int file) {
+  if (!getenv("UNSYNCED")) return given_fsync(file);
+  errno = EIO;
+  return -1;
+}
 
 int posix_memalign(void **out, size_t align, size_t size) {
   return is_refused() ? ENOMEM : given_memalign(out, align, size);
