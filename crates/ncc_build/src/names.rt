@@ -6,7 +6,7 @@ ghost use Rattle.ncc_build.specs.Building.{is_among};
 
 use crate::ranges::all_in_range;
 use indexmap::IndexSet;
-use ncc_values::Seq;
+use ncc_values::Name;
 use std::alloc::{AllocError, Global};
 use std::marker::Model;
 
@@ -52,12 +52,20 @@ impl Names {
     }
 }
 
-/// The same name, in memory of its own.
-pub fn own_name(alloc: Global, name: &[u8]) -> Result<Seq<u8>, AllocError>
+/// The same name, as a table keeps it.
+pub fn listed_name(alloc: Global, name: &[u8]) -> Result<Vec<u8>, AllocError>
+    ensures same { IfOk result (λ v. v.items ≡ name.now) }
+    ensures bytes { IsBytes name.now }
+{
+    all_in_range(name);
+    Vec::from_slice(alloc, name)
+}
+
+/// The same name, as an item has it.
+pub fn own_name(alloc: Global, name: &[u8]) -> Result<Name, AllocError>
     ensures same { IfOk result (λ s. s ≡ name.now) }
     ensures bytes { IsBytes name.now }
 {
     all_in_range(name);
-    let items = Vec::from_slice(alloc, name)?;
-    Ok(Seq::from_vec(items))
+    Name::from_slice(alloc, name)
 }

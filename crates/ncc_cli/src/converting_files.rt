@@ -1,8 +1,12 @@
 //! Converting a file into a new one.
 
-ghost use Rattle.std.specs.Prelude.{◌≡◌, ◌≢◌, ℕ, List, IsTrue, codes};
+ghost use Rattle.std.specs.Prelude.{◌≡◌, ◌≢◌, ◌⊎◌, ℕ, List, IsTrue, codes};
+ghost use Rattle.ncc_values.specs.Failures.{Rose};
 ghost use Rattle.ncc_schema.specs.Device.{Puts};
+ghost use Rattle.ncc_schema.specs.declared.schema.Schema.{Schema};
+ghost use Rattle.ncc_layout.specs.declared.placed_file.Placed.{Placed};
 ghost use Rattle.ncc_layout.specs.Placed.{records_of_file};
+ghost use Rattle.ncc_check.specs.Checks.{Opens};
 ghost use Rattle.ncc_check.specs.declared.fault.FileFault.{FileFault};
 ghost use Rattle.ncc_lines.specs.Verdicts.{file_fault_line};
 ghost use Rattle.ncc_build.specs.declared.fault.WriteFault.{WriteFault};
@@ -11,7 +15,7 @@ ghost use Rattle.ncc_check.specs.Files.{schema_of, placed_of};
 ghost use Rattle.ncc_write.specs.Planned.{IsPlanned};
 ghost use Rattle.ncc_convert.specs.Lines.{converted_line, plan_line};
 ghost use Rattle.ncc_engines.specs.Converting.{IsRefusalLine};
-ghost use Rattle.ncc_engines.specs.Planning.{IsAgainst};
+ghost use Rattle.ncc_engines.specs.Planning.{IsAgainst, IsConvertible};
 
 use crate::commands::LIMIT;
 use crate::finishing::flushed;
@@ -62,10 +66,15 @@ fn convert_file<R: Files<File = File> + AllocGlobal, S: Store, W: Sink, P: Progr
     sink: &mut W,
     progress: &mut P,
 ) -> Answer
+    ensures convertible { result ≡ Answer.Passed
+        → IsConvertible version (schema_of file.old) (records_of_file (placed_of file.old)) }
     ensures passed { result ≡ Answer.Passed → Puts (W.put sink.old) (W.put sink.new) (converted_line version) }
     ensures refused { result ≡ Answer.Refused → (f : WriteFault)
         × IsAgainst version (schema_of file.old) (records_of_file (placed_of file.old)) f
         × Puts (W.put sink.old) (W.put sink.new) (plan_line f) }
+    ensures quiet { result ≢ Answer.Device → W.failures sink.new ≡ W.failures sink.old }
+    ensures device { result ≡ Answer.Device
+        → (W.put sink.new ≡ W.put sink.old) ⊎ Rose (W.failures sink.old) (W.failures sink.new) }
 {
     let built = match plan(rt.alloc(), file, version, sink) {
         Ok(built) => built,
@@ -82,6 +91,9 @@ fn convert_file<R: Files<File = File> + AllocGlobal, S: Store, W: Sink, P: Progr
 /// The line of a file that can't be opened, and what that comes to.
 fn refused<W: Sink>(alloc: Global, refusal: Refusal, sink: &mut W) -> Answer
     ensures passed { result ≢ Answer.Passed }
+    ensures quiet { result ≢ Answer.Device → W.failures sink.new ≡ W.failures sink.old }
+    ensures device { result ≡ Answer.Device
+        → (W.put sink.new ≡ W.put sink.old) ⊎ Rose (W.failures sink.old) (W.failures sink.new) }
     ensures told { result ≡ Answer.Refused → (f : FileFault) × (refusal ≡ Refusal.Fault f)
         × Puts (W.put sink.old) (W.put sink.new) (file_fault_line f) }
 {
@@ -101,7 +113,12 @@ fn convert_store<R: Files<File = File> + AllocGlobal, S: Store + Drop, W: Sink, 
     sink: &mut W,
     progress: &mut P,
 ) -> Answer
+    ensures convertible { IsTrue S.tells_bytes → result ≡ Answer.Passed → (s : Schema) × (p : Placed)
+        × Opens (S.bytes store) LIMIT s p × IsConvertible version s (records_of_file p) }
     ensures passed { result ≡ Answer.Passed → Puts (W.put sink.old) (W.put sink.new) (converted_line version) }
+    ensures quiet { result ≢ Answer.Device → W.failures sink.new ≡ W.failures sink.old }
+    ensures device { result ≡ Answer.Device
+        → (W.put sink.new ≡ W.put sink.old) ⊎ Rose (W.failures sink.old) (W.failures sink.new) }
     ensures refused { IsTrue S.tells_bytes → result ≡ Answer.Refused → (text : List ℕ)
         × Puts (W.put sink.old) (W.put sink.new) text × IsRefusalLine (S.bytes store) LIMIT version text }
 {

@@ -15,6 +15,10 @@ use Rattle.ncc_engines.specs.declared.answer.Answer.TheVariants.{Passed, Refused
 abbrev pub IsAgainst : Version → Schema → (records : ℕ) → WriteFault → Type 0
 IsAgainst v s n f = (f ≢ faults.Memory) × RebuildsAs {T = Unit {0}} v s n (Err f)
 
+-- nothing is against it
+abbrev pub IsConvertible : Version → Schema → (records : ℕ) → Type 0
+IsConvertible v s n = RebuildsAs {T = Unit {0}} v s n (Ok tt)
+
 -- nothing is printed of a plan, and its line of what is against it
 abbrev pub PlansInto : {T : Type 0} → Version → Schema → (records : ℕ) → (old new : Option (List ℕ))
     → Result T Answer → Type 0

@@ -165,9 +165,9 @@ least (nexts.NameText x n) b =
     both (bytes n) (λ text. padding n >>= λ zeros. with_name x b.lists text) n (rest_of_named x b.lists) (one _ n _ _)
     (λ text. size_and (padding n) (λ zeros. with_name x b.lists text) 0 (rest_of_named x b.lists) (rest_of_named x b.lists) (omega arith) (none (padding n)) (λ zeros. named_long x b.lists text))
 least (nexts.NamePadding x) b =
-    let n = padding_of (length b.name.items) in
-    both (padding (length b.name.items)) (λ zeros. with_name x b.lists b.name.items) n (rest_of_named x b.lists) (one _ n _ _) (λ zeros. named_long x b.lists b.name.items)
-least nexts.DimLength b = in_dim_long b.lists (from_length b.lists.parts b.name.items) (count_width_of b.lists.parts.version) (dim_length_long b.lists.parts b.name.items)
+    let n = padding_of (length b.name) in
+    both (padding (length b.name)) (λ zeros. with_name x b.lists b.name) n (rest_of_named x b.lists) (one _ n _ _) (λ zeros. named_long x b.lists b.name)
+least nexts.DimLength b = in_dim_long b.lists (from_length b.lists.parts b.name) (count_width_of b.lists.parts.version) (dim_length_long b.lists.parts b.name)
 least (nexts.AttrsTag o) b =
     let v = b.lists.parts.version in
     size_and (attrs v) (with_attrs o b.lists.parts b.lists.vars b.lists.var) 8 (rest_of_owner o b.lists) (4 + (4 + rest_of_owner o b.lists)) (omega arith) (list_long v nc_attribute (λ before. attr v)) (owner_long o b.lists)
@@ -176,14 +176,14 @@ least (nexts.AttrsCount o t) b =
     both (list_nelems v t >>= repeat (λ before. attr v) []) (with_attrs o b.lists.parts b.lists.vars b.lists.var) (count_width_of v) (rest_of_owner o b.lists) (counted_long v t (λ before. attr v)) (owner_long o b.lists)
 least (nexts.AttrType o) b =
     fewer (4 + (4 + rest_of_attrs o b.lists)) (8 + rest_of_attrs o b.lists) (omega arith)
-    (in_attr_long o b.lists (from_attr_type b.lists.parts.version b.name.items) 8 (from_attr_type_long b.lists.parts.version b.name.items))
+    (in_attr_long o b.lists (from_attr_type b.lists.parts.version b.name) 8 (from_attr_type_long b.lists.parts.version b.name))
 least (nexts.AttrCount o t) b =
     let v = b.lists.parts.version in
-    in_attr_long o b.lists (from_attr_count v b.name.items t) (count_width_of v) (front (nelems v) (λ k. from_values b.name.items t k) (count_width_of v) (one _ (count_width_of v) _ _))
+    in_attr_long o b.lists (from_attr_count v b.name t) (count_width_of v) (front (nelems v) (λ k. from_values b.name t k) (count_width_of v) (one _ (count_width_of v) _ _))
 least (nexts.AttrValues o k) b =
     let t = type_of b.body.values in
-    in_attr_long o b.lists (from_values b.name.items t k) (k * bytes_each t) (front (values t k) (λ vs. from_attr_padding b.name.items (k * bytes_each t) vs) (k * bytes_each t) (one _ (k * bytes_each t) _ _))
-least (nexts.AttrPadding o n) b = in_attr_long o b.lists (from_attr_padding b.name.items n b.body.values) (padding_of n) (one _ (padding_of n) _ _)
+    in_attr_long o b.lists (from_values b.name t k) (k * bytes_each t) (front (values t k) (λ vs. from_attr_padding b.name (k * bytes_each t) vs) (k * bytes_each t) (one _ (k * bytes_each t) _ _))
+least (nexts.AttrPadding o n) b = in_attr_long o b.lists (from_attr_padding b.name n b.body.values) (padding_of n) (one _ (padding_of n) _ _)
 least nexts.VarsTag b = var_list_long b.lists.parts b.lists.parts.gatts.items
 least (nexts.VarsCount t) b =
     let v = b.lists.parts.version in

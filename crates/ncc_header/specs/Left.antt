@@ -141,14 +141,14 @@ left_of nexts.DimsTag b = from_count b.lists.parts.version b.lists.parts.count
 left_of (nexts.DimsCount t) b = (list_nelems b.lists.parts.version t >>= repeat (dim b.lists.parts.version) []) >>= with_dims b.lists.parts.version b.lists.parts.count
 left_of (nexts.NameLength x) b = name b.lists.parts.version >>= with_name x b.lists
 left_of (nexts.NameText x n) b = bytes n >>= λ text. padding n >>= λ zeros. with_name x b.lists text
-left_of (nexts.NamePadding x) b = padding (length b.name.items) >>= λ zeros. with_name x b.lists b.name.items
-left_of nexts.DimLength b = in_dim b.lists.parts b.lists.dims_left (from_length b.lists.parts b.name.items)
+left_of (nexts.NamePadding x) b = padding (length b.name) >>= λ zeros. with_name x b.lists b.name
+left_of nexts.DimLength b = in_dim b.lists.parts b.lists.dims_left (from_length b.lists.parts b.name)
 left_of (nexts.AttrsTag o) b = attrs b.lists.parts.version >>= with_attrs o b.lists.parts b.lists.vars b.lists.var
 left_of (nexts.AttrsCount o t) b = (list_nelems b.lists.parts.version t >>= repeat (λ before. attr b.lists.parts.version) []) >>= with_attrs o b.lists.parts b.lists.vars b.lists.var
-left_of (nexts.AttrType o) b = in_attr o b.lists (from_attr_type b.lists.parts.version b.name.items)
-left_of (nexts.AttrCount o t) b = in_attr o b.lists (from_attr_count b.lists.parts.version b.name.items t)
-left_of (nexts.AttrValues o k) b = in_attr o b.lists (from_values b.name.items (type_of b.body.values) k)
-left_of (nexts.AttrPadding o n) b = in_attr o b.lists (from_attr_padding b.name.items n b.body.values)
+left_of (nexts.AttrType o) b = in_attr o b.lists (from_attr_type b.lists.parts.version b.name)
+left_of (nexts.AttrCount o t) b = in_attr o b.lists (from_attr_count b.lists.parts.version b.name t)
+left_of (nexts.AttrValues o k) b = in_attr o b.lists (from_values b.name (type_of b.body.values) k)
+left_of (nexts.AttrPadding o n) b = in_attr o b.lists (from_attr_padding b.name n b.body.values)
 left_of nexts.VarsTag b = var_list b.lists.parts b.lists.parts.gatts.items
 left_of (nexts.VarsCount t) b = (list_nelems b.lists.parts.version t >>= repeat (λ before. var b.lists.parts.version b.lists.parts.dims.items) []) >>= ended b.lists.parts b.lists.parts.gatts.items
 left_of nexts.DimIdsCount b = in_var b.lists.parts b.lists.vars (from_rank b.lists.parts b.lists.var.name)
@@ -194,7 +194,7 @@ begins_of _ v = []
 
 -- its bytes that stand where they stay: those of a name, and whole values of an attribute
 abbrev pub come_of : Next → Built → List ℕ
-come_of (nexts.NameText x n) b = b.name.items
+come_of (nexts.NameText x n) b = b.name
 come_of (nexts.AttrValues o k) b = bytes_of b.body.values
 come_of _ b = []
 

@@ -10,9 +10,10 @@ ghost use Rattle.ncc_header.specs.Steps.{Steps};
 
 use crate::built::{Body, Built, Named, Next, Owner};
 use crate::fault::StepError;
+use crate::items::push_item;
 use crate::judge;
 use ncc_schema::{Attr, NC_ATTRIBUTE};
-use ncc_values::{Seq, Values, XType, number};
+use ncc_values::{Name, Values, XType, number};
 use std::alloc::{AllocError, Global};
 use std::mem;
 
@@ -156,12 +157,13 @@ pub fn after_attr_padding(
     ensures steps { Steps (nexts.AttrPadding owner size) built.old at front.now result built.new }
     ensures idle { IfOk result (λ after. idle_of after ≡ 0) }
 {
-    let name = Seq::from_vec(mem::replace(&mut built.name, Vec::new(alloc)));
+    let name = mem::replace(&mut built.name, Name::new(alloc));
     let body = mem::replace(&mut built.body, no_body(alloc, XType::Byte));
     let attr = Attr {
         name,
         values: body.values,
     };
-    built.lists.attrs.push(attr)?;
-    Ok(next_attr(alloc, built, owner, built.lists.attrs_left))
+    let left = built.lists.attrs_left;
+    push_item(&mut built.lists.attrs, attr, left)?;
+    Ok(next_attr(alloc, built, owner, left))
 }

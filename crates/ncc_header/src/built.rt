@@ -5,7 +5,7 @@ ghost use Rattle.ncc_values.specs.Values.{type_of, bytes_of, values_of};
 
 use crate::attrs::no_body;
 use ncc_schema::{Attr, Count, Dim, Var, VarPlace};
-use ncc_values::{Seq, Values, Version, XType};
+use ncc_values::{Name, Values, Version, XType};
 use std::alloc::Global;
 
 /// What attributes belong to.
@@ -79,7 +79,7 @@ pub struct Vars {
 /// The variable that has begun.
 #[derive(Debug, Drop)]
 pub struct Begun {
-    pub name: Seq<u8>,
+    pub name: Name,
     pub dims: Vec<usize>,
 }
 
@@ -107,7 +107,7 @@ pub struct Body {
 pub struct Built {
     pub lists: Lists,
     /// The bytes that have come of the name that has begun, or was the last.
-    pub name: Vec<u8>,
+    pub name: Name,
     pub body: Body,
 }
 
@@ -125,7 +125,7 @@ impl Built {
             attrs: Vec::new(alloc),
             attrs_left: 0,
             var: Begun {
-                name: Seq::new(alloc),
+                name: Name::new(alloc),
                 dims: Vec::new(alloc),
             },
             vars: Vars {
@@ -136,7 +136,7 @@ impl Built {
         };
         Built {
             lists,
-            name: Vec::new(alloc),
+            name: Name::new(alloc),
             body: no_body(alloc, XType::Byte),
         }
     }

@@ -8,9 +8,10 @@ ghost use Rattle.ncc_header.specs.Steps.{Steps};
 
 use crate::built::{Built, Named, Next, Owner};
 use crate::fault::StepError;
+use crate::items::push_item;
 use crate::judge;
 use ncc_schema::{Dim, NC_DIMENSION};
-use ncc_values::{Seq, number};
+use ncc_values::{Name, number};
 use std::alloc::Global;
 use std::mem;
 
@@ -67,7 +68,8 @@ pub fn after_dim_length(
 {
     let length = number(front);
     judge::dim_length(built.lists.parts.version, &built.lists.parts.dims, length)?;
-    let name = Seq::from_vec(mem::replace(&mut built.name, Vec::new(alloc)));
-    built.lists.parts.dims.push(Dim { name, length })?;
+    let name = mem::replace(&mut built.name, Name::new(alloc));
+    let dims = &mut built.lists.parts.dims;
+    push_item(dims, Dim { name, length }, built.lists.dims_left)?;
     Ok(next_dim(built, built.lists.dims_left))
 }

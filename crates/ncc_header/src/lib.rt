@@ -9,6 +9,7 @@ mod dims;
 mod fault;
 mod from_source;
 mod gathering;
+mod items;
 mod judge;
 pub mod laws;
 mod least;
@@ -29,5 +30,5 @@ pub use ncc_schema::{
     Source, Var, VarPlace, WriteSink, encode, header_length, is_record_var, legal,
     limit_of_offsets, name_at, sound, streaming_mark, var_size, vars_start, write_all,
 };
-pub use ncc_values::{Seq, Values, Version, XType, pad};
+pub use ncc_values::{Few, Name, Seq, Values, Version, XType, pad};
 pub use standing::Fed;

@@ -9,7 +9,7 @@ ghost use Rattle.ncc_header.specs.Steps.{Steps};
 use crate::built::{Built, Named, Next};
 use crate::fault::StepError;
 use crate::judge;
-use ncc_values::{Seq, number};
+use ncc_values::{Name, number};
 use std::alloc::Global;
 use std::mem;
 
@@ -37,8 +37,8 @@ pub fn after_name_text(
     at: u64,
     front: &[u8],
 ) -> Result<Next, StepError>
-    requires { length (built.old.name.items ++ front.now) ≡ n }
-    ensures steps { Steps (nexts.NameText named n) built.old at (built.old.name.items ++ front.now) result built.new }
+    requires { length (built.old.name ++ front.now) ≡ n }
+    ensures steps { Steps (nexts.NameText named n) built.old at (built.old.name ++ front.now) result built.new }
     ensures idle { IfOk result (λ after. idle_of after ≡ 1) }
 {
     built.name.extend_from_slice(front)?;
@@ -60,8 +60,7 @@ pub fn after_name_padding(
         Named::Dim => Next::DimLength,
         Named::Attr(owner) => Next::AttrType(owner),
         Named::Var => {
-            let name = mem::replace(&mut built.name, Vec::new(alloc));
-            built.lists.var.name = Seq::from_vec(name);
+            built.lists.var.name = mem::replace(&mut built.name, Name::new(alloc));
             Next::DimIdsCount
         }
     })

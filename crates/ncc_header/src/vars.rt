@@ -9,9 +9,10 @@ ghost use Rattle.ncc_header.specs.Steps.{Steps};
 
 use crate::built::{Built, Lists, Named, Next, Owner, Vars};
 use crate::fault::StepError;
+use crate::items::push_item;
 use crate::judge;
 use ncc_schema::{NC_VARIABLE, Var, VarPlace};
-use ncc_values::{Seq, XType, number};
+use ncc_values::{Name, Seq, XType, number};
 use std::alloc::{AllocError, Global};
 use std::mem;
 
@@ -102,7 +103,7 @@ pub fn after_dimid(built: &mut Built, left: u64, at: u64, front: &[u8]) -> Resul
         &built.lists.var.dims,
         number(front),
     )?;
-    built.lists.var.dims.push(id)?;
+    push_item(&mut built.lists.var.dims, id, left)?;
     Ok(next_dimid(built, left))
 }
 
@@ -132,7 +133,7 @@ fn whole_var(alloc: Global, lists: &mut Lists, xtype: XType) -> Var
     let dims = mem::replace(&mut lists.var.dims, Vec::new(alloc));
     let attrs = mem::replace(&mut lists.attrs, Vec::new(alloc));
     Var {
-        name: mem::replace(&mut lists.var.name, Seq::new(alloc)),
+        name: mem::replace(&mut lists.var.name, Name::new(alloc)),
         dims: Seq::from_vec(dims),
         attrs: Seq::from_vec(attrs),
         xtype,
@@ -145,10 +146,10 @@ fn add_var(vars: &mut Vars, var: Var, place: VarPlace) -> Result<(), AllocError>
     ensures begins { OnOk result (begins_of_vars vars.new ≡ begins_of_vars vars.old ++ place.begin_at ∷ []) }
     ensures left { vars.new.left ≡ vars.old.left }
 {
-    vars.places.push(place)?;
-    if let Err(error) = vars.vars.push(var) {
+    push_item(&mut vars.places, place, vars.left)?;
+    if let Err(error) = push_item(&mut vars.vars, var, vars.left) {
         let _place = vars.places.pop();
-        return Err(error.into());
+        return Err(error);
     }
     Ok(())
 }

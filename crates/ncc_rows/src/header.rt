@@ -7,6 +7,7 @@ mod encoding;
 mod feeding;
 pub mod helpers;
 mod laws;
+mod lengths;
 mod memory;
 mod names;
 mod pieces;

@@ -1,8 +1,10 @@
 //! Tables of the format, and that each call succeeds where there is memory.
 
+mod lengths;
+
 use ncc_values::{
-    Char, External, F32Bits, F64Bits, Seq, Values, Version, XType, fill_default, name_fits, number,
-    pad,
+    Char, External, F32Bits, F64Bits, Few, Seq, Values, Version, XType, fill_default, name_fits,
+    number, pad,
 };
 use std::alloc::Global;
 use std::fmt::Debug;
@@ -262,8 +264,8 @@ fn values_have_their_bytes(rt: HostRuntime) -> Result<(), Fail> {
 fn values_are_told_by_their_elements(rt: HostRuntime) -> Result<(), Fail> {
     let mut values = Values::new(rt.alloc(), XType::Short);
     values.push_from(&[0xff, 0xfe, 0x80, 1])?;
-    let same = Values::Shorts(Seq::from_vec([-2, -32767].to_vec(rt.alloc())?));
-    let other = Values::Shorts(Seq::from_vec([-2, -32766].to_vec(rt.alloc())?));
+    let same = Values::Shorts(Few::from_vec([-2, -32767].to_vec(rt.alloc())?));
+    let other = Values::Shorts(Few::from_vec([-2, -32766].to_vec(rt.alloc())?));
     assert_eq!(rt; values, same);
     assert_ne!(rt; values, other);
     Ok(())

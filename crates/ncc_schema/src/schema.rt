@@ -1,6 +1,6 @@
 //! What a header says.
 
-use ncc_values::{Seq, Values, Version, XType};
+use ncc_values::{Name, Seq, Values, Version, XType};
 
 /// How many records a file has.
 #[derive(Clone, Copy, Debug, PartialEq, Eq)]
@@ -13,21 +13,21 @@ pub enum Count {
 /// A dimension. Its length is 0 where it is the record dimension.
 #[derive(Debug, Drop, PartialEq, Eq)]
 pub struct Dim {
-    pub name: Seq<u8>,
+    pub name: Name,
     pub length: u64,
 }
 
 /// An attribute, of a variable or of the whole file.
 #[derive(Debug, Drop, PartialEq, Eq)]
 pub struct Attr {
-    pub name: Seq<u8>,
+    pub name: Name,
     pub values: Values,
 }
 
 /// A variable over dimensions, each given by its number.
 #[derive(Debug, Drop, PartialEq, Eq)]
 pub struct Var {
-    pub name: Seq<u8>,
+    pub name: Name,
     pub dims: Seq<usize>,
     pub attrs: Seq<Attr>,
     pub xtype: XType,

@@ -8,7 +8,7 @@ mod parts;
 mod sheets;
 
 use ncc_csv::{Pick, parse_list, send_names};
-use ncc_header::{Dim, Seq, Var, WriteSink, XType};
+use ncc_header::{Dim, Name, Seq, Var, WriteSink, XType};
 use ncc_slab::SlabFault;
 use std::alloc::{AllocError, Global};
 use std::process::Abort;
@@ -142,12 +142,12 @@ fn expect_names<R: Abort + AllocGlobal>(
     let mut dims = Vec::new(alloc);
     let mut ids = Vec::new(alloc);
     for (id, name) in names.iter().enumerate() {
-        let name = Seq::from_vec(name.as_bytes().to_vec(alloc)?);
+        let name = Name::from_slice(alloc, name.as_bytes())?;
         dims.push(Dim { name, length: 1 })?;
         ids.push(id)?;
     }
     let var = Var {
-        name: Seq::from_vec(last.as_bytes().to_vec(alloc)?),
+        name: Name::from_slice(alloc, last.as_bytes())?,
         dims: Seq::from_vec(ids),
         attrs: Seq::new(alloc),
         xtype: XType::Int,

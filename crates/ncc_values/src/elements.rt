@@ -1,6 +1,6 @@
 //! Lists of elements of one type, from and to their bytes.
 
-ghost use Rattle.std.specs.Prelude.{◌≡◌, ◌*◌, ◌++◌, ◌%◌, length, OnOk, OnErr};
+ghost use Rattle.std.specs.Prelude.{◌≡◌, ◌+◌, ◌*◌, ◌/◌, ◌%◌, ◌≤◌, ◌++◌, length, take, OnOk, OnErr};
 ghost use Rattle.ncc_values.specs.Values.{elements_of, bytes_by};
 
 use crate::external::External;
@@ -22,6 +22,29 @@ pub(crate) fn push_elements<T: External + Drop>(
         items.push(T::get(&bytes[start..start + T::SIZE]))?;
     }
     Ok(())
+}
+
+/// Writes the elements that the bytes spell over these.
+fn read_elements<T: External + Copy>(items: &mut [T], bytes: &[u8])
+    requires { length bytes.now ≡ length items.old * T.SIZE }
+    ensures { items.new ≡ elements_of T.element T.TYPE bytes.now }
+{
+    'elements: for i in 0..items.len() {
+        let start = i * T::SIZE;
+        items[i] = T::get(&bytes[start..start + T::SIZE]);
+    }
+}
+
+/// Writes the elements that the bytes spell over those from `start` on.
+pub(crate) fn read_into<T: External + Copy>(items: &mut [T], start: usize, bytes: &[u8])
+    requires whole { length bytes.now % T.SIZE ≡ 0 }
+    requires there { start + length bytes.now / T.SIZE ≤ length items.old }
+    ensures same { length items.new ≡ length items.old }
+    ensures front { take (start + length bytes.now / T.SIZE) items.new
+        ≡ take start items.old ++ elements_of T.element T.TYPE bytes.now }
+{
+    let end = start + bytes.len() / T::SIZE;
+    read_elements(&mut items[start..end], bytes);
 }
 
 /// Writes the bytes of the elements.

@@ -4,6 +4,7 @@
 mod elements;
 mod external;
 mod failures;
+mod few;
 mod fill;
 pub mod laws;
 mod name;
@@ -19,6 +20,7 @@ mod xtype;
 
 pub use external::External;
 pub use failures::count_failure;
+pub use few::{Few, Name};
 pub use fill::fill_default;
 pub use name::name_fits;
 pub use numbers::number;

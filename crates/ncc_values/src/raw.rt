@@ -5,15 +5,15 @@ use crate::xtype::XType;
 use byteorder::{BigEndian, ByteOrder};
 
 /// A character of a text of the file, as its byte.
-#[derive(Clone, Copy, Debug, PartialEq, Eq)]
+#[derive(Clone, Copy, Debug, Default, PartialEq, Eq)]
 pub struct Char(pub u8);
 
 /// The bits of a float, kept whole also where it is no number.
-#[derive(Clone, Copy, Debug, PartialEq, Eq)]
+#[derive(Clone, Copy, Debug, Default, PartialEq, Eq)]
 pub struct F32Bits(pub u32);
 
 /// The bits of a double, kept whole also where it is no number.
-#[derive(Clone, Copy, Debug, PartialEq, Eq)]
+#[derive(Clone, Copy, Debug, Default, PartialEq, Eq)]
 pub struct F64Bits(pub u64);
 
 impl External for Char {

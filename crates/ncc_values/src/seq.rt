@@ -1,10 +1,8 @@
 //! A list that owns its elements, seen by contracts as that list.
 
-ghost use Rattle.std.specs.Prelude.{◌≡◌, ◌+◌, ◌*◌, ◌/◌, ◌%◌, ◌<◌, ◌≤◌, ◌↔◌, [], ◌++◌, length, slice_set, take, drop, IsTrue, OnOk, OnErr};
+ghost use Rattle.std.specs.Prelude.{◌≡◌, ◌<◌, ◌↔◌, [], length, slice_set, IsTrue};
 
-use crate::elements::{push_elements, put_elements};
-use crate::external::External;
-use std::alloc::{AllocError, Global};
+use std::alloc::Global;
 use std::marker::Model;
 
 /// A list of elements: a `Vec` whose allocator and capacity no contract sees.
@@ -72,29 +70,6 @@ impl<T: Copy> Seq<T> {
         ensures { self.new ≡ slice_set self.old index value }
     {
         self.items[index] = value;
-    }
-}
-
-impl<T: External + Copy> Seq<T> {
-    ghost use Rattle.ncc_values.specs.Values.{elements_of, bytes_by};
-
-    /// Adds the elements that the bytes spell.
-    pub(crate) fn push_from(&mut self, bytes: &[u8]) -> Result<(), AllocError>
-        requires { length bytes.now % T.SIZE ≡ 0 }
-        ensures ok { OnOk result (self.new ≡ self.old ++ elements_of T.element T.TYPE bytes.now) }
-        ensures err { OnErr result (self.new ≡ self.old) }
-    {
-        push_elements(&mut self.items, bytes)
-    }
-
-    /// Writes the bytes of the elements from `first` on, as many as `out` has room for.
-    pub(crate) fn put_from(&self, first: usize, out: &mut [u8])
-        requires whole { length out.old % T.SIZE ≡ 0 }
-        requires there { first + length out.old / T.SIZE ≤ length self.now }
-        ensures { out.new ≡ take (length out.old) (drop (first * T.SIZE) (bytes_by T.number T.TYPE self.now)) }
-    {
-        let count = out.len() / T::SIZE;
-        put_elements(&self.items[first..first + count], out);
     }
 }
 

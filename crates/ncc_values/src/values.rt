@@ -2,26 +2,30 @@
 
 ghost use Rattle.std.specs.Prelude.{◌≡◌, ◌+◌, ◌*◌, ◌/◌, ◌%◌, ◌≤◌, ◌↔◌, length, take, drop, IsTrue, OnOk, OnErr};
 
+use crate::few::Few;
 use crate::raw::{Char, F32Bits, F64Bits};
-use crate::seq::Seq;
 use crate::xtype::XType;
 use std::alloc::{AllocError, Global};
+use std::mem::size_of;
 
-/// Values of one external type, in order.
+/// Values of one external type, in order. Those of up to 30 bytes take no allocation (of 64 bits 3).
 #[derive(Debug, PartialEq, Eq, Drop)]
 pub enum Values {
-    Bytes(Seq<i8>),
-    Chars(Seq<Char>),
-    Shorts(Seq<i16>),
-    Ints(Seq<i32>),
-    Floats(Seq<F32Bits>),
-    Doubles(Seq<F64Bits>),
-    UBytes(Seq<u8>),
-    UShorts(Seq<u16>),
-    UInts(Seq<u32>),
-    Int64s(Seq<i64>),
-    UInt64s(Seq<u64>),
+    Bytes(Few<i8, 30>),
+    Chars(Few<Char, 30>),
+    Shorts(Few<i16, 15>),
+    Ints(Few<i32, 7>),
+    Floats(Few<F32Bits, 7>),
+    Doubles(Few<F64Bits, 3>),
+    UBytes(Few<u8, 30>),
+    UShorts(Few<u16, 15>),
+    UInts(Few<u32, 7>),
+    Int64s(Few<i64, 3>),
+    UInt64s(Few<u64, 3>),
 }
+
+// A list that allocates has 24 bytes and says so in a byte, and its type is said in another.
+const _: () = prove!(size_of::<Values>() == 40);
 
 impl Values {
     ghost use Rattle.ncc_values.specs.XType.{size_of};
@@ -32,17 +36,17 @@ impl Values {
         ensures { result ≡ no_values xtype }
     {
         match xtype {
-            XType::Byte => Values::Bytes(Seq::new(alloc)),
-            XType::Char => Values::Chars(Seq::new(alloc)),
-            XType::Short => Values::Shorts(Seq::new(alloc)),
-            XType::Int => Values::Ints(Seq::new(alloc)),
-            XType::Float => Values::Floats(Seq::new(alloc)),
-            XType::Double => Values::Doubles(Seq::new(alloc)),
-            XType::UByte => Values::UBytes(Seq::new(alloc)),
-            XType::UShort => Values::UShorts(Seq::new(alloc)),
-            XType::UInt => Values::UInts(Seq::new(alloc)),
-            XType::Int64 => Values::Int64s(Seq::new(alloc)),
-            XType::UInt64 => Values::UInt64s(Seq::new(alloc)),
+            XType::Byte => Values::Bytes(Few::new(alloc)),
+            XType::Char => Values::Chars(Few::new(alloc)),
+            XType::Short => Values::Shorts(Few::new(alloc)),
+            XType::Int => Values::Ints(Few::new(alloc)),
+            XType::Float => Values::Floats(Few::new(alloc)),
+            XType::Double => Values::Doubles(Few::new(alloc)),
+            XType::UByte => Values::UBytes(Few::new(alloc)),
+            XType::UShort => Values::UShorts(Few::new(alloc)),
+            XType::UInt => Values::UInts(Few::new(alloc)),
+            XType::Int64 => Values::Int64s(Few::new(alloc)),
+            XType::UInt64 => Values::UInt64s(Few::new(alloc)),
         }
     }
 

@@ -5,7 +5,7 @@ use super::steps::{Step, take_all};
 use ncc_build::WriteFault::*;
 use ncc_build::{Built, SchemaBuilder, WriteFault, rebuilt};
 use ncc_schema::{Count, Schema};
-use ncc_values::{Seq, Version, XType};
+use ncc_values::{Name, Seq, Version, XType};
 use std::alloc::{AllocError, Global};
 use std::test::*;
 
@@ -130,7 +130,7 @@ fn rebuilt_schemas(rt: HostRuntime) {
 /// A schema of one dimension, of any name.
 fn named(alloc: Global, name: &[u8]) -> Result<Schema, AllocError> {
     let mut dims = Vec::with_capacity(alloc, 1)?;
-    let name = Seq::from_vec(Vec::from_slice(alloc, name)?);
+    let name = Name::from_slice(alloc, name)?;
     dims.push_reserved(ncc_schema::Dim { name, length: 1 });
     Ok(Schema {
         version: Version::V1,

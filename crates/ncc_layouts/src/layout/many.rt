@@ -2,7 +2,7 @@
 
 use ncc_layout::{LayoutFault, LayoutFaultKind, PlaceError, placed, sizes};
 use ncc_schema::{Count, Header, Schema, Var, VarPlace, legal};
-use ncc_values::{Seq, Version, XType};
+use ncc_values::{Name, Seq, Version, XType};
 use std::alloc::{AllocError, Global};
 use std::test::*;
 
@@ -25,7 +25,7 @@ fn scalars(alloc: Global, count: u16, twin: Option<u16>) -> Result<Header, Alloc
 
 fn scalar(alloc: Global) -> Var {
     Var {
-        name: Seq::new(alloc),
+        name: Name::new(alloc),
         dims: Seq::new(alloc),
         attrs: Seq::new(alloc),
         xtype: XType::Byte,

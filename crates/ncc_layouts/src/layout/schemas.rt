@@ -1,11 +1,11 @@
 //! Schemas of a few variables, whose names all have one letter.
 
 use ncc_schema::{Count, Dim, Schema, Var};
-use ncc_values::{Seq, Version, XType};
+use ncc_values::{Name, Seq, Version, XType};
 use std::alloc::{AllocError, Global};
 
-fn letter(alloc: Global) -> Result<Seq<u8>, AllocError> {
-    Ok(Seq::from_vec(b"v".to_vec(alloc)?))
+fn letter(alloc: Global) -> Result<Name, AllocError> {
+    Name::from_slice(alloc, b"v")
 }
 
 pub fn var(alloc: Global, ids: &[usize], xtype: XType) -> Result<Var, AllocError> {

@@ -6,7 +6,7 @@ use ncc_schema::{
     Attr, Count, Dim, Failed, FuseSink, FuseSource, ReadSource, Schema, Sink, Source, Var,
     VarPlace, WriteSink, encode, legal,
 };
-use ncc_values::{Seq, Values, Version, XType};
+use ncc_values::{Name, Seq, Values, Version, XType};
 use std::alloc::{AllocError, Global};
 use std::test::*;
 
@@ -16,8 +16,8 @@ const TITLE: [u32; 18] = [
     0x68656c6c, 0x6f000000,
 ];
 
-fn name(alloc: Global, text: &[u8]) -> Result<Seq<u8>, AllocError> {
-    Ok(Seq::from_vec(text.to_vec(alloc)?))
+fn name_of(alloc: Global, text: &[u8]) -> Result<Name, AllocError> {
+    Name::from_slice(alloc, text)
 }
 
 /// A schema with no dimension, no attribute and no variable.
@@ -35,14 +35,14 @@ fn empty(alloc: Global, version: Version, count: Count) -> Schema {
 fn fixed_short(alloc: Global) -> Result<Schema, AllocError> {
     let mut dims = Vec::new(alloc);
     dims.push(Dim {
-        name: name(alloc, b"x")?,
+        name: name_of(alloc, b"x")?,
         length: 3,
     })?;
     let mut ids = Vec::new(alloc);
     ids.push(0)?;
     let mut vars = Vec::new(alloc);
     vars.push(Var {
-        name: name(alloc, b"v")?,
+        name: name_of(alloc, b"v")?,
         dims: Seq::from_vec(ids),
         attrs: Seq::new(alloc),
         xtype: XType::Short,
@@ -59,7 +59,7 @@ fn title(alloc: Global) -> Result<Schema, AllocError> {
     values.push_from(b"hello")?;
     let mut gatts = Vec::new(alloc);
     gatts.push(Attr {
-        name: name(alloc, b"title")?,
+        name: name_of(alloc, b"title")?,
         values,
     })?;
     Ok(Schema {

@@ -1,7 +1,7 @@
 //! The variable that a name means.
 
 use ncc_csv::var_named;
-use ncc_header::{Seq, Var, XType};
+use ncc_header::{Name, Seq, Var, XType};
 use std::alloc::{AllocError, Global};
 use std::test::*;
 
@@ -10,7 +10,7 @@ fn scalars(alloc: Global, names: &[&str]) -> Result<Vec<Var>, AllocError> {
     let mut vars = Vec::new(alloc);
     for name in names {
         vars.push(Var {
-            name: Seq::from_vec(name.as_bytes().to_vec(alloc)?),
+            name: Name::from_slice(alloc, name.as_bytes())?,
             dims: Seq::new(alloc),
             attrs: Seq::new(alloc),
             xtype: XType::Int,

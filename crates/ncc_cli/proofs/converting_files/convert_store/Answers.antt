@@ -11,3 +11,8 @@ returns-in-Ok-clause-refused g c = λ told is.
       because.2,
       inr (schema_of file, placed_of file, because.0, c.in-Ok.ensures.passes told, because.1, refl),
     )
+
+pub returns-in-Ok-clause-convertible : goal.returns-in-Ok-clause-convertible
+returns-in-Ok-clause-convertible g c = λ told is.
+    let file = c.in-Ok.opened in
+    (schema_of file, placed_of file, c.in-Ok.ensures.passes told, c.convert_file.ensures.convertible is)

@@ -10,7 +10,7 @@ returns c =
     record {
       advances = (
         subst (λ (n : ℕ). nelems_wrong b.lists.parts.version n ≡ None) c.number-n.ensures c.in_ok-nelems.ensures,
-        ap₂ (λ (t : XType) (n : ℕ). in_attr c.args.owner b.lists (from_values b.name.items t n)) (sym c.no_body.ensures.xtype) (sym c.number-n.ensures),
+        ap₂ (λ (t : XType) (n : ℕ). in_attr c.args.owner b.lists (from_values b.name t n)) (sym c.no_body.ensures.xtype) (sym c.number-n.ensures),
       );
       begins = refl;
       fresh = c.no_body.ensures.none;

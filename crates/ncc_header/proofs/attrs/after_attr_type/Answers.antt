@@ -13,7 +13,7 @@ returns c =
     record {
       advances = (
         subst (λ (n : ℕ). type_wrong v n ≡ None) c.number.ensures c.in_ok-xtype.ensures.judged,
-        ap (λ (o : Option XType). in_attr c.args.owner b.lists (from_attr_count v b.name.items (unwrap_or o Byte))) (rw c.number.ensures at c.in_ok-xtype.ensures.value),
+        ap (λ (o : Option XType). in_attr c.args.owner b.lists (from_attr_count v b.name (unwrap_or o Byte))) (rw c.number.ensures at c.in_ok-xtype.ensures.value),
       );
       begins = refl;
       fresh = refl;

@@ -9,5 +9,5 @@ use Rattle.ncc_header.proofs.vars.add_var.Goals as goal
 pub returns-clause-before : goal.returns-clause-before
 returns-clause-before c =
     let v = c.args.vars.now in
-    ap₂ (λ (xs : List Var) (ps : List VarPlace). zip xs (places_of ps)) c.in_default.ensures.items c.in_ok-push.ensures.items
+    ap₂ (λ (xs : List Var) (ps : List VarPlace). zip xs (places_of ps)) c.in_default.ensures.ok c.in_ok-push_item.ensures.ok
     ∙ before_more v.vars.items v.places.items c.args.var c.args.place v.paired
