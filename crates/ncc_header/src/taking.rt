@@ -136,7 +136,8 @@ fn size_within(reading: &Reading) -> Result<Option<u64>, HeaderError>
     ensures some { IfOk result (λ o. IfSome o (λ n. (size_of (next_of reading.now) ≡ Some n)
         × (reading.now.at + n ≤ reading.now.limit))) }
     ensures none { IfOk result (λ o. IfNone o (size_of (next_of reading.now) ≡ None)) }
-    ensures err { IfErr result (λ e. (e ≢ HeaderError.Memory) × ((rest : List ℕ) → FailsBehind reading.now rest e)) }
+    ensures err { IfErr result (λ e. (e ≢ HeaderError.Memory)
+        × ((rest : List ℕ) → FailsBehind reading.now rest e)) }
 {
     let Some(size) = reading.size() else {
         return Ok(None);
@@ -223,7 +224,8 @@ pub fn take(alloc: Global, reading: &mut Reading, piece: &[u8]) -> Result<usize,
     ensures within { IfOk result (λ used. used ≤ length piece.now) }
     ensures takes { IfOk result (λ used. Takes reading.old reading.new (take used piece.now)) }
     ensures waits { IfOk result (λ _. Waits reading.new) }
-    ensures all { IfOk result (λ used. (n : ℕ) → size_of (next_of reading.new) ≡ Some n → used ≡ length piece.now) }
+    ensures all { IfOk result (λ used. (n : ℕ) → size_of (next_of reading.new) ≡ Some n
+        → used ≡ length piece.now) }
     ensures fails { IfErr result (FailsBehind reading.old piece.now) }
     ensures memory { result ≡ Err HeaderError.Memory
         → 12 ≤ reading.old.at + length (held_of reading.old) + length piece.now }

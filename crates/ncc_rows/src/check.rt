@@ -8,7 +8,6 @@ mod failing;
 mod helpers;
 mod memory;
 mod names;
-mod noted;
 mod notes;
 mod records;
 mod rows;
