@@ -9,7 +9,7 @@ ghost use Rattle.ncc_check.specs.FromStore.{calls_for};
 ghost use Rattle.ncc_build.specs.Dataset.{Dataset, IsDataset};
 ghost use Rattle.ncc_write.specs.Additions.{HoldsAll};
 ghost use Rattle.ncc_write.specs.Extends.{HoldsSome};
-ghost use Rattle.ncc_engines.specs.Extending.{ExtendsInto, IsFilled, IsFilledSome, IsFilledUp};
+ghost use Rattle.ncc_engines.specs.Extending.{ExtendsInto, IsFilled, IsFilledSome, IsFilledUp, TakesNone};
 ghost use Rattle.ncc_engines.specs.Listing.{Lists};
 ghost use Rattle.ncc_engines.specs.Selecting.{SelectsInto};
 
@@ -156,7 +156,7 @@ fn extended<S: Store, W: Sink>(alloc: Global, store: S, more: u64, sink: &mut W)
     ensures bytes { IsTrue S.tells_bytes → result.1 ≡ Answer.Passed
         → ∥ IsFilled (S.bytes store) LIMIT more (S.bytes result.0) ∥₁ }
     ensures untouched { IsTrue S.tells_bytes → result.1 ≡ Answer.Refused
-        → Unmoved S.bytes S.images S.moment S.images_since store result.0
+        → (Unmoved S.bytes S.images S.moment S.images_since store result.0 × TakesNone (S.bytes store) LIMIT)
         ⊎ (∥ IsFilledUp (S.bytes store) LIMIT more (S.bytes result.0) ∥₁) }
     ensures leaves { IsTrue S.tells_bytes
         → Unmoved S.bytes S.images S.moment S.images_since store result.0

@@ -159,6 +159,19 @@ can_grow : (s : Schema) (p : Placed) (n : ℕ) → ExtendsAs false s p n (Err er
 can_grow s p zero how = absurd how
 can_grow s p (suc n) how = how.1
 
+-- a refusal that isn't of want of room
+pub takes_none : (s : Schema) (p : Placed) (n : ℕ) (e : AppendError) → ExtendsAs false s p n (Err e)
+    → e ≢ errors.CountFull → e ≢ errors.Device → e ≢ errors.Memory → CanGrow s p → ⊥
+takes_none s p zero e how full device memory grows = how
+takes_none s p (suc n) errors.Reopen how full device memory grows = cc how
+takes_none s p (suc n) errors.NoRecordVariable how full device memory grows = grows.some how.1
+takes_none s p (suc n) errors.NotPacked how full device memory grows = how.2 grows.packed
+takes_none s p (suc n) errors.Streaming how full device memory grows = subst IsKnown how.3 grows.counted
+takes_none s p (suc n) errors.CountFull how full device memory grows = full refl
+takes_none s p (suc n) (errors.WrongValues k) how full device memory grows = how
+takes_none s p (suc n) errors.Device how full device memory grows = device refl
+takes_none s p (suc n) errors.Memory how full device memory grows = memory refl
+
 pub filled_up : (old : List ℕ) (limit : ℕ) (s : Schema) (p : Placed) → Opens old limit s p → (n : ℕ)
     → ExtendsAs false s p n (Err errors.CountFull) → (t : Schema) (q : Placed) (told : Bool) (new : List ℕ)
     → IsTrue told → LeavesFills old s p t q told n errors.CountFull new → IsFull t.version q
@@ -173,9 +186,10 @@ filled_up old limit s p o n how t q told new is leaves full = record {
 
 -- why the answer was Refused
 pub refused_for : (result : Result (Unit {0}) AppendError) (records : ℕ) (old new : Option (List ℕ))
-    → Told result records old new Refused → (e : AppendError) × (result ≡ Err e) × (e ≢ errors.Device)
+    → Told result records old new Refused
+    → (e : AppendError) × (result ≡ Err e) × (e ≢ errors.Device) × (e ≢ errors.Memory)
 refused_for (Ok x) records old new told = absurd told.2
-refused_for (Err e) records old new told = (e, refl, told.2.0)
+refused_for (Err e) records old new told = (e, refl, told.2.0, told.2.1)
 
 -- ---- whatever the answer
 

@@ -5,6 +5,7 @@ use Rattle.ncc_schema.specs.declared.schema.Schema.{Schema}
 use Rattle.ncc_layout.specs.declared.placed_file.Placed.{Placed}
 use Rattle.ncc_layout.specs.Placed.{records_of_file}
 use Rattle.ncc_check.specs.Checks.{Opens}
+use Rattle.ncc_check.specs.Passes.{Passes}
 use Rattle.ncc_check.specs.declared.append_error.AppendError.{AppendError}
 use Rattle.ncc_check.specs.declared.append_error.AppendError.TheVariants as errors
 use Rattle.ncc_lines.specs.Refusals.{append_line}
@@ -67,6 +68,10 @@ pub record IsFilledUp (old : List ℕ) (limit more : ℕ) (new : List ℕ) : Typ
   pub filled : IsFilled old limit fits new
   pub grows : CanGrow filled.schema filled.placed
   pub full : IsFullFor filled.schema.version filled.placed (fits + 1)
+
+-- the bytes don't pass, or they are of a file that takes no record, whatever room there is
+abbrev pub TakesNone : (bytes : List ℕ) (limit : ℕ) → Type 0
+TakesNone b limit = (Passes b limit → ⊥) ⊎ ((s : Schema) × (p : Placed) × Opens b limit s p × (CanGrow s p → ⊥))
 
 -- some of the records were added to a file that takes records, at most so many, and of the next one nothing below its
 -- place or all

@@ -11,7 +11,7 @@ ghost use Rattle.ncc_check.specs.declared.append_error.AppendError.TheVariants a
 ghost use Rattle.ncc_build.specs.Dataset.{Dataset, IsDataset};
 ghost use Rattle.ncc_write.specs.Additions.{HoldsAll};
 ghost use Rattle.ncc_write.specs.Extends.{HoldsSome, with_fills};
-ghost use Rattle.ncc_engines.specs.Extending.{ExtendsInto, IsFilled, IsFilledSome, IsFilledUp, Tells};
+ghost use Rattle.ncc_engines.specs.Extending.{ExtendsInto, IsFilled, IsFilledSome, IsFilledUp, TakesNone, Tells};
 
 use crate::answer::{Answer, answered};
 use ncc_check::{AppendError, NcFile, Refusal, laws as check_laws, open};
@@ -72,7 +72,7 @@ pub fn extend_engine<S: Store, W: Sink>(
     ensures bytes { IsTrue S.tells_bytes → result.1 ≡ Answer.Passed
         → ∥ IsFilled (S.bytes store) limit more (S.bytes result.0) ∥₁ }
     ensures untouched { IsTrue S.tells_bytes → result.1 ≡ Answer.Refused
-        → Unmoved S.bytes S.images S.moment S.images_since store result.0
+        → (Unmoved S.bytes S.images S.moment S.images_since store result.0 × TakesNone (S.bytes store) limit)
         ⊎ (∥ IsFilledUp (S.bytes store) limit more (S.bytes result.0) ∥₁) }
     ensures leaves { IsTrue S.tells_bytes
         → Unmoved S.bytes S.images S.moment S.images_since store result.0

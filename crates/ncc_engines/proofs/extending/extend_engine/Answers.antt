@@ -14,7 +14,7 @@ use Rattle.ncc_write.specs.Additions.{HoldsAll}
 use Rattle.ncc_write.specs.Extends.{Contains, ExtendsAs, HoldsSome, LeavesFills, filled_bytes, with_fills}
 use Rattle.ncc_write.proofs.MoreFills.{at_start}
 use Rattle.ncc_engines.specs.declared.answer.Answer.{Answer}
-use Rattle.ncc_engines.proofs.Extended.{Told, fault_went, filled_up, is_full, some_filled, refused_for, none_more, passed_ok, went}
+use Rattle.ncc_engines.proofs.Extended.{Told, fault_went, filled_up, is_full, some_filled, refused_for, none_more, takes_none, passed_ok, went}
 use Rattle.ncc_engines.proofs.extending.extend_engine.Goals as goal
 
 pub returns-in-Ok-clause-extends : goal.returns-in-Ok-clause-extends
@@ -137,7 +137,9 @@ returns-in-Ok-clause-untouched g c = λ told refused.
     (schema_of new) (placed_of new) g.S.Store.tells_bytes (g.S.Store.bytes (store_of new)) told
     (subst (λ (b : List ℕ). LeavesFills b s p (schema_of new) (placed_of new) g.S.Store.tells_bytes c.args.more errors.CountFull (g.S.Store.bytes (store_of new))) same leaves) room))))
     (λ other. inl (subst (λ x. Unmoved g.S.Store.bytes g.S.Store.images g.S.Store.moment g.S.Store.images_since c.args.store x)
-    (sym (c.into_store.ensures ∙ ap (λ x. store_of x) (unchanged why.2 other))) c.in-Ok.ensures.unmoved))
+    (sym (c.into_store.ensures ∙ ap (λ x. store_of x) (unchanged why.2 other))) c.in-Ok.ensures.unmoved,
+    inr (s, p, c.in-Ok.ensures.passes told,
+    takes_none s p c.args.more e (subst (λ r. ExtendsAs false s p c.args.more r) why.1 answer) other why.2 why.3)))
     (is_full e)
 
 pub returns-in-Ok-clause-settled : goal.returns-in-Ok-clause-settled
@@ -172,3 +174,9 @@ pub returns-in-Ok-clause-calls_refused : goal.returns-in-Ok-clause-calls_refused
 returns-in-Ok-clause-calls_refused g c = λ told fails.
     let o = c.in-Ok.ensures.passes told in
     absurd (fails (o.header, o.passes))
+
+pub returns-in-Fault-clause-untouched : goal.returns-in-Fault-clause-untouched
+returns-in-Fault-clause-untouched g c = λ told refused.
+    let fails = subst (λ (r : Refusal). Refuses (g.S.Store.bytes c.args.store) c.args.limit r) c.in-Fault.is (c.in-Err.ensures.refused told) in
+    inl (c.in-Err.ensures.unmoved,
+    inl (λ passes. c.passing_has_no_fault.ensures.apart (g.S.Store.bytes c.args.store) c.args.limit c.in-Fault.fault passes fails))
