@@ -11,11 +11,12 @@ ghost use Rattle.ncc_check.specs.declared.fault.FileFault.{FileFault};
 ghost use Rattle.ncc_lines.specs.Verdicts.{file_fault_line};
 ghost use Rattle.ncc_build.specs.declared.fault.WriteFault.{WriteFault};
 ghost use Rattle.ncc_build.specs.Builds.{schema_of as planned_schema};
-ghost use Rattle.ncc_check.specs.Files.{schema_of, placed_of};
+ghost use Rattle.ncc_check.specs.Files.{store_of, schema_of, placed_of};
 ghost use Rattle.ncc_write.specs.Planned.{IsPlanned};
 ghost use Rattle.ncc_convert.specs.Lines.{converted_line, plan_line};
-ghost use Rattle.ncc_engines.specs.Converting.{IsRefusalLine};
-ghost use Rattle.ncc_engines.specs.Planning.{IsAgainst, IsConvertible};
+ghost use Rattle.ncc_engines.specs.Converting.{IsRefusalLine, HasRefusalFront};
+ghost use Rattle.ncc_lines.specs.Sends.{PutsFront};
+ghost use Rattle.ncc_engines.specs.Planning.{IsAgainst, IsConvertible, HaltsLine};
 
 use crate::commands::LIMIT;
 use crate::finishing::flushed;
@@ -44,7 +45,8 @@ fn convert_into<R: Files<File = File> + AllocGlobal, S: Store, P: Progress>(
     progress: &mut P,
 ) -> Answer
     requires planned { IsPlanned (schema_of file.old) (placed_of file.old) (planned_schema built) }
-    ensures { result ≢ Answer.Refused }
+    ensures unrefused { result ≢ Answer.Refused }
+    ensures store { result ≢ Answer.Device → S.failures (store_of file.new) ≡ S.failures (store_of file.old) }
 {
     let Ok(out) = File::create_new(rt, path) else {
         return Answer::Device;
@@ -72,6 +74,14 @@ fn convert_file<R: Files<File = File> + AllocGlobal, S: Store, W: Sink, P: Progr
     ensures refused { result ≡ Answer.Refused → (f : WriteFault)
         × IsAgainst version (schema_of file.old) (records_of_file (placed_of file.old)) f
         × Puts (W.put sink.old) (W.put sink.new) (plan_line f) }
+    ensures order { (f : WriteFault) → IsAgainst version (schema_of file.old) (records_of_file (placed_of file.old)) f
+        → result ≡ Answer.Device → Rose (W.failures sink.old) (W.failures sink.new) }
+    ensures store { result ≢ Answer.Device → S.failures (store_of file.new) ≡ S.failures (store_of file.old) }
+    ensures memory { result ≡ Answer.Memory → (W.put sink.new ≡ W.put sink.old) ⊎ ((f : WriteFault)
+        × IsAgainst version (schema_of file.old) (records_of_file (placed_of file.old)) f
+        × PutsFront (W.put sink.old) (W.put sink.new) (plan_line f)) }
+    ensures halted { result ≡ Answer.Device → (W.put sink.new ≡ W.put sink.old) ⊎ HaltsLine version
+        (schema_of file.old) (records_of_file (placed_of file.old)) (W.put sink.old) (W.put sink.new) }
     ensures quiet { result ≢ Answer.Device → W.failures sink.new ≡ W.failures sink.old }
     ensures device { result ≡ Answer.Device
         → (W.put sink.new ≡ W.put sink.old) ⊎ Rose (W.failures sink.old) (W.failures sink.new) }
@@ -96,6 +106,10 @@ fn refused<W: Sink>(alloc: Global, refusal: Refusal, sink: &mut W) -> Answer
         → (W.put sink.new ≡ W.put sink.old) ⊎ Rose (W.failures sink.old) (W.failures sink.new) }
     ensures told { result ≡ Answer.Refused → (f : FileFault) × (refusal ≡ Refusal.Fault f)
         × Puts (W.put sink.old) (W.put sink.new) (file_fault_line f) }
+    ensures halted { result ≢ Answer.Refused → (W.put sink.new ≡ W.put sink.old) ⊎ ((f : FileFault)
+        × (refusal ≡ Refusal.Fault f) × PutsFront (W.put sink.old) (W.put sink.new) (file_fault_line f)) }
+    ensures fault { (f : FileFault) → refusal ≡ Refusal.Fault f → result ≡ Answer.Device
+        → Rose (W.failures sink.old) (W.failures sink.new) }
 {
     match refusal {
         Refusal::Fault(fault) => answered(send_file_fault(alloc, fault, sink), Answer::Refused),
@@ -121,6 +135,11 @@ fn convert_store<R: Files<File = File> + AllocGlobal, S: Store + Drop, W: Sink, 
         → (W.put sink.new ≡ W.put sink.old) ⊎ Rose (W.failures sink.old) (W.failures sink.new) }
     ensures refused { IsTrue S.tells_bytes → result ≡ Answer.Refused → (text : List ℕ)
         × Puts (W.put sink.old) (W.put sink.new) text × IsRefusalLine (S.bytes store) LIMIT version text }
+    ensures memory { IsTrue S.tells_bytes → result ≡ Answer.Memory → (W.put sink.new ≡ W.put sink.old)
+        ⊎ HasRefusalFront (S.bytes store) LIMIT version (W.put sink.old) (W.put sink.new) }
+    ensures halted { IsTrue S.tells_bytes → result ≡ Answer.Device → (W.put sink.new ≡ W.put sink.old)
+        ⊎ HasRefusalFront (S.bytes store) LIMIT version (W.put sink.old) (W.put sink.new)
+        ⊎ PutsFront (W.put sink.old) (W.put sink.new) (converted_line version) }
 {
     match open(rt.alloc(), store, LIMIT) {
         Ok(opened) => {

@@ -1,6 +1,6 @@
 //! The line of a file that can't be planned, and that of one that was converted.
 
-ghost use Rattle.std.specs.Prelude.{◌≡◌, ◌++◌, OnOk};
+ghost use Rattle.std.specs.Prelude.{◌≡◌, ◌≢◌, ◌++◌, Err, OnOk};
 ghost use Rattle.ncc_lines.specs.Sends.{SendsAll, Blames};
 ghost use Rattle.ncc_convert.specs.Lines.{converted_line, plan_line, plan_word};
 
@@ -69,10 +69,11 @@ fn converted_line(version: Version) -> &'static [u8]
     }
 }
 
-/// Sends the line of a file that was converted. After an `Err` a front of it is sent.
+/// Sends the line of a file that was converted, and takes no memory. After an `Err` a front of it is sent.
 pub fn send_converted<W: Sink>(version: Version, sink: &mut W) -> Result<(), Halt>
     ensures sent { SendsAll (W.put sink.old) (W.put sink.new) (converted_line version) result }
     ensures count { Blames (W.failures sink.old) (W.failures sink.new) result }
+    ensures never { result ≢ Err Halt.Memory }
 {
     write_all(sink, converted_line(version))?;
     Ok(())

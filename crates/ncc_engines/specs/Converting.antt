@@ -6,6 +6,7 @@ use Rattle.ncc_schema.specs.declared.schema.Schema.{Schema}
 use Rattle.ncc_layout.specs.Placed.{records_of_file}
 use Rattle.ncc_layout.specs.declared.placed_file.Placed.{Placed}
 use Rattle.ncc_check.specs.Checks.{Opens}
+use Rattle.ncc_lines.specs.Sends.{PutsFront}
 use Rattle.ncc_build.specs.declared.fault.WriteFault.{WriteFault}
 use Rattle.ncc_convert.specs.Copying.{HasFront}
 use Rattle.ncc_convert.specs.Converting.{HasFile}
@@ -36,3 +37,7 @@ IsPlanLine b limit v text = (s : Schema) × (p : Placed) × (f : WriteFault) × 
 -- the line of why a file isn't converted
 abbrev pub IsRefusalLine : (bytes : List ℕ) (limit : ℕ) → Version → (text : List ℕ) → Type 0
 IsRefusalLine b limit v text = IsFaultOf b limit text ⊎ IsPlanLine b limit v text
+
+-- a front of that line went out
+abbrev pub HasRefusalFront : (bytes : List ℕ) (limit : ℕ) → Version → (old new : Option (List ℕ)) → Type 0
+HasRefusalFront b limit v old new = (text : List ℕ) × IsRefusalLine b limit v text × PutsFront old new text

@@ -7,7 +7,7 @@ use Rattle.ncc_lines.specs.Sends.{PutsFront}
 use Rattle.ncc_build.specs.Building.{RebuildsAs}
 use Rattle.ncc_build.specs.declared.fault.WriteFault.{WriteFault}
 use Rattle.ncc_build.specs.declared.fault.WriteFault.TheVariants as faults
-use Rattle.ncc_convert.specs.Lines.{plan_line}
+use Rattle.ncc_convert.specs.Lines.{converted_line, plan_line}
 use Rattle.ncc_engines.specs.declared.answer.Answer.{Answer}
 use Rattle.ncc_engines.specs.declared.answer.Answer.TheVariants.{Passed, Refused, Device, Memory}
 
@@ -18,6 +18,11 @@ IsAgainst v s n f = (f ≢ faults.Memory) × RebuildsAs {T = Unit {0}} v s n (Er
 -- nothing is against it
 abbrev pub IsConvertible : Version → Schema → (records : ℕ) → Type 0
 IsConvertible v s n = RebuildsAs {T = Unit {0}} v s n (Ok tt)
+
+-- a front of the line of what is against it, or where nothing is of the line that it was converted
+abbrev pub HaltsLine : Version → Schema → (records : ℕ) → (old new : Option (List ℕ)) → Type 0
+HaltsLine v s n old new = ((f : WriteFault) × IsAgainst v s n f × PutsFront old new (plan_line f))
+    ⊎ (IsConvertible v s n × PutsFront old new (converted_line v))
 
 -- nothing is printed of a plan, and its line of what is against it
 abbrev pub PlansInto : {T : Type 0} → Version → Schema → (records : ℕ) → (old new : Option (List ℕ))
