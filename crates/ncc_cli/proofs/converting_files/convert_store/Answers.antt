@@ -1,4 +1,4 @@
-use Rattle.std.proofs.Common.{◌≡◌, ◌⊎◌, inl, inr, ⊎_elim, refl, subst, sym, ◌∙◌}
+use Rattle.std.proofs.Common.{inl, inr, ⊎_elim, refl, subst, sym, ◌∙◌}
 use Rattle.ncc_check.specs.Files.{schema_of, placed_of}
 use Rattle.ncc_check.specs.Checks.{Refuses}
 use Rattle.ncc_check.specs.declared.fault.Refusal.{Refusal}
@@ -39,13 +39,19 @@ returns-in-Ok-clause-halted g c = λ told is.
 pub returns-clause-memory : goal.returns-clause-memory
 returns-clause-memory g c = λ told is.
     ⊎_elim (λ none. inl none)
-    (λ line. inr (file_fault_line line.0,
-    inl (line.0, subst (λ (r : Refusal). Refuses (g.S.Store.bytes c.args.store) _ r) line.1 (c.in-Err.ensures.refused told), refl), line.2))
+    (λ line. inr (
+      file_fault_line line.0,
+      inl (line.0, subst (λ (r : Refusal). Refuses (g.S.Store.bytes c.args.store) 67108864 r) line.1 (c.in-Err.ensures.refused told), refl),
+      line.2,
+    ))
     (c.refused.ensures.halted (λ refused. cc (sym is ∙ refused)))
 
 pub returns-clause-halted : goal.returns-clause-halted
 returns-clause-halted g c = λ told is.
     ⊎_elim (λ none. inl none)
-    (λ line. inr (inl (file_fault_line line.0,
-    inl (line.0, subst (λ (r : Refusal). Refuses (g.S.Store.bytes c.args.store) _ r) line.1 (c.in-Err.ensures.refused told), refl), line.2)))
+    (λ line. inr (inl (
+      file_fault_line line.0,
+      inl (line.0, subst (λ (r : Refusal). Refuses (g.S.Store.bytes c.args.store) 67108864 r) line.1 (c.in-Err.ensures.refused told), refl),
+      line.2,
+    )))
     (c.refused.ensures.halted (λ refused. cc (sym is ∙ refused)))

@@ -136,10 +136,16 @@ returns-in-Ok-clause-untouched g c = λ told refused.
     (∥∥₁_map partly (λ leaves. filled_up (g.S.Store.bytes c.args.store) c.args.limit s p (c.in-Ok.ensures.passes told) c.args.more how
     (schema_of new) (placed_of new) g.S.Store.tells_bytes (g.S.Store.bytes (store_of new)) told
     (subst (λ (b : List ℕ). LeavesFills b s p (schema_of new) (placed_of new) g.S.Store.tells_bytes c.args.more errors.CountFull (g.S.Store.bytes (store_of new))) same leaves) room))))
-    (λ other. inl (subst (λ x. Unmoved g.S.Store.bytes g.S.Store.images g.S.Store.moment g.S.Store.images_since c.args.store x)
-    (sym (c.into_store.ensures ∙ ap (λ x. store_of x) (unchanged why.2 other))) c.in-Ok.ensures.unmoved,
-    inr (s, p, c.in-Ok.ensures.passes told,
-    takes_none s p c.args.more e (subst (λ r. ExtendsAs false s p c.args.more r) why.1 answer) other why.2 why.3)))
+    (λ other. inl (
+      subst (λ x. Unmoved g.S.Store.bytes g.S.Store.images g.S.Store.moment g.S.Store.images_since c.args.store x)
+          (sym (c.into_store.ensures ∙ ap (λ x. store_of x) (unchanged why.2 other))) c.in-Ok.ensures.unmoved,
+      inr (
+        s,
+        p,
+        c.in-Ok.ensures.passes told,
+        takes_none s p c.args.more e (subst (λ r. ExtendsAs false s p c.args.more r) why.1 answer) other why.2 why.3,
+      ),
+    ))
     (is_full e)
 
 pub returns-in-Ok-clause-settled : goal.returns-in-Ok-clause-settled
@@ -178,5 +184,7 @@ returns-in-Ok-clause-calls_refused g c = λ told fails.
 pub returns-in-Fault-clause-untouched : goal.returns-in-Fault-clause-untouched
 returns-in-Fault-clause-untouched g c = λ told refused.
     let fails = subst (λ (r : Refusal). Refuses (g.S.Store.bytes c.args.store) c.args.limit r) c.in-Fault.is (c.in-Err.ensures.refused told) in
-    inl (c.in-Err.ensures.unmoved,
-    inl (λ passes. c.passing_has_no_fault.ensures.apart (g.S.Store.bytes c.args.store) c.args.limit c.in-Fault.fault passes fails))
+    inl (
+      c.in-Err.ensures.unmoved,
+      inl (λ passes. c.passing_has_no_fault.ensures.apart (g.S.Store.bytes c.args.store) c.args.limit c.in-Fault.fault passes fails),
+    )
