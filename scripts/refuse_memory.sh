@@ -1,8 +1,8 @@
 #!/usr/bin/env bash
 # Refuses each allocation, one in each run, of a run of each command, of `ncc check` over a file with a note of each
-# kind. Each run must write the whole text with status 0, or a beginning of it and `error memory` with status 3. Then
-# each sync: what wants one must write nothing and `error device` with status 3. The program is the first word, or the
-# one that scripts/test.sh left. It needs a C compiler.
+# kind. Each run must write the whole text with status 0, and leave the files of a run with memory; or less than the text
+# and `error memory` with status 3. Then each sync: what wants one must write nothing and `error device` with status 3.
+# The program is the first word, or the one that scripts/test.sh left. It needs a C compiler.
 set -uo pipefail
 top=$(cd "$(dirname "$0")/.." && pwd)
 ncc=$(realpath "${1:-$top/crates/ncc_cli/out/ncc_cli}") || exit 1
@@ -17,18 +17,24 @@ run() {
   (cd run && LD_PRELOAD=$folder/refuse.so "$ncc" "$@" > ../out 2> ../err)
 }
 
+# Is this a beginning of the text, and not all of it?
+is_less() {
+  [ -z "$1" ] || { [ "${2#"$1"}" != "$2" ] && [ "$1" != "$2" ]; }
+}
+
 # The runs that are to write this text, of the command line that follows.
 refuse() {
   local text=$1 memory=0 count n out status
   shift
   COUNTED=$folder/counted run "$@" || exit 1
   count=$(cat counted)
+  rm -rf whole && mv run whole
   for n in $(seq "$count"); do
     REFUSED=$n run "$@"
     status=$?
     out=$(cat out)
-    if [ "$status" = 0 ] && [ "$out" = "$text" ]; then continue; fi
-    if [ "$status" = 3 ] && [ "$(cat err)" = 'error memory' ] && [ "${text#"$out"}" != "$text" -o -z "$out" ]; then
+    if [ "$status" = 0 ] && [ "$out" = "$text" ] && diff -r run whole > differs; then continue; fi
+    if [ "$status" = 3 ] && [ "$(cat err)" = 'error memory' ] && is_less "$out" "$text"; then
       memory=$((memory + 1))
       continue
     fi
