@@ -14,7 +14,7 @@ ghost use Rattle.ncc_build.specs.Builds.{schema_of as planned_schema};
 ghost use Rattle.ncc_check.specs.Files.{store_of, schema_of, placed_of};
 ghost use Rattle.ncc_write.specs.Planned.{IsPlanned};
 ghost use Rattle.ncc_convert.specs.Lines.{converted_line, plan_line};
-ghost use Rattle.ncc_engines.specs.Converting.{IsRefusalLine, HasRefusalFront};
+ghost use Rattle.ncc_engines.specs.Converting.{IsRefusalLine, HasConvertedFront, HasRefusalFront};
 ghost use Rattle.ncc_lines.specs.Sends.{PutsFront};
 ghost use Rattle.ncc_engines.specs.Planning.{IsAgainst, IsConvertible, HaltsLine};
 
@@ -35,6 +35,16 @@ use std::fs::File;
 use std::io::{BufWriter, Write};
 use std::rt::{Clock, Files};
 
+/// The answer of a conversion into this file, which must be on the disk where it passed.
+fn on_disk(out: File, answer: Answer) -> Answer
+    ensures { result ≢ Answer.Device → result ≡ answer }
+{
+    if answer == Answer::Passed && out.sync_all().is_err() {
+        return Answer::Device;
+    }
+    answer
+}
+
 /// Writes what an open file holds into a new file, by a schema that was planned for it. The file is on the disk where it
 /// passed.
 fn convert_into<R: Files<File = File> + AllocGlobal, S: Store, P: Progress>(
@@ -52,10 +62,7 @@ fn convert_into<R: Files<File = File> + AllocGlobal, S: Store, P: Progress>(
         return Answer::Device;
     };
     let (target, answer) = convert_engine(rt.alloc(), file, built, WriteSink::new(out), progress);
-    if answer == Answer::Passed && target.into_inner().sync_all().is_err() {
-        return Answer::Device;
-    }
-    answer
+    on_disk(target.into_inner(), answer)
 }
 
 /// Converts an open file, and writes the line that says so; or the line of what is against it, and then there is no new
@@ -139,7 +146,7 @@ fn convert_store<R: Files<File = File> + AllocGlobal, S: Store + Drop, W: Sink, 
         ⊎ HasRefusalFront (S.bytes store) LIMIT version (W.put sink.old) (W.put sink.new) }
     ensures halted { IsTrue S.tells_bytes → result ≡ Answer.Device → (W.put sink.new ≡ W.put sink.old)
         ⊎ HasRefusalFront (S.bytes store) LIMIT version (W.put sink.old) (W.put sink.new)
-        ⊎ PutsFront (W.put sink.old) (W.put sink.new) (converted_line version) }
+        ⊎ HasConvertedFront (S.bytes store) LIMIT version (W.put sink.old) (W.put sink.new) }
 {
     match open(rt.alloc(), store, LIMIT) {
         Ok(opened) => {

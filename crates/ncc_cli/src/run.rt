@@ -1,6 +1,6 @@
 //! Running a command.
 
-ghost use Rattle.std.specs.Prelude.{◌≡◌, ◌⊎◌, ◌+◌, ◌*◌, ◌<◌, ◌≤◌, List, ℕ, length, IsTrue, IfSome};
+ghost use Rattle.std.specs.Prelude.{◌≡◌, ◌≢◌, ◌⊎◌, ◌+◌, ◌*◌, ◌<◌, ◌≤◌, List, ℕ, length, IsTrue, IfSome};
 ghost use Rattle.ncc_values.specs.Failures.{Rose};
 ghost use Rattle.ncc_schema.specs.Device.{LosesAtMost, Puts};
 ghost use Rattle.ncc_schema.specs.Schema.{Place};
@@ -9,7 +9,7 @@ ghost use Rattle.ncc_check.specs.FromStore.{calls_for};
 ghost use Rattle.ncc_build.specs.Dataset.{Dataset, IsDataset};
 ghost use Rattle.ncc_write.specs.Additions.{HoldsAll};
 ghost use Rattle.ncc_write.specs.Extends.{HoldsSome};
-ghost use Rattle.ncc_engines.specs.Extending.{ExtendsInto, IsFilled, IsFilledSome, IsFilledUp, TakesNone};
+ghost use Rattle.ncc_engines.specs.Extending.{ExtendsInto, IsFilled, IsFilledSome, IsFilledUp, IsFilledWhole, TakesNone};
 ghost use Rattle.ncc_engines.specs.Listing.{Lists};
 ghost use Rattle.ncc_engines.specs.Selecting.{SelectsInto};
 
@@ -161,6 +161,9 @@ fn extended<S: Store, W: Sink>(alloc: Global, store: S, more: u64, sink: &mut W)
     ensures leaves { IsTrue S.tells_bytes
         → Unmoved S.bytes S.images S.moment S.images_since store result.0
         ⊎ (∥ IsFilledSome (S.bytes store) LIMIT more (S.bytes result.0) ∥₁) }
+    ensures whole { IsTrue S.tells_bytes → result.1 ≢ Answer.Device
+        → Unmoved S.bytes S.images S.moment S.images_since store result.0
+        ⊎ (∥ IsFilledWhole (S.bytes store) LIMIT more (S.bytes result.0) ∥₁) }
     ensures any_moment { IsTrue S.tells_bytes → Only (S.bytes store) (S.images store)
         → (places : List Place) (d : Dataset) → IsDataset d → HoldsAll (S.bytes store) LIMIT places d
         → LeavesOnly S.moment S.images_since store result.0 (λ c. ∥ HoldsSome c LIMIT places d more ∥₁) }

@@ -30,7 +30,7 @@ use Rattle.ncc_write.specs.Records.{followed_by}
 use Rattle.ncc_engines.specs.declared.answer.Answer.{Answer}
 use Rattle.ncc_engines.specs.declared.answer.Answer.TheVariants.{Passed, Refused, Device, Memory}
 use Rattle.ncc_engines.specs.Answers.{Texts, answer_of}
-use Rattle.ncc_engines.specs.Extending.{ExtendsInto, IsExtendText, IsFilledSome, IsFilledUp, IsFrontOfText, Tells, TellsText}
+use Rattle.ncc_engines.specs.Extending.{ExtendsInto, IsExtendText, IsFilledSome, IsFilledUp, IsFilledWhole, IsFrontOfText, Tells, TellsText}
 
 -- these went out
 abbrev pub Told : Result (Unit {0}) AppendError → (records : ℕ) → (old new : Option (List ℕ)) → Answer → Type 0
@@ -190,6 +190,25 @@ pub refused_for : (result : Result (Unit {0}) AppendError) (records : ℕ) (old 
     → (e : AppendError) × (result ≡ Err e) × (e ≢ errors.Device) × (e ≢ errors.Memory)
 refused_for (Ok x) records old new told = absurd told.2
 refused_for (Err e) records old new told = (e, refl, told.2.0, told.2.1)
+
+-- all of them were added, or those before the one that was refused
+pub whole_filled : (old : List ℕ) (limit : ℕ) (s : Schema) (p : Placed) → Opens old limit s p → (n : ℕ)
+    → (result : Result (Unit {0}) AppendError) → (t : Schema) (q : Placed) (told : Bool) (new : List ℕ) → IsTrue told
+    → result ≢ Err errors.Device → OnOk result (new ≡ filled_bytes old s p n)
+    → IfErr result (λ e. ∥ LeavesFills old s p t q told n e new ∥₁) → ∥ IsFilledWhole old limit n new ∥₁
+whole_filled old limit s p o n (Ok x) t q told new is other ok partly =
+    ∣ (n, omega arith, record { schema = s; placed = p; opens = o; bytes = ok }) ∣₁
+whole_filled old limit s p o n (Err e) t q told new is other ok partly =
+    ∥∥₁_map partly (λ leaves. (
+      leaves.more,
+      omega (arith, leaves.fewer),
+      record {
+        schema = s;
+        placed = p;
+        opens = o;
+        bytes = leaves.stands is (λ device. other (ap (λ (x : AppendError). Err x) device));
+      },
+    ))
 
 -- ---- whatever the answer
 

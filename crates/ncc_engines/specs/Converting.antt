@@ -10,9 +10,9 @@ use Rattle.ncc_lines.specs.Sends.{PutsFront}
 use Rattle.ncc_build.specs.declared.fault.WriteFault.{WriteFault}
 use Rattle.ncc_convert.specs.Copying.{HasFront}
 use Rattle.ncc_convert.specs.Converting.{HasFile}
-use Rattle.ncc_convert.specs.Lines.{plan_line}
+use Rattle.ncc_convert.specs.Lines.{converted_line, plan_line}
 use Rattle.ncc_engines.specs.Checking.{IsFaultOf}
-use Rattle.ncc_engines.specs.Planning.{IsAgainst}
+use Rattle.ncc_engines.specs.Planning.{IsAgainst, IsConvertible}
 use Rattle.ncc_engines.specs.declared.answer.Answer.{Answer}
 use Rattle.ncc_engines.specs.declared.answer.Answer.TheVariants.{Passed, Refused, Device, Memory}
 
@@ -41,3 +41,8 @@ IsRefusalLine b limit v text = IsFaultOf b limit text ⊎ IsPlanLine b limit v t
 -- a front of that line went out
 abbrev pub HasRefusalFront : (bytes : List ℕ) (limit : ℕ) → Version → (old new : Option (List ℕ)) → Type 0
 HasRefusalFront b limit v old new = (text : List ℕ) × IsRefusalLine b limit v text × PutsFront old new text
+
+-- a front of the line that a file was converted, where it passes and nothing is against it
+abbrev pub HasConvertedFront : (bytes : List ℕ) (limit : ℕ) → Version → (old new : Option (List ℕ)) → Type 0
+HasConvertedFront b limit v old new = (s : Schema) × (p : Placed) × Opens b limit s p
+    × IsConvertible v s (records_of_file p) × PutsFront old new (converted_line v)

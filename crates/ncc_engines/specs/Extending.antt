@@ -61,6 +61,10 @@ pub record IsFilled (old : List ℕ) (limit more : ℕ) (new : List ℕ) : Type 
   pub opens : Opens old limit schema placed
   pub bytes : new ≡ filled_bytes old schema placed more
 
+-- and with some of them, at most so many, each whole
+abbrev pub IsFilledWhole : (old : List ℕ) (limit most : ℕ) (new : List ℕ) → Type 0
+IsFilledWhole old limit most new = (more : ℕ) × (more ≤ most) × IsFilled old limit more new
+
 -- the records that there is room for were added, and no more
 pub record IsFilledUp (old : List ℕ) (limit more : ℕ) (new : List ℕ) : Type 0 where
   pub fits : ℕ

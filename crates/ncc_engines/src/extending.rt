@@ -1,6 +1,6 @@
 //! `extend`: records of fill values behind those that a file has.
 
-ghost use Rattle.std.specs.Prelude.{◌≡◌, ◌⊎◌, ◌+◌, ◌*◌, ◌<◌, ◌≤◌, max, ℕ, List, length, Err, IsTrue};
+ghost use Rattle.std.specs.Prelude.{◌≡◌, ◌≢◌, ◌⊎◌, ◌+◌, ◌*◌, ◌<◌, ◌≤◌, max, ℕ, List, length, Err, IsTrue};
 ghost use Rattle.ncc_schema.specs.Device.{Puts};
 ghost use Rattle.ncc_schema.specs.Schema.{Place};
 ghost use Rattle.ncc_store.specs.Store.{LeavesOnly, Only, Unmoved};
@@ -11,7 +11,7 @@ ghost use Rattle.ncc_check.specs.declared.append_error.AppendError.TheVariants a
 ghost use Rattle.ncc_build.specs.Dataset.{Dataset, IsDataset};
 ghost use Rattle.ncc_write.specs.Additions.{HoldsAll};
 ghost use Rattle.ncc_write.specs.Extends.{HoldsSome, with_fills};
-ghost use Rattle.ncc_engines.specs.Extending.{ExtendsInto, IsFilled, IsFilledSome, IsFilledUp, TakesNone, Tells};
+ghost use Rattle.ncc_engines.specs.Extending.{ExtendsInto, IsFilled, IsFilledSome, IsFilledUp, IsFilledWhole, TakesNone, Tells};
 
 use crate::answer::{Answer, answered};
 use ncc_check::{AppendError, NcFile, Refusal, laws as check_laws, open};
@@ -77,6 +77,9 @@ pub fn extend_engine<S: Store, W: Sink>(
     ensures leaves { IsTrue S.tells_bytes
         → Unmoved S.bytes S.images S.moment S.images_since store result.0
         ⊎ (∥ IsFilledSome (S.bytes store) limit more (S.bytes result.0) ∥₁) }
+    ensures whole { IsTrue S.tells_bytes → result.1 ≢ Answer.Device
+        → Unmoved S.bytes S.images S.moment S.images_since store result.0
+        ⊎ (∥ IsFilledWhole (S.bytes store) limit more (S.bytes result.0) ∥₁) }
     ensures holds_some { IsTrue S.tells_bytes → (places : List Place) (d : Dataset)
         → IsDataset d → HoldsAll (S.bytes store) limit places d
         → ∥ HoldsSome (S.bytes result.0) limit places d more ∥₁ }

@@ -17,6 +17,7 @@ mod RefusedKinds
 mod OneField
 mod TakeField
 mod TakePiece
+mod WholeItems
 mod AtLeast
 mod LeastLaws
 mod Feeding

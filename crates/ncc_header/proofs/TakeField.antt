@@ -25,7 +25,7 @@ begun_more Begin at ats = refl
 shown_more : (shown : List Mark) (f : Field) (rest : List Field) → shown ++ marks (f ∷ rest) ≡ (shown ++ mark_of f.label f.at f.bytes) ++ marks rest
 shown_more shown f rest = sym (append_assoc shown (mark_of f.label f.at f.bytes) (marks rest))
 
-course_goes_on : (g h : Grammar Given) (limit at n : ℕ) (shown : List Mark) (begun : List ℕ) (held front more : List ℕ) → size_of g ≡ Some n → at + n ≤ limit → length (held ++ front) ≡ n → Advances g (held ++ front) h
+pub course_goes_on : (g h : Grammar Given) (limit at n : ℕ) (shown : List Mark) (begun : List ℕ) (held front more : List ℕ) → size_of g ≡ Some n → at + n ≤ limit → length (held ++ front) ≡ n → Advances g (held ++ front) h
     → course g limit at shown begun (held ++ (front ++ more)) ≡ course h limit (at + n) (shown ++ mark_of (label_of g) at (held ++ front)) (with_begin (label_of g) at begun) more
 course_goes_on g h limit at n shown begun held front more is within long adv = λ i. record {
   outcome = field_goes_on g h limit at n held front more is within long adv i;

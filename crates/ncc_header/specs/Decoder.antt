@@ -1,7 +1,12 @@
 -- What a decoder has taken, and what it answers.
-use Rattle.std.specs.Prelude.{ℕ, List}
+use Rattle.std.specs.Prelude.{ℕ, List, length}
 use Rattle.ncc_header.specs.declared.decoder.Decoder.{Decoder}
 use Rattle.ncc_header.specs.declared.fault.HeaderError.{HeaderError}
+use Rattle.ncc_header.specs.declared.standing.Standing.{Standing}
+use Rattle.ncc_header.specs.declared.standing.Standing.TheVariants as standings
+use Rattle.ncc_header.specs.Steps.{size_of}
+use Rattle.ncc_header.specs.Least.{rest_of, expects_of}
+use Rattle.ncc_header.specs.Reading.{next_of, held_of}
 use Rattle.ncc_header.specs.Standing.{limit_at, TookAt, HasFailedAt}
 
 -- how long a header may be, in bytes
@@ -15,3 +20,10 @@ Took d taken = TookAt d.standing taken
 -- the decoder has met this error, and answers it for good
 abbrev pub HasFailed : Decoder → HeaderError → Type 0
 HasFailed d e = HasFailedAt d.standing e
+
+-- how many bytes are surely still to come behind what was taken: those of the next field, and the least of those behind
+-- it, as far as the limit
+abbrev pub expects_at : Standing → ℕ
+expects_at (standings.Reading r) =
+    expects_of (size_of (next_of r)) (rest_of r.next r.built.lists) r.limit r.at (length (held_of r))
+expects_at (standings.Failed limit e) = 0

@@ -6,6 +6,7 @@ pub mod Left
 pub mod Steps
 pub mod Least
 pub mod Reading
+pub mod Passing
 pub mod Standing
 pub mod Decoder
 pub mod FromSource

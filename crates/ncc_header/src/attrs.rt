@@ -1,6 +1,6 @@
 //! The fields of a list of attributes.
 
-ghost use Rattle.std.specs.Prelude.{◌≡◌, ◌≤◌, ◌*◌, ◌%◌, ◌<◌, ◌^◌, ◌++◌, [], length, IfOk, OnOk, OnErr};
+ghost use Rattle.std.specs.Prelude.{◌≡◌, ◌≤◌, ◌*◌, ◌%◌, ◌<◌, ◌^◌, ◌++◌, ◌∷◌, [], length, IfOk, OnOk, OnErr};
 ghost use Rattle.ncc_values.specs.Values.{type_of, bytes_of, with_bytes};
 ghost use Rattle.ncc_values.specs.Version.{count_width_of};
 ghost use Rattle.ncc_values.specs.XType.{size_of as bytes_each};
@@ -145,6 +145,26 @@ pub fn after_attr_values(
     Ok(Next::AttrPadding(owner, size))
 }
 
+/// Adds the attribute that has begun, now whole, and tells which field comes then.
+pub fn add_attr(
+    alloc: Global,
+    built: &mut Built,
+    owner: Owner,
+    attr: Attr,
+) -> Result<Next, AllocError>
+    ensures left { IfOk result (λ next. left_of next built.new ≡ from_attrs owner built.old.lists
+        (built.old.lists.attrs.items ++ attr ∷ []) built.old.lists.attrs_left) }
+    ensures begins { IfOk result (λ next. begins_of next built.new.lists.vars
+        ≡ begins_of_owner owner built.old.lists.vars) }
+    ensures fresh { IfOk result (λ next. come_of next built.new ≡ []) }
+    ensures at { IfOk result (λ next. first_at next ≤ 12) }
+    ensures idle { IfOk result (λ next. idle_of next ≡ 0) }
+{
+    let left = built.lists.attrs_left;
+    push_item(&mut built.lists.attrs, attr, left)?;
+    Ok(next_attr(alloc, built, owner, left))
+}
+
 /// The padding: attr = name nc_type nelems [values ...] **padding**
 pub fn after_attr_padding(
     alloc: Global,
@@ -163,7 +183,5 @@ pub fn after_attr_padding(
         name,
         values: body.values,
     };
-    let left = built.lists.attrs_left;
-    push_item(&mut built.lists.attrs, attr, left)?;
-    Ok(next_attr(alloc, built, owner, left))
+    Ok(add_attr(alloc, built, owner, attr)?)
 }

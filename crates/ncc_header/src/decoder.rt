@@ -70,7 +70,7 @@ fn advance(alloc: Global, standing: &mut Standing, piece: &[u8]) -> Result<Fed, 
 }
 
 impl Decoder {
-    ghost use Rattle.ncc_header.specs.Decoder.{Took, HasFailed, limit_of};
+    ghost use Rattle.ncc_header.specs.Decoder.{Took, HasFailed, limit_of, expects_at};
 
     /// A decoder of headers of at most `limit` bytes.
     pub fn new(alloc: Global, limit: u64) -> Decoder
@@ -130,6 +130,7 @@ impl Decoder {
     /// past the limit, and the next field lacks no more. It is 0 where the header is whole or has a fault
     /// that stays, and after want of memory.
     pub(crate) fn expects(&self) -> u64
+        ensures exact { result ≡ expects_at self.now.standing }
         ensures fewest { (taken more : List ℕ) → Took self.now taken → IsWhole (taken ++ more) (limit_of self.now)
             → result ≤ length more }
         ensures within { (taken : List ℕ) → Took self.now taken → 0 < result

@@ -169,7 +169,7 @@ pub fn begin(version: Version, n: u64) -> Result<(), Wrong>
 }
 
 /// Is each byte zero?
-fn are_zero(bytes: &[u8]) -> bool
+pub fn are_zero(bytes: &[u8]) -> bool
     ensures { result ≡ all_zero bytes.now }
 {
     for byte in bytes {

@@ -14,12 +14,14 @@ mod judge;
 pub mod laws;
 mod least;
 mod names;
+mod passing;
 mod reading;
 mod standing;
 mod start;
 mod step;
 mod taking;
 mod vars;
+mod whole_attr;
 
 pub use decoder::Decoder;
 pub use decoding::decode;

@@ -12,6 +12,7 @@ use crate::gathering::gather;
 use crate::judge::push_mark;
 use crate::reading::Reading;
 use crate::step::step;
+use crate::whole_attr::{attr_begins, take_attr};
 use arrayvec::ArrayVec;
 use ncc_schema::Mark;
 use std::alloc::Global;
@@ -200,6 +201,30 @@ fn take_next(
     }
 }
 
+/// Takes an attribute at once, or else the next field, where the rest of a piece makes it whole, and
+/// tells how many bytes of the rest are its.
+fn take_some(
+    alloc: Global,
+    reading: &mut Reading,
+    rest: &[u8],
+) -> Result<Option<usize>, HeaderError>
+    ensures some { IfOk result (λ o. IfSome o (λ n. Went reading.old reading.new rest.now n)) }
+    ensures less { IfOk result (λ o. IfSome o (λ n. effort_of reading.new < effort_of reading.old)) }
+    ensures none { IfOk result (λ o. IfNone o (reading.new ≡ reading.old)) }
+    ensures waits { IfOk result (λ o. IfNone o (WaitsBehind reading.old (length rest.now))) }
+    ensures fails { IfErr result (FailsBehind reading.old rest.now) }
+    ensures memory { result ≡ Err HeaderError.Memory → 12 ≤ reading.old.at }
+{
+    let Some(owner) = attr_begins(reading) else {
+        return take_next(alloc, reading, rest);
+    };
+    match take_attr(alloc, reading, owner, rest) {
+        Ok(Some(n)) => Ok(Some(n)),
+        Ok(None) => take_next(alloc, reading, rest),
+        Err(_) => Err(HeaderError::Memory),
+    }
+}
+
 /// Takes the whole fields at the front of a piece, and tells how many bytes they are.
 fn take_fields(alloc: Global, reading: &mut Reading, piece: &[u8]) -> Result<usize, HeaderError>
     ensures went { IfOk result (λ used. Went reading.old reading.new piece.now used) }
@@ -211,7 +236,7 @@ fn take_fields(alloc: Global, reading: &mut Reading, piece: &[u8]) -> Result<usi
     let mut used = 0;
     loop {
         let (_taken, rest) = piece.split_at(used);
-        match take_next(alloc, reading, rest) {
+        match take_some(alloc, reading, rest) {
             Ok(Some(n)) => used += n,
             Ok(None) => return Ok(used),
             Err(error) => return Err(error),

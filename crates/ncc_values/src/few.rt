@@ -21,8 +21,8 @@ pub(crate) enum Place<T, const N: usize> {
     Heap(Vec<T>),
 }
 
-/// A list of elements. Up to `N` of them, and 255, lie in the value itself, and more in a `Vec`: no
-/// contract sees which.
+/// A list of elements. Up to `N` of them, and 255, that were added one list behind the other lie in the
+/// value itself, and others in a `Vec`: no contract sees which.
 #[derive(Drop)]
 pub struct Few<T, const N: usize> {
     place: Place<T, N>,
@@ -202,7 +202,8 @@ impl<T: Copy, const N: usize> Place<T, N> {
         ensures within { IsWithin self.new }
         ensures ok { OnOk result (items_of self.new ≡ items_of self.old ++ more.now) }
         ensures err { OnErr result (items_of self.new ≡ items_of self.old) }
-        ensures few { IsInline self.old → length (items_of self.old) + length more.now ≤ N → N < 256 → IsOk result }
+        ensures few { IsInline self.old → length (items_of self.old) + length more.now ≤ N → N < 256
+            → IsOk result }
     {
         if let Place::Heap(items) = self {
             return items.extend_from_slice(more);

@@ -64,6 +64,8 @@ pub fn extend<S: Store>(alloc: Global, file: &mut NcFile<S>, more: u64) -> Resul
     ensures reopen { IfErr result (λ e. e ≡ AppendError.Device → must_reopen file.new ≡ true) }
     ensures still { IfErr result (λ e. e ≢ AppendError.Device → must_reopen file.new ≡ must_reopen file.old) }
     ensures unchanged { IfErr result (λ e. e ≢ AppendError.Device → e ≢ AppendError.CountFull → file.new ≡ file.old) }
+    ensures full_at_once { IsFull (schema_of file.old).version (placed_of file.old)
+        → OnErr result (file.new ≡ file.old) }
     ensures holds { IsTrue S.tells_bytes → OnOk result ((limit : ℕ) (places : List Place) (d : Dataset)
         → Contains (S.bytes (store_of file.old)) limit places d (schema_of file.old) (placed_of file.old)
         → ∥ HoldsAll (S.bytes (store_of file.new)) limit places (with_fills d more) ∥₁) }

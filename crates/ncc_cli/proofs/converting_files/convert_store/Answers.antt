@@ -33,7 +33,7 @@ returns-in-Ok-clause-halted g c = λ told is.
     ⊎_elim (λ none. inl none)
     (λ some. ⊎_elim
     (λ line. inr (inl (plan_line line.0, inr (schema_of file, placed_of file, line.0, c.in-Ok.ensures.passes told, line.1, refl), line.2)))
-    (λ converted. inr (inr converted.1)) some)
+    (λ converted. inr (inr (schema_of file, placed_of file, c.in-Ok.ensures.passes told, converted.0, converted.1))) some)
     (c.convert_file.ensures.halted is)
 
 pub returns-clause-memory : goal.returns-clause-memory

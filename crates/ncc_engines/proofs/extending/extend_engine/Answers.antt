@@ -1,11 +1,12 @@
 use Rattle.std.proofs.Math.Logic.{∥∥₁_map}
 use Rattle.std.proofs.Common.{◌≡◌, ◌≢◌, ◌⊎◌, ◌+◌, inl, inr, ⊎_elim, false, ℕ, List, Bool, Ok, Err, refl, ap, sym, subst, ◌∙◌}
+use Rattle.ncc_values.specs.Failures.{Rose}
 use Rattle.ncc_layout.specs.Placed.{records_of_file}
 use Rattle.ncc_store.specs.Store.{LeavesOnly, Only, Unmoved}
 use Rattle.ncc_check.specs.Appending.{IsFull}
 use Rattle.ncc_check.specs.declared.append_error.AppendError.{AppendError}
 use Rattle.ncc_check.specs.declared.append_error.AppendError.TheVariants as errors
-use Rattle.ncc_engines.specs.Extending.{IsFilledSome, IsFilledUp}
+use Rattle.ncc_engines.specs.Extending.{IsFilledSome, IsFilledUp, IsFilledWhole}
 use Rattle.ncc_store.proofs.Moments.{joined, stays}
 use Rattle.ncc_check.specs.Checks.{Opens, Refuses}
 use Rattle.ncc_check.specs.Files.{store_of, schema_of, placed_of}
@@ -14,7 +15,7 @@ use Rattle.ncc_write.specs.Additions.{HoldsAll}
 use Rattle.ncc_write.specs.Extends.{Contains, ExtendsAs, HoldsSome, LeavesFills, filled_bytes, with_fills}
 use Rattle.ncc_write.proofs.MoreFills.{at_start}
 use Rattle.ncc_engines.specs.declared.answer.Answer.{Answer}
-use Rattle.ncc_engines.proofs.Extended.{Told, fault_went, filled_up, is_full, some_filled, refused_for, none_more, takes_none, passed_ok, went}
+use Rattle.ncc_engines.proofs.Extended.{Told, fault_went, filled_up, is_full, some_filled, refused_for, none_more, takes_none, whole_filled, passed_ok, went}
 use Rattle.ncc_engines.proofs.extending.extend_engine.Goals as goal
 
 pub returns-in-Ok-clause-extends : goal.returns-in-Ok-clause-extends
@@ -188,3 +189,30 @@ returns-in-Fault-clause-untouched g c = λ told refused.
       c.in-Err.ensures.unmoved,
       inl (λ passes. c.passing_has_no_fault.ensures.apart (g.S.Store.bytes c.args.store) c.args.limit c.in-Fault.fault passes fails),
     )
+
+pub returns-in-Ok-clause-whole : goal.returns-in-Ok-clause-whole
+returns-in-Ok-clause-whole g c = λ told other.
+    let f = c.in-Ok.opened in
+    let s = schema_of f in
+    let p = placed_of f in
+    let new = c.extend-extended.new.file in
+    let same = c.in-Ok.ensures.unmoved.same in
+    let filled = subst (λ (b : List ℕ). ∥ IsFilledWhole b c.args.limit c.args.more (g.S.Store.bytes (store_of new)) ∥₁) same
+    (whole_filled (g.S.Store.bytes (store_of f)) c.args.limit s p
+    (subst (λ (b : List ℕ). Opens b c.args.limit s p) (sym same) (c.in-Ok.ensures.passes told)) c.args.more
+    c.extend-extended.result (schema_of new) (placed_of new) g.S.Store.tells_bytes (g.S.Store.bytes (store_of new)) told
+    (λ device. other (c.tell-answer.ensures.told device))
+    (c.extend-extended.ensures.bytes told) c.extend-extended.ensures.partly) in
+    inr (subst (λ x. ∥ IsFilledWhole (g.S.Store.bytes c.args.store) c.args.limit c.args.more (g.S.Store.bytes x) ∥₁)
+    (sym c.into_store.ensures) filled)
+
+pub returns-in-Ok-clause-device : goal.returns-in-Ok-clause-device
+returns-in-Ok-clause-device g c = λ is.
+    let new = c.extend-extended.new.file in
+    ⊎_elim
+    (λ device.
+    let rose : Rose (g.S.Store.failures (store_of c.in-Ok.opened)) (g.S.Store.failures (store_of new)) =
+    rw device at c.extend-extended.ensures.count in
+    inl (subst (λ x. Rose (g.S.Store.failures c.args.store) (g.S.Store.failures x)) (sym c.into_store.ensures)
+    (subst (λ (m : ℕ). Rose m (g.S.Store.failures (store_of new))) c.in-Ok.ensures.count rose)))
+    (λ sink. inr sink) (c.tell-answer.ensures.device is)

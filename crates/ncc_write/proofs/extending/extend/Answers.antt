@@ -144,6 +144,9 @@ returns-in_err-add_one-clause-unchanged g c =
     (omega (arith, c.loop-done-test.true)) adds in
     rw is (λ no_device no_room. absurd (⊎_elim no_device no_room why.1))
 
+pub returns-in_err-add_one-clause-full_at_once : goal.returns-in_err-add_one-clause-full_at_once
+returns-in_err-add_one-clause-full_at_once g c = λ full. absurd (c.loop-done.invariant.takes.room full)
+
 pub returns-in_err-add_one-clause-any_moment : goal.returns-in_err-add_one-clause-any_moment
 returns-in_err-add_one-clause-any_moment g c = λ told only limit places d start.
     let at = c.loop-done.invariant in

@@ -1,0 +1,23 @@
+-- What stands whole at the front of a piece.
+use Rattle.std.specs.Prelude.{◌≡◌, ℕ, ◌+◌, ◌≤◌, List, ◌++◌, length}
+use Rattle.ncc_schema.specs.declared.schema.Mark.{Mark}
+use Rattle.ncc_header.specs.Fields.{bytes, padding}
+use Rattle.ncc_header.specs.Grammar.{Grammar, done, ◌>>=◌}
+use Rattle.ncc_header.specs.Left.{Given}
+use Rattle.ncc_header.specs.Reading.{course}
+
+-- so many bytes stand at the front of a piece, and the others behind them
+abbrev pub StartsWith : (piece front : List ℕ) (size : ℕ) (after : List ℕ) → Type 0
+StartsWith piece front size after = (piece ≡ front ++ after) × (length front ≡ size)
+
+-- The piece begins with an item of the grammar, and goes on with the bytes of after: what is to be read behind the
+-- item, within whatever limit, is read behind its bytes, which show no mark.
+pub record Passes {A : Type 0} (g : Grammar A) (item : A) (piece after : List ℕ) : Type 0 where
+  pub front : List ℕ
+  pub joined : piece ≡ front ++ after
+  pub goes_on : (next : A → Grammar Given) (limit at : ℕ) (shown : List Mark) (begun more : List ℕ) → at + length front ≤ limit
+      → course (g >>= next) limit at shown begun (front ++ more) ≡ course (next item) limit (at + length front) shown begun more
+
+-- so many bytes, and their padding
+abbrev pub padded : ℕ → Grammar (List ℕ)
+padded n = bytes n >>= λ text. padding n >>= λ zeros. done text

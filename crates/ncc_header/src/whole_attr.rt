@@ -1,0 +1,126 @@
+//! Taking an attribute that is whole in a piece, with nothing to mark or to refuse, at once.
+
+ghost use Rattle.std.specs.Prelude.{◌≡◌, ◌*◌, ◌%◌, ◌≤◌, ◌<◌, [], length, IfSome, IfNone, IfOk, IfErr};
+ghost use Rattle.ncc_values.specs.Values.{values_of};
+ghost use Rattle.ncc_values.specs.XType.{size_of as bytes_each};
+ghost use Rattle.ncc_header.specs.declared.built.Named.TheVariants as named;
+ghost use Rattle.ncc_header.specs.declared.built.Next.TheVariants as nexts;
+ghost use Rattle.ncc_header.specs.Fields.{attr};
+ghost use Rattle.ncc_header.specs.Passing.{Passes, padded};
+ghost use Rattle.ncc_header.specs.Reading.{Went, effort_of};
+
+use crate::attrs::add_attr;
+use crate::built::{Named, Next, Owner};
+use crate::passing::{count, whole_name, with_padding, xtype};
+use crate::reading::Reading;
+use ncc_schema::Attr;
+use ncc_values::{Name, Values, Version, XType};
+use std::alloc::{AllocError, Global};
+
+/// An attribute at the front of a piece, and the bytes behind it.
+#[derive(Clone, Copy)]
+struct Found<'a> {
+    name: &'a [u8],
+    xtype: XType,
+    values: &'a [u8],
+    after: &'a [u8],
+}
+
+/// [values ...] padding
+#[inline]
+fn whole_values(piece: &[u8], k: u64, xtype: XType) -> Option<(&[u8], &[u8])>
+    ensures passes { IfSome result (λ r. Passes (padded (k * bytes_each xtype)) r.0.now piece.now r.1.now) }
+    ensures whole { IfSome result (λ r. length r.0.now % bytes_each xtype ≡ 0) }
+    ensures less { IfSome result (λ r. length r.1.now ≤ length piece.now) }
+{
+    let size = k as u128 * xtype.size() as u128;
+    if size > piece.len() as u128 {
+        return None;
+    }
+    let (values, after) = with_padding(piece, size as u64)?;
+    Some((values, after))
+}
+
+/// attr = name nc_type nelems [values ...] padding
+#[inline]
+fn whole_attr(version: Version, piece: &[u8]) -> Option<Found<'_>>
+    ensures passes { IfSome result (λ x. Passes (attr version)
+        (record { name = x.name.now; values = values_of x.xtype x.values.now }) piece.now x.after.now) }
+    ensures whole { IfSome result (λ x. length x.values.now % bytes_each x.xtype ≡ 0) }
+    ensures less { IfSome result (λ x. length x.after.now < length piece.now) }
+{
+    let (name, rest) = whole_name(version, piece)?;
+    let (xtype, rest) = xtype(version, rest)?;
+    let (k, rest) = count(version, rest)?;
+    let (values, after) = whole_values(rest, k, xtype)?;
+    Some(Found {
+        name,
+        xtype,
+        values,
+        after,
+    })
+}
+
+/// The attribute that was found, in memory of its own.
+#[inline]
+fn owned(alloc: Global, found: Found<'_>) -> Result<Attr, AllocError>
+    requires { length found.values.now % bytes_each found.xtype ≡ 0 }
+    ensures { IfOk result (λ a. a ≡ record {
+      name = found.entry.name.now;
+      values = values_of found.entry.xtype found.entry.values.now;
+    }) }
+{
+    let name = Name::from_slice(alloc, found.name)?;
+    let mut values = Values::new(alloc, found.xtype);
+    values.push_from(found.values)?;
+    Ok(Attr { name, values })
+}
+
+/// What the attribute is of that comes next, where none of its bytes has come.
+#[inline]
+pub fn attr_begins(reading: &Reading) -> Option<Owner>
+    ensures next { IfSome result (λ o. reading.now.next ≡ nexts.NameLength (named.Attr o)) }
+    ensures none { IfSome result (λ o. reading.now.held.items ≡ []) }
+{
+    match reading.next {
+        Next::NameLength(Named::Attr(owner)) if reading.held.is_empty() => Some(owner),
+        _ => None,
+    }
+}
+
+/// Takes the attribute that comes next, where the rest of a piece begins with all of it, and tells how
+/// many bytes are its.
+pub fn take_attr(
+    alloc: Global,
+    reading: &mut Reading,
+    owner: Owner,
+    rest: &[u8],
+) -> Result<Option<usize>, AllocError>
+    requires next { reading.old.next ≡ nexts.NameLength (named.Attr owner) }
+    requires none { reading.old.held.items ≡ [] }
+    ensures some { IfOk result (λ o. IfSome o (λ n. Went reading.old reading.new rest.now n)) }
+    ensures less { IfOk result (λ o. IfSome o (λ n. effort_of reading.new < effort_of reading.old)) }
+    ensures none { IfOk result (λ o. IfNone o (reading.new ≡ reading.old)) }
+    ensures memory { IfErr result (λ _. 12 ≤ reading.old.at) }
+{
+    let Some(found) = whole_attr(reading.built.lists.parts.version, rest) else {
+        return Ok(None);
+    };
+    let used = rest.len() - found.after.len();
+    if used as u64 > reading.limit - reading.at {
+        return Ok(None);
+    }
+    let attr = owned(alloc, found)?;
+    match add_attr(alloc, &mut reading.built, owner, attr) {
+        Ok(next) => {
+            reading.next = next;
+            reading.at += used as u64;
+            Ok(Some(used))
+        }
+        Err(error) => {
+            // What a reading promises holds of any that begins, whatever was built.
+            reading.next = Next::Magic;
+            Err(error)
+        }
+    }
+}
