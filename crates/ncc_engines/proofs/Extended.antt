@@ -30,7 +30,7 @@ use Rattle.ncc_write.specs.Records.{followed_by}
 use Rattle.ncc_engines.specs.declared.answer.Answer.{Answer}
 use Rattle.ncc_engines.specs.declared.answer.Answer.TheVariants.{Passed, Refused, Device, Memory}
 use Rattle.ncc_engines.specs.Answers.{Texts, answer_of}
-use Rattle.ncc_engines.specs.Extending.{ExtendsInto, IsExtendText, IsFilledSome, IsFilledUp, IsFilledWhole, IsFrontOfText, Tells, TellsText}
+use Rattle.ncc_engines.specs.Extending.{ExtendsInto, IsExtendText, IsFilled, IsFilledSome, IsFilledUp, IsFilledWhole, IsFrontOfRefusal, IsFrontOfText, Tells, TellsText}
 
 -- these went out
 abbrev pub Told : Result (Unit {0}) AppendError → (records : ℕ) → (old new : Option (List ℕ)) → Answer → Type 0
@@ -39,7 +39,7 @@ Told result records old new answer = (out : List ℕ) × Puts old new out × Tel
 abbrev pub Went : (bytes : List ℕ) (limit more : ℕ) (old new : Option (List ℕ)) → Answer → Type 0
 Went b limit n old new answer = (out : List ℕ) × Puts old new out × ExtendsInto b limit n answer out
 
-nothing_put : (put : Option (List ℕ)) → Puts put put []
+pub nothing_put : (put : Option (List ℕ)) → Puts put put []
 nothing_put None = tt
 nothing_put (Some bytes) = ap Some (sym (append-nil bytes))
 
@@ -124,6 +124,42 @@ fault_went b limit n old new f answer sent fails s is = subst (Went b limit n ol
 pub stopped_went : (b : List ℕ) (limit n : ℕ) (put : Option (List ℕ))
     → Went b limit n put put Device × Went b limit n put put Memory
 stopped_went b limit n put = (([], nothing_put put, inl refl), ([], nothing_put put, inl refl))
+
+-- ---- how many there are is told last
+
+front_of_refusal : (b : List ℕ) (limit n : ℕ) (s : Schema) (p : Placed) → Opens b limit s p → (e : AppendError)
+    (records : ℕ) → ExtendsAs false s p n (Err e) → (out : List ℕ) → IsFrontOfText (TellsText (Err e) records) out
+    → IsFrontOfRefusal b limit n out
+front_of_refusal b limit n s p o e records how out (inl none) = inl none
+front_of_refusal b limit n s p o e records how out (inr (Passed, text, rest, is, joined)) = absurd is
+front_of_refusal b limit n s p o e records how out (inr (Refused, text, rest, is, joined)) =
+    inr (text, rest, inl (s, p, o, (e, how, is.0, is.1, is.2)), joined)
+front_of_refusal b limit n s p o e records how out (inr (Device, text, rest, is, joined)) = absurd is
+front_of_refusal b limit n s p o e records how out (inr (Memory, text, rest, is, joined)) = absurd is
+
+-- a front of a refusal went out, or all of the records stand
+pub refused_or_filled : (b : List ℕ) (limit n : ℕ) (s : Schema) (p : Placed) → Opens b limit s p
+    → (result : Result (Unit {0}) AppendError) (records : ℕ) → ExtendsAs false s p n result
+    → (answer : Answer) (out : List ℕ) → Tells result records answer out
+    → (new : List ℕ) → OnOk result (new ≡ filled_bytes b s p n)
+    → IsFrontOfRefusal b limit n out ⊎ (∥ IsFilled b limit n new ∥₁)
+refused_or_filled b limit n s p o (Ok x) records how answer out told new ok =
+    inr ∣ record { schema = s; placed = p; opens = o; bytes = ok } ∣₁
+refused_or_filled b limit n s p o (Err e) records how Passed out told new ok = absurd told
+refused_or_filled b limit n s p o (Err e) records how Refused out told new ok =
+    inl (inr (out, [], inl (s, p, o, (e, how, told.0, told.1, told.2)), sym (append-nil out)))
+refused_or_filled b limit n s p o (Err e) records how Device out told new ok =
+    inl (front_of_refusal b limit n s p o e records how out told)
+refused_or_filled b limit n s p o (Err e) records how Memory out told new ok =
+    inl (front_of_refusal b limit n s p o e records how out told)
+
+pub fault_front : (b : List ℕ) (limit n : ℕ) (old new : Option (List ℕ)) (f : FileFault)
+    (sent : Result (Unit {0}) Halt) → Fails b limit f → SendsAll old new (file_fault_line f) sent
+    → (out : List ℕ) × Puts old new out × IsFrontOfRefusal b limit n out
+fault_front b limit n old new f (Ok x) fails s =
+    (file_fault_line f, s, inr (file_fault_line f, [], inr (f, fails, refl), sym (append-nil (file_fault_line f))))
+fault_front b limit n old new f (Err e) fails s =
+    (s.0, s.3, inr (file_fault_line f, s.1, inr (f, fails, refl), s.2))
 
 -- ---- what stands
 

@@ -52,6 +52,11 @@ ExtendsInto b limit n Refused out = IsExtendText b limit n Refused out
 ExtendsInto b limit n Device out = IsFrontOfText (IsExtendText b limit n) out
 ExtendsInto b limit n Memory out = IsFrontOfText (IsExtendText b limit n) out
 
+-- nothing went out, or a front of a line that says why
+abbrev pub IsFrontOfRefusal : (bytes : List ℕ) (limit more : ℕ) → (out : List ℕ) → Type 0
+IsFrontOfRefusal b limit n out =
+    (out ≡ []) ⊎ ((text : List ℕ) × (rest : List ℕ) × IsExtendText b limit n Refused text × (text ≡ out ++ rest))
+
 -- ---- what stands
 
 -- bytes that were opened, with so many records of fill values more

@@ -11,7 +11,7 @@ ghost use Rattle.ncc_check.specs.declared.append_error.AppendError.TheVariants a
 ghost use Rattle.ncc_build.specs.Dataset.{Dataset, IsDataset};
 ghost use Rattle.ncc_write.specs.Additions.{HoldsAll};
 ghost use Rattle.ncc_write.specs.Extends.{HoldsSome, with_fills};
-ghost use Rattle.ncc_engines.specs.Extending.{ExtendsInto, IsFilled, IsFilledSome, IsFilledUp, IsFilledWhole, TakesNone, Tells};
+ghost use Rattle.ncc_engines.specs.Extending.{ExtendsInto, IsFilled, IsFilledSome, IsFilledUp, IsFilledWhole, IsFrontOfRefusal, TakesNone, Tells};
 
 use crate::answer::{Answer, answered};
 use ncc_check::{AppendError, NcFile, Refusal, laws as check_laws, open};
@@ -66,6 +66,8 @@ pub fn extend_engine<S: Store, W: Sink>(
 ) -> (S, Answer)
     ensures extends { IsTrue S.tells_bytes → (out : List ℕ) × Puts (W.put sink.old) (W.put sink.new) out
         × ExtendsInto (S.bytes store) limit more result.1 out }
+    ensures counted { IsTrue S.tells_bytes → (out : List ℕ) × Puts (W.put sink.old) (W.put sink.new) out
+        × (IsFrontOfRefusal (S.bytes store) limit more out ⊎ (∥ IsFilled (S.bytes store) limit more (S.bytes result.0) ∥₁)) }
     ensures holds { IsTrue S.tells_bytes → result.1 ≡ Answer.Passed → (places : List Place) (d : Dataset)
         → IsDataset d → HoldsAll (S.bytes store) limit places d
         → ∥ HoldsAll (S.bytes result.0) limit places (with_fills d more) ∥₁ }

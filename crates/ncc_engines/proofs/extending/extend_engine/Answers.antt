@@ -1,12 +1,13 @@
 use Rattle.std.proofs.Math.Logic.{∥∥₁_map}
-use Rattle.std.proofs.Common.{◌≡◌, ◌≢◌, ◌⊎◌, ◌+◌, inl, inr, ⊎_elim, false, ℕ, List, Bool, Ok, Err, refl, ap, sym, subst, ◌∙◌}
+use Rattle.std.proofs.Common.{◌≡◌, ◌≢◌, ◌⊎◌, ◌+◌, inl, inr, ⊎_elim, false, ℕ, List, [], Bool, Ok, Err, refl, ap, sym, subst, ◌∙◌}
+use Rattle.std.specs.Prelude.{OnOk}
 use Rattle.ncc_values.specs.Failures.{Rose}
 use Rattle.ncc_layout.specs.Placed.{records_of_file}
 use Rattle.ncc_store.specs.Store.{LeavesOnly, Only, Unmoved}
 use Rattle.ncc_check.specs.Appending.{IsFull}
 use Rattle.ncc_check.specs.declared.append_error.AppendError.{AppendError}
 use Rattle.ncc_check.specs.declared.append_error.AppendError.TheVariants as errors
-use Rattle.ncc_engines.specs.Extending.{IsFilledSome, IsFilledUp, IsFilledWhole}
+use Rattle.ncc_engines.specs.Extending.{IsFilled, IsFilledSome, IsFilledUp, IsFilledWhole}
 use Rattle.ncc_store.proofs.Moments.{joined, stays}
 use Rattle.ncc_check.specs.Checks.{Opens, Refuses}
 use Rattle.ncc_check.specs.Files.{store_of, schema_of, placed_of}
@@ -15,7 +16,7 @@ use Rattle.ncc_write.specs.Additions.{HoldsAll}
 use Rattle.ncc_write.specs.Extends.{Contains, ExtendsAs, HoldsSome, LeavesFills, filled_bytes, with_fills}
 use Rattle.ncc_write.proofs.MoreFills.{at_start}
 use Rattle.ncc_engines.specs.declared.answer.Answer.{Answer}
-use Rattle.ncc_engines.proofs.Extended.{Told, fault_went, filled_up, is_full, some_filled, refused_for, none_more, takes_none, whole_filled, passed_ok, went}
+use Rattle.ncc_engines.proofs.Extended.{Told, fault_went, filled_up, is_full, some_filled, refused_for, none_more, takes_none, whole_filled, passed_ok, went, nothing_put, refused_or_filled, fault_front}
 use Rattle.ncc_engines.proofs.extending.extend_engine.Goals as goal
 
 pub returns-in-Ok-clause-extends : goal.returns-in-Ok-clause-extends
@@ -216,3 +217,33 @@ returns-in-Ok-clause-device g c = λ is.
     inl (subst (λ x. Rose (g.S.Store.failures c.args.store) (g.S.Store.failures x)) (sym c.into_store.ensures)
     (subst (λ (m : ℕ). Rose m (g.S.Store.failures (store_of new))) c.in-Ok.ensures.count rose)))
     (λ sink. inr sink) (c.tell-answer.ensures.device is)
+
+pub returns-in-Ok-clause-counted : goal.returns-in-Ok-clause-counted
+returns-in-Ok-clause-counted g c = λ told.
+    let f = c.in-Ok.opened in
+    let s = schema_of f in
+    let p = placed_of f in
+    let new = g.S.Store.bytes (store_of c.extend-extended.new.file) in
+    let same = c.in-Ok.ensures.unmoved.same in
+    let answer = subst (λ (b : Bool). ExtendsAs b s p c.args.more c.extend-extended.result) c.in-Ok.ensures.fresh c.extend-extended.ensures.answer in
+    let tells = c.tell-answer.ensures.tells in
+    (tells.0, tells.1, ⊎_elim (λ front. inl front)
+    (λ filled. inr (subst (λ x. ∥ IsFilled (g.S.Store.bytes c.args.store) c.args.limit c.args.more (g.S.Store.bytes x) ∥₁)
+    (sym c.into_store.ensures) filled))
+    (refused_or_filled (g.S.Store.bytes c.args.store) c.args.limit c.args.more s p (c.in-Ok.ensures.passes told)
+    c.extend-extended.result c.records.result answer c.tell-answer.result tells.0 tells.2 new
+    (subst (λ (b : List ℕ). OnOk c.extend-extended.result (new ≡ filled_bytes b s p c.args.more)) same
+    (c.extend-extended.ensures.bytes told))))
+
+pub returns-in-Fault-clause-counted : goal.returns-in-Fault-clause-counted
+returns-in-Fault-clause-counted g c = λ told.
+    let fails = subst (λ (r : Refusal). Refuses (g.S.Store.bytes c.args.store) c.args.limit r) c.in-Fault.is (c.in-Err.ensures.refused told) in
+    let front = fault_front (g.S.Store.bytes c.args.store) c.args.limit c.args.more (g.W.Sink.put c.args.sink.now)
+    (g.W.Sink.put c.send_file_fault.new.sink) c.in-Fault.fault c.send_file_fault.result fails c.send_file_fault.ensures.sent in
+    (front.0, front.1, inl front.2)
+
+pub returns-in-Device-clause-counted : goal.returns-in-Device-clause-counted
+returns-in-Device-clause-counted g c = λ told. ([], nothing_put (g.W.Sink.put c.args.sink.now), inl (inl refl))
+
+pub returns-in-Memory-clause-counted : goal.returns-in-Memory-clause-counted
+returns-in-Memory-clause-counted g c = λ told. ([], nothing_put (g.W.Sink.put c.args.sink.now), inl (inl refl))
