@@ -17,10 +17,12 @@ ghost use Rattle.ncc_convert.specs.Lines.{converted_line, plan_line};
 ghost use Rattle.ncc_engines.specs.Converting.{IsRefusalLine, HasConvertedFront, HasRefusalFront};
 ghost use Rattle.ncc_lines.specs.Sends.{PutsFront};
 ghost use Rattle.ncc_engines.specs.Planning.{IsAgainst, IsConvertible, HaltsLine};
+ghost use Rattle.ncc_cli.specs.Making.{in_version, IsFileOf, IsBeginningOf};
 
 use crate::commands::LIMIT;
 use crate::finishing::flushed;
 use crate::progress::ProgressLine;
+use crate::target::{NewFile, Target};
 use clap::ArgMatches;
 use ncc_check::{NcFile, Refusal, open};
 use ncc_convert::send_converted;
@@ -35,46 +37,52 @@ use std::fs::File;
 use std::io::{BufWriter, Write};
 use std::rt::{Clock, Files};
 
-/// The answer of a conversion into this file, which must be on the disk where it passed.
-fn on_disk(out: File, answer: Answer) -> Answer
-    ensures { result ≢ Answer.Device → result ≡ answer }
+/// Writes what an open file holds into a new file, by a schema that was planned for it. Where it passed the
+/// file is on the disk; after a failure there is none, or a beginning of it.
+fn convert_into<S: Store, T: Target, P: Progress>(
+    alloc: Global,
+    file: &mut NcFile<S>,
+    built: Built,
+    target: &mut T,
+    progress: &mut P,
+) -> Answer
+    requires planned { IsPlanned (schema_of file.old) (placed_of file.old) (planned_schema built) }
+    ensures unrefused { result ≢ Answer.Refused }
+    ensures made { IsTrue S.tells_bytes → IsTrue T.tells_bytes → result ≡ Answer.Passed
+        → IsFileOf (S.bytes (store_of file.old)) (placed_of file.old) (planned_schema built) (T.file target.new) }
+    ensures begun { IsTrue S.tells_bytes → IsTrue T.tells_bytes → result ≢ Answer.Passed → (target.new ≡ target.old)
+        ⊎ IsBeginningOf (S.bytes (store_of file.old)) (placed_of file.old) (planned_schema built) (T.file target.new) }
+    ensures store { result ≢ Answer.Device → S.failures (store_of file.new) ≡ S.failures (store_of file.old) }
 {
-    if answer == Answer::Passed && out.sync_all().is_err() {
+    let Some(out) = target.make() else {
+        return Answer::Device;
+    };
+    let (out, answer) = convert_engine(alloc, file, built, out, progress);
+    let passed = answer == Answer::Passed;
+    if !target.close(out, passed) && passed {
         return Answer::Device;
     }
     answer
 }
 
-/// Writes what an open file holds into a new file, by a schema that was planned for it. The file is on the disk where it
-/// passed.
-fn convert_into<R: Files<File = File> + AllocGlobal, S: Store, P: Progress>(
-    rt: &R,
-    file: &mut NcFile<S>,
-    built: Built,
-    path: &str,
-    progress: &mut P,
-) -> Answer
-    requires planned { IsPlanned (schema_of file.old) (placed_of file.old) (planned_schema built) }
-    ensures unrefused { result ≢ Answer.Refused }
-    ensures store { result ≢ Answer.Device → S.failures (store_of file.new) ≡ S.failures (store_of file.old) }
-{
-    let Ok(out) = File::create_new(rt, path) else {
-        return Answer::Device;
-    };
-    let (target, answer) = convert_engine(rt.alloc(), file, built, WriteSink::new(out), progress);
-    on_disk(target.into_inner(), answer)
-}
-
 /// Converts an open file, and writes the line that says so; or the line of what is against it, and then there is no new
 /// file.
-fn convert_file<R: Files<File = File> + AllocGlobal, S: Store, W: Sink, P: Progress>(
-    rt: &R,
+fn convert_file<S: Store, T: Target, W: Sink, P: Progress>(
+    alloc: Global,
     file: &mut NcFile<S>,
     version: Version,
-    path: &str,
+    target: &mut T,
     sink: &mut W,
     progress: &mut P,
 ) -> Answer
+    ensures made { IsTrue S.tells_bytes → IsTrue T.tells_bytes → result ≡ Answer.Passed
+        → IsFileOf (S.bytes (store_of file.old)) (placed_of file.old)
+        (in_version version (schema_of file.old) (placed_of file.old)) (T.file target.new) }
+    ensures begun { IsTrue S.tells_bytes → IsTrue T.tells_bytes → result ≢ Answer.Passed → (target.new ≡ target.old)
+        ⊎ IsBeginningOf (S.bytes (store_of file.old)) (placed_of file.old)
+        (in_version version (schema_of file.old) (placed_of file.old)) (T.file target.new) }
+    ensures unmade { (f : WriteFault) → IsAgainst version (schema_of file.old) (records_of_file (placed_of file.old)) f
+        → target.new ≡ target.old }
     ensures convertible { result ≡ Answer.Passed
         → IsConvertible version (schema_of file.old) (records_of_file (placed_of file.old)) }
     ensures passed { result ≡ Answer.Passed → Puts (W.put sink.old) (W.put sink.new) (converted_line version) }
@@ -93,11 +101,11 @@ fn convert_file<R: Files<File = File> + AllocGlobal, S: Store, W: Sink, P: Progr
     ensures device { result ≡ Answer.Device
         → (W.put sink.new ≡ W.put sink.old) ⊎ Rose (W.failures sink.old) (W.failures sink.new) }
 {
-    let built = match plan(rt.alloc(), file, version, sink) {
+    let built = match plan(alloc, file, version, sink) {
         Ok(built) => built,
         Err(answer) => return answer,
     };
-    let answer = convert_into(rt, file, built, path, progress);
+    let answer = convert_into(alloc, file, built, target, progress);
     progress.end();
     match answer {
         Answer::Passed => answered(send_converted(version, sink), Answer::Passed),
@@ -126,14 +134,20 @@ fn refused<W: Sink>(alloc: Global, refusal: Refusal, sink: &mut W) -> Answer
 }
 
 /// Opens a store and converts its file; or writes the line of the file's fault.
-fn convert_store<R: Files<File = File> + AllocGlobal, S: Store + Drop, W: Sink, P: Progress>(
-    rt: &R,
+fn convert_store<S: Store + Drop, T: Target, W: Sink, P: Progress>(
+    alloc: Global,
     store: S,
     version: Version,
-    path: &str,
+    target: &mut T,
     sink: &mut W,
     progress: &mut P,
 ) -> Answer
+    ensures made { IsTrue S.tells_bytes → IsTrue T.tells_bytes → result ≡ Answer.Passed → (s : Schema) × (p : Placed)
+        × Opens (S.bytes store) LIMIT s p × IsFileOf (S.bytes store) p (in_version version s p) (T.file target.new) }
+    ensures begun { IsTrue S.tells_bytes → IsTrue T.tells_bytes → result ≢ Answer.Passed → (target.new ≡ target.old)
+        ⊎ ((s : Schema) × (p : Placed) × Opens (S.bytes store) LIMIT s p
+        × IsBeginningOf (S.bytes store) p (in_version version s p) (T.file target.new)) }
+    ensures unmade { result ≡ Answer.Refused → target.new ≡ target.old }
     ensures convertible { IsTrue S.tells_bytes → result ≡ Answer.Passed → (s : Schema) × (p : Placed)
         × Opens (S.bytes store) LIMIT s p × IsConvertible version s (records_of_file p) }
     ensures passed { result ≡ Answer.Passed → Puts (W.put sink.old) (W.put sink.new) (converted_line version) }
@@ -148,12 +162,12 @@ fn convert_store<R: Files<File = File> + AllocGlobal, S: Store + Drop, W: Sink, 
         ⊎ HasRefusalFront (S.bytes store) LIMIT version (W.put sink.old) (W.put sink.new)
         ⊎ HasConvertedFront (S.bytes store) LIMIT version (W.put sink.old) (W.put sink.new) }
 {
-    match open(rt.alloc(), store, LIMIT) {
+    match open(alloc, store, LIMIT) {
         Ok(opened) => {
             let mut file = opened;
-            convert_file(rt, &mut file, version, path, sink, progress)
+            convert_file(alloc, &mut file, version, target, sink, progress)
         }
-        Err((_, refusal)) => refused(rt.alloc(), refusal, sink),
+        Err((_, refusal)) => refused(alloc, refusal, sink),
     }
 }
 
@@ -173,7 +187,8 @@ fn convert<R: Files<File = File> + AllocGlobal, O: Write, P: Progress>(
         return Answer::Memory;
     };
     let mut sink = WriteSink::new(writer);
-    let answer = convert_store(rt, store, version, to, &mut sink, progress);
+    let mut target = NewFile::new(rt, to);
+    let answer = convert_store(rt.alloc(), store, version, &mut target, &mut sink, progress);
     let mut writer = sink.into_inner();
     flushed(&mut writer, answer)
 }

@@ -7,6 +7,7 @@ mod finishing;
 mod picking;
 mod progress;
 mod run;
+mod target;
 #[cfg(test)]
 mod tests;
 

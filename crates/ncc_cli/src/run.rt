@@ -9,7 +9,7 @@ ghost use Rattle.ncc_check.specs.FromStore.{calls_for};
 ghost use Rattle.ncc_build.specs.Dataset.{Dataset, IsDataset};
 ghost use Rattle.ncc_write.specs.Additions.{HoldsAll};
 ghost use Rattle.ncc_write.specs.Extends.{HoldsSome};
-ghost use Rattle.ncc_engines.specs.Extending.{ExtendsInto, IsFilled, IsFilledSome, IsFilledUp, IsFilledWhole, TakesNone};
+ghost use Rattle.ncc_engines.specs.Extending.{ExtendsInto, IsFilled, IsFilledSome, IsFilledUp, IsFilledWhole, IsFrontOfRefusal, TakesNone};
 ghost use Rattle.ncc_engines.specs.Listing.{Lists};
 ghost use Rattle.ncc_engines.specs.Selecting.{SelectsInto};
 
@@ -153,6 +153,9 @@ fn csv<R: Files<File = File> + Clock + AllocGlobal, O: Write, E: Write>(
 fn extended<S: Store, W: Sink>(alloc: Global, store: S, more: u64, sink: &mut W) -> (S, Answer)
     ensures extends { IsTrue S.tells_bytes → (out : List ℕ) × Puts (W.put sink.old) (W.put sink.new) out
         × ExtendsInto (S.bytes store) LIMIT more result.1 out }
+    ensures counted { IsTrue S.tells_bytes → (out : List ℕ) × Puts (W.put sink.old) (W.put sink.new) out
+        × (IsFrontOfRefusal (S.bytes store) LIMIT more out
+        ⊎ (∥ IsFilled (S.bytes store) LIMIT more (S.bytes result.0) ∥₁)) }
     ensures bytes { IsTrue S.tells_bytes → result.1 ≡ Answer.Passed
         → ∥ IsFilled (S.bytes store) LIMIT more (S.bytes result.0) ∥₁ }
     ensures untouched { IsTrue S.tells_bytes → result.1 ≡ Answer.Refused

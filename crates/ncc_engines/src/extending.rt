@@ -67,7 +67,8 @@ pub fn extend_engine<S: Store, W: Sink>(
     ensures extends { IsTrue S.tells_bytes → (out : List ℕ) × Puts (W.put sink.old) (W.put sink.new) out
         × ExtendsInto (S.bytes store) limit more result.1 out }
     ensures counted { IsTrue S.tells_bytes → (out : List ℕ) × Puts (W.put sink.old) (W.put sink.new) out
-        × (IsFrontOfRefusal (S.bytes store) limit more out ⊎ (∥ IsFilled (S.bytes store) limit more (S.bytes result.0) ∥₁)) }
+        × (IsFrontOfRefusal (S.bytes store) limit more out
+        ⊎ (∥ IsFilled (S.bytes store) limit more (S.bytes result.0) ∥₁)) }
     ensures holds { IsTrue S.tells_bytes → result.1 ≡ Answer.Passed → (places : List Place) (d : Dataset)
         → IsDataset d → HoldsAll (S.bytes store) limit places d
         → ∥ HoldsAll (S.bytes result.0) limit places (with_fills d more) ∥₁ }

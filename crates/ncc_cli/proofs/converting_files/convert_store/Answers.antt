@@ -1,10 +1,41 @@
-use Rattle.std.proofs.Common.{inl, inr, ⊎_elim, refl, subst, sym, ◌∙◌}
+use Rattle.std.proofs.Common.{inl, inr, ⊎_elim, ℕ, List, refl, subst, sym, ◌∙◌}
 use Rattle.ncc_check.specs.Files.{schema_of, placed_of}
 use Rattle.ncc_check.specs.Checks.{Refuses}
 use Rattle.ncc_check.specs.declared.fault.Refusal.{Refusal}
 use Rattle.ncc_convert.specs.Lines.{plan_line}
 use Rattle.ncc_lines.specs.Verdicts.{file_fault_line}
+use Rattle.ncc_cli.specs.Making.{in_version, IsFileOf, IsBeginningOf}
 use Rattle.ncc_cli.proofs.converting_files.convert_store.Goals as goal
+
+pub returns-in-Ok-clause-made : goal.returns-in-Ok-clause-made
+returns-in-Ok-clause-made g c = λ told tells is.
+    let s = schema_of c.in-Ok.opened in
+    let p = placed_of c.in-Ok.opened in
+    let made = g.T.Target.file c.convert_file.new.target in (
+      s,
+      p,
+      c.in-Ok.ensures.passes told,
+      subst (λ (b : List ℕ). IsFileOf b p (in_version c.args.version s p) made) c.in-Ok.ensures.unmoved.same
+          (c.convert_file.ensures.made told tells is),
+    )
+
+pub returns-in-Ok-clause-begun : goal.returns-in-Ok-clause-begun
+returns-in-Ok-clause-begun g c = λ told tells is.
+    let s = schema_of c.in-Ok.opened in
+    let p = placed_of c.in-Ok.opened in
+    let made = g.T.Target.file c.convert_file.new.target in
+    ⊎_elim (λ none. inl none)
+    (λ some. inr (
+      s,
+      p,
+      c.in-Ok.ensures.passes told,
+      subst (λ (b : List ℕ). IsBeginningOf b p (in_version c.args.version s p) made) c.in-Ok.ensures.unmoved.same some,
+    ))
+    (c.convert_file.ensures.begun told tells is)
+
+pub returns-in-Ok-clause-unmade : goal.returns-in-Ok-clause-unmade
+returns-in-Ok-clause-unmade g c = λ is.
+    let because = c.convert_file.ensures.refused is in c.convert_file.ensures.unmade because.0 because.1
 
 pub returns-in-Ok-clause-refused : goal.returns-in-Ok-clause-refused
 returns-in-Ok-clause-refused g c = λ told is.

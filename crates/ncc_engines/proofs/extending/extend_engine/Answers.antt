@@ -226,14 +226,17 @@ returns-in-Ok-clause-counted g c = λ told.
     let new = g.S.Store.bytes (store_of c.extend-extended.new.file) in
     let same = c.in-Ok.ensures.unmoved.same in
     let answer = subst (λ (b : Bool). ExtendsAs b s p c.args.more c.extend-extended.result) c.in-Ok.ensures.fresh c.extend-extended.ensures.answer in
-    let tells = c.tell-answer.ensures.tells in
-    (tells.0, tells.1, ⊎_elim (λ front. inl front)
-    (λ filled. inr (subst (λ x. ∥ IsFilled (g.S.Store.bytes c.args.store) c.args.limit c.args.more (g.S.Store.bytes x) ∥₁)
-    (sym c.into_store.ensures) filled))
-    (refused_or_filled (g.S.Store.bytes c.args.store) c.args.limit c.args.more s p (c.in-Ok.ensures.passes told)
-    c.extend-extended.result c.records.result answer c.tell-answer.result tells.0 tells.2 new
-    (subst (λ (b : List ℕ). OnOk c.extend-extended.result (new ≡ filled_bytes b s p c.args.more)) same
-    (c.extend-extended.ensures.bytes told))))
+    let tells = c.tell-answer.ensures.tells in (
+      tells.0,
+      tells.1,
+      ⊎_elim (λ front. inl front)
+          (λ filled. inr (subst (λ x. ∥ IsFilled (g.S.Store.bytes c.args.store) c.args.limit c.args.more (g.S.Store.bytes x) ∥₁)
+          (sym c.into_store.ensures) filled))
+          (refused_or_filled (g.S.Store.bytes c.args.store) c.args.limit c.args.more s p (c.in-Ok.ensures.passes told)
+          c.extend-extended.result c.records.result answer c.tell-answer.result tells.0 tells.2 new
+          (subst (λ (b : List ℕ). OnOk c.extend-extended.result (new ≡ filled_bytes b s p c.args.more)) same
+          (c.extend-extended.ensures.bytes told))),
+    )
 
 pub returns-in-Fault-clause-counted : goal.returns-in-Fault-clause-counted
 returns-in-Fault-clause-counted g c = λ told.
