@@ -2,7 +2,8 @@
 # Times `ncc check` on large headers and on a file of 512 MiB, with its peak memory. Beside it stands the time
 # of reading alone, which is that of the header less its last byte, and `ncvalidator` where that is installed
 # (pnetcdf-bin). The program is the first word, or the ncc of the path: one that scripts/install.sh built. The
-# aim is that a check takes at most 1.5 of reading alone.
+# aim is, of 24,000 variables with 20 attributes, at most 0.45 of ncvalidator's time for reading alone, 0.6 for
+# a check, and 0.7 of its memory.
 set -euo pipefail
 ncc=${1:-ncc}
 here=$(cd "$(dirname "$0")" && pwd)

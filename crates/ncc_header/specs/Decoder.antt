@@ -22,7 +22,7 @@ abbrev pub HasFailed : Decoder → HeaderError → Type 0
 HasFailed d e = HasFailedAt d.standing e
 
 -- how many bytes are surely still to come behind what was taken: those of the next field, and the least of those behind
--- it, as far as the limit
+-- it in CDF-1 and without padding (Least), as far as the limit
 abbrev pub expects_at : Standing → ℕ
 expects_at (standings.Reading r) =
     expects_of (size_of (next_of r)) (rest_of r.next r.built.lists) r.limit r.at (length (held_of r))

@@ -11,7 +11,7 @@ abbrev pub StartsWith : (piece front : List ℕ) (size : ℕ) (after : List ℕ)
 StartsWith piece front size after = (piece ≡ front ++ after) × (length front ≡ size)
 
 -- The piece begins with an item of the grammar, and goes on with the bytes of after: what is to be read behind the
--- item, within whatever limit, is read behind its bytes, which show no mark.
+-- item, within whatever limit, is read behind its bytes, which show no mark and have no begin field.
 pub record Passes {A : Type 0} (g : Grammar A) (item : A) (piece after : List ℕ) : Type 0 where
   pub front : List ℕ
   pub joined : piece ≡ front ++ after

@@ -106,7 +106,7 @@ pub struct Body {
 #[derive(Debug, Drop)]
 pub struct Built {
     pub lists: Lists,
-    /// The bytes that have come of the name that has begun, or was the last.
+    /// The bytes that have come of the name that has begun, or was the last that came field by field.
     pub name: Name,
     pub body: Body,
 }

@@ -25,7 +25,8 @@ fn parted(piece: &[u8], n: u64) -> Option<(&[u8], &[u8])>
 fn number_at(piece: &[u8], width: u64) -> Option<(u64, &[u8])>
     requires some { 0 < width }
     requires few { width ≤ 8 }
-    ensures { IfSome result (λ r. (front : List ℕ) × StartsWith piece.now front width r.1.now × (r.0 ≡ number_of front)) }
+    ensures { IfSome result (λ r. (front : List ℕ) × StartsWith piece.now front width r.1.now
+        × (r.0 ≡ number_of front)) }
 {
     let (bytes, after) = parted(piece, width)?;
     Some((number(bytes), after))
@@ -44,7 +45,7 @@ pub fn count(version: Version, piece: &[u8]) -> Option<(u64, &[u8])>
     }
 }
 
-/// The number of a count's bytes, and the bytes behind them.
+/// A count, whatever number it is, and the bytes behind it.
 #[inline]
 fn counted(version: Version, piece: &[u8]) -> Option<(u64, &[u8])>
     ensures { IfSome result (λ r. (front : List ℕ) × StartsWith piece.now front (count_width_of version) r.1.now

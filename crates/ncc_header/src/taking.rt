@@ -1,4 +1,4 @@
-//! Taking the bytes of a piece, field by field.
+//! Taking the bytes of a piece: field by field, and an attribute that is whole in it at once.
 
 ghost use Rattle.std.specs.Prelude.{◌≡◌, ◌≢◌, ◌+◌, ◌-◌, ◌≤◌, ◌<◌, ◌^◌, ℕ, List, [], ◌++◌, length, take, Some, None, Err, OnOk, IfOk, IfErr, IfSome, IfNone};
 ghost use Rattle.ncc_header.specs.Left.{left_of, come_of, idle_of};

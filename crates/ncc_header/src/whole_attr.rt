@@ -88,8 +88,8 @@ pub fn attr_begins(reading: &Reading) -> Option<Owner>
     }
 }
 
-/// Takes the attribute that comes next, where the rest of a piece begins with all of it, and tells how
-/// many bytes are its.
+/// Takes the attribute that comes next, where the rest of a piece begins with all of it, within the limit and
+/// with nothing to mark or to refuse, and tells how many bytes are its. Any other is left as it is.
 pub fn take_attr(
     alloc: Global,
     reading: &mut Reading,

@@ -220,7 +220,7 @@ impl<T: Copy, const N: usize> Place<T, N> {
 }
 
 impl<T: External + Copy, const N: usize> Place<T, N> {
-    ghost use Rattle.ncc_values.specs.Few.{items_of, IsWithin, EndsAt};
+    ghost use Rattle.ncc_values.specs.Few.{items_of, IsWithin, IsInline, EndsAt};
     ghost use Rattle.ncc_values.specs.Values.{elements_of};
 
     /// Puts the elements that the bytes spell into the array.
@@ -250,6 +250,8 @@ impl<T: External + Copy, const N: usize> Place<T, N> {
         ensures within { IsWithin self.new }
         ensures ok { OnOk result (items_of self.new ≡ items_of self.old ++ elements_of T.element T.TYPE bytes.now) }
         ensures err { OnErr result (items_of self.new ≡ items_of self.old) }
+        ensures few { IsInline self.old → length (items_of self.old) + length bytes.now / T.SIZE ≤ N → N < 256
+            → IsOk result }
     {
         if let Place::Heap(items) = self {
             return push_elements(items, bytes);
