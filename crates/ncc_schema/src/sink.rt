@@ -47,6 +47,13 @@ impl<W: Write> WriteSink<W> {
         WriteSink { inner, failures: 0 }
     }
 
+    /// How often it failed.
+    pub fn failures(&self) -> u64
+        ensures { result ≡ write_failures self.now }
+    {
+        self.failures
+    }
+
     pub fn into_inner(self) -> W
         ensures { result ≡ writer_of self }
     {
