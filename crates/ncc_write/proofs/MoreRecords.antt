@@ -175,6 +175,15 @@ module _ (s : Schema) (p : Placed) (k : ℕ) (t : Schema) (q : Placed) (has : Ha
   pub room_more : CanGrow s p → TakesRecord t q → TakesRecords s p (suc k)
   room_more can takes = (can, λ full. takes.room (full_then full))
 
+  -- ---- nothing is missing behind a record that was added
+
+  reached : (k : ℕ) → 0 < k → record_at p (records_of_file p + k) ≤ length_with p k
+  reached zero some = absurd (omega (arith, some))
+  reached (suc k) some = omega arith
+
+  pub is_reached : 0 < k → next_record_at q ≤ file_length_of q
+  is_reached some = omega (arith, place_now, reached k some, has.length_is)
+
   -- ---- its bytes
 
   pub bytes_more : (old now : List ℕ) (image : List ℕ) → now ≡ filled_bytes old s p k
@@ -239,12 +248,19 @@ pub extended_so : (failed : Bool) (s : Schema) (p : Placed) (n : ℕ) (e : Appen
 extended_so failed s p zero e some refused = absurd (omega (arith, some))
 extended_so failed s p (suc n) e some refused = refused
 
+-- the first takes five calls at most, and each behind it four
+pub calls_so : (k start now next : ℕ) → (k ≡ 0 → now ≤ start) → now ≤ start + 4 * k + 1 → next ≤ now + 5
+    → (0 < k → next ≤ now + 4) → next ≤ start + 4 * k + 5
+calls_so zero start now next none so five four = omega (arith, none refl, five)
+calls_so (suc k) start now next none so five four = omega (arith, so, four (omega arith))
+
 -- none was added
 pub none_left_out : (old : List ℕ) (s : Schema) (p : Placed) (told : Bool) (most : ℕ) (e : AppendError) → 0 < most
     → LeavesFills old s p s p told most e old
 none_left_out old s p told most e some = record {
   more = 0;
   fewer = some;
+  room = tt;
   has = no_records s p;
   stands = λ is no_device. refl;
   failed = λ is. inl (record { front = refl; no_shorter = omega arith });

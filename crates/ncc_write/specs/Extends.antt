@@ -90,11 +90,13 @@ HasFillsOrNot old s p k new =
     IsBeforeOrAfter (filled_bytes old s p k) (record_at p (records_of_file p + k)) (bytes_of_record s (fill_values s)) 4
     (count_field s.version (records_of_file p + suc k)) new
 
--- what an error leaves: the records before the one that was refused; after Device the next one may be there too
+-- what an error leaves: the records before the one that was refused, each of which had room; after Device the next one
+-- may be there too
 pub record LeavesFills (old : List ℕ) (s : Schema) (p : Placed) (t : Schema) (q : Placed) (told : Bool) (most : ℕ)
     (e : AppendError) (new : List ℕ) : Type 0 where
   pub more : ℕ
   pub fewer : more < most
+  pub room : TakesRecords s p more
   pub has : HasRecords s p more t q
   pub stands : IsTrue told → e ≢ Device → new ≡ filled_bytes old s p more
   pub failed : IsTrue told → HasFillsOrNot old s p more new

@@ -1,10 +1,10 @@
 //! Adds records of fill values to an open file.
 
-ghost use Rattle.std.specs.Prelude.{◌≡◌, ◌≢◌, ◌+◌, ◌*◌, ◌<◌, ◌≤◌, ℕ, List, length, true, false, IsTrue, IfErr, OnOk, OnErr};
+ghost use Rattle.std.specs.Prelude.{◌≡◌, ◌≢◌, ◌⊎◌, ◌+◌, ◌*◌, ◌<◌, ◌≤◌, ℕ, List, length, true, false, Err, IsTrue, IfErr, OnOk, OnErr};
 ghost use Rattle.ncc_schema.specs.Schema.{Place};
-ghost use Rattle.ncc_layout.specs.Placed.{record_size_of_file};
+ghost use Rattle.ncc_layout.specs.Placed.{file_length_of, record_size_of_file};
 ghost use Rattle.ncc_store.specs.Store.{LeavesOnly, Only};
-ghost use Rattle.ncc_check.specs.Appending.{CountsDevice, HasRecord, HasRecordOrNot, IsFull, with_record};
+ghost use Rattle.ncc_check.specs.Appending.{CountsDevice, HasRecord, HasRecordOrNot, IsFull, next_record_at, with_record};
 ghost use Rattle.ncc_check.specs.declared.append_error.AppendError.TheVariants as AppendError;
 ghost use Rattle.ncc_check.specs.Files.{store_of, schema_of, placed_of, must_reopen};
 ghost use Rattle.ncc_build.specs.Dataset.{Dataset};
@@ -40,6 +40,8 @@ fn add_one<S: Store>(file: &mut NcFile<S>, image: &[u8]) -> Result<(), AppendErr
         (HasRecordOrNot (S.bytes (store_of file.old)) (schema_of file.old) (placed_of file.old) image.now) }
     ensures count { CountsDevice (S.failures (store_of file.old)) (S.failures (store_of file.new)) result }
     ensures calls { S.calls (store_of file.new) ≤ S.calls (store_of file.old) + 5 }
+    ensures calls_whole { next_record_at (placed_of file.old) ≤ file_length_of (placed_of file.old)
+        → S.calls (store_of file.new) ≤ S.calls (store_of file.old) + 4 }
     ensures reach { S.reach (store_of file.new) ≤ S.reach (store_of file.old) }
 {
     file.appendable()?;
@@ -75,13 +77,15 @@ pub fn extend<S: Store>(alloc: Global, file: &mut NcFile<S>, more: u64) -> Resul
     ensures durable { Only (S.bytes (store_of file.old)) (S.images (store_of file.old))
         → OnOk result (Only (S.bytes (store_of file.new)) (S.images (store_of file.new))) }
     ensures settled { 0 < more → OnOk result (Only (S.bytes (store_of file.new)) (S.images (store_of file.new))) }
+    ensures rest { (result ≡ Err AppendError.Device → ⊥) → (file.new ≡ file.old)
+        ⊎ Only (S.bytes (store_of file.new)) (S.images (store_of file.new)) }
     ensures any_moment { IsTrue S.tells_bytes → Only (S.bytes (store_of file.old)) (S.images (store_of file.old))
         → (limit : ℕ) (places : List Place) (d : Dataset)
         → Contains (S.bytes (store_of file.old)) limit places d (schema_of file.old) (placed_of file.old)
         → LeavesOnly S.moment S.images_since (store_of file.old) (store_of file.new)
         (λ c. ∥ HoldsSome c limit places d more ∥₁) }
     ensures count { CountsDevice (S.failures (store_of file.old)) (S.failures (store_of file.new)) result }
-    ensures calls { S.calls (store_of file.new) ≤ S.calls (store_of file.old) + 5 * more }
+    ensures calls { S.calls (store_of file.new) ≤ S.calls (store_of file.old) + 4 * more + 1 }
     ensures reach { S.reach (store_of file.new) ≤ S.reach (store_of file.old) }
 {
     open_file_has_sizes(file);

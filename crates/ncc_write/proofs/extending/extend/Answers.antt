@@ -1,5 +1,5 @@
-use Rattle.std.proofs.Common.{◌≡◌, ◌+◌, ⊎_elim, ℕ, List, Bool, false, Err, length, refl, ap, sym, subst, ◌∙◌, arith, add-one, rules}
-use Rattle.ncc_store.specs.Store.{LeavesOnly}
+use Rattle.std.proofs.Common.{◌≡◌, ◌⊎◌, ◌+◌, inl, inr, ⊎_elim, ℕ, List, Bool, false, Err, length, refl, ap, sym, subst, ◌∙◌, arith, add-one, rules}
+use Rattle.ncc_store.specs.Store.{LeavesOnly, Only}
 use Rattle.ncc_store.proofs.Moments.{joined}
 use Rattle.ncc_check.specs.Appending.{HasRecordOrNot, TakesRecord}
 use Rattle.ncc_check.specs.Files.{store_of, schema_of, placed_of, must_reopen}
@@ -10,7 +10,7 @@ use Rattle.ncc_write.specs.Additions.{HoldsAll}
 use Rattle.ncc_write.specs.Extends.{AddsAs, Contains, HasRecords, HoldsSome, TakesRecords, filled_bytes, with_fills}
 use Rattle.ncc_write.specs.Records.{bytes_of_record, fill_values}
 use Rattle.ncc_write.proofs.MoreFills.{Laws, at_start, held_first, some_held, one_fill, fill_or_not}
-use Rattle.ncc_write.proofs.MoreRecords.{bytes_more, fills_or_not, no_records, none_left_out, as_first, one_record_more, room_more, refused_so, extended_so}
+use Rattle.ncc_write.proofs.MoreRecords.{bytes_more, calls_so, fills_or_not, is_reached, no_records, none_left_out, as_first, one_record_more, room_more, refused_so, extended_so}
 use Rattle.ncc_write.proofs.extending.extend.Goals as goal
 
 pub returns-then-more-eq0-clause-holds_some : goal.returns-then-more-eq0-clause-holds_some
@@ -100,6 +100,7 @@ loop-done-init g c =
           held_first laws _ limit places d _ _ start;
       only = λ only. only;
       settled = λ some. absurd (omega (arith, some));
+      rest = inl refl;
       moments = λ told only limit places d start.
           let laws : Laws = record {
             grows = c.append_holds.ensures.grows;
@@ -115,6 +116,7 @@ loop-done-init g c =
           (λ i. ∥ HoldsSome i limit places d c.args.more ∥₁) (λ i left. g.met.S.Store.only_now (store_of c.args.file.now) i left)
           only (some_held laws _ limit places d _ _ start c.args.more);
       failures = refl;
+      no_calls = λ none. omega arith;
       calls = omega arith;
       reach = omega arith;
     }
@@ -143,6 +145,24 @@ returns-in_err-add_one-clause-unchanged g c =
     (schema_of c.loop-done.file) (placed_of c.loop-done.file) (must_reopen c.args.file.now) e at.has at.was_fresh at.takes
     (omega (arith, c.loop-done-test.true)) adds in
     rw is (λ no_device no_room. absurd (⊎_elim no_device no_room why.1))
+
+pub returns-in_err-add_one-clause-rest : goal.returns-in_err-add_one-clause-rest
+returns-in_err-add_one-clause-rest g c =
+    let e = c.in_err-add_one.field-0.0 in
+    let is : c.from_residual-in_err-add_one.result ≡ Err e = search rules in
+    λ other.
+    let same = c.in_err-add_one.ensures.unchanged (λ device. other (is ∙ ap (λ (x : AppendError). Err x) device)) in
+    subst (λ f. (f ≡ c.args.file.now) ⊎ Only (g.S.Store.bytes (store_of f)) (g.S.Store.images (store_of f))) (sym same)
+    c.loop-done.invariant.rest
+
+pub returns-in_err-add_one-clause-calls : goal.returns-in_err-add_one-clause-calls
+returns-in_err-add_one-clause-calls g c =
+    let at = c.loop-done.invariant in
+    let so = calls_so c.loop-done._done (g.S.Store.calls (store_of c.args.file.now)) (g.S.Store.calls (store_of c.loop-done.file))
+    (g.S.Store.calls (store_of c.add_one.new.file)) at.no_calls at.calls c.add_one.ensures.calls
+    (λ some. c.add_one.ensures.calls_whole (is_reached (schema_of c.args.file.now) (placed_of c.args.file.now)
+    c.loop-done._done (schema_of c.loop-done.file) (placed_of c.loop-done.file) at.has some)) in
+    omega (arith, so, c.loop-done-test.true)
 
 pub returns-in_err-add_one-clause-full_at_once : goal.returns-in_err-add_one-clause-full_at_once
 returns-in_err-add_one-clause-full_at_once g c = λ full. absurd (c.loop-done.invariant.takes.room full)
@@ -278,6 +298,7 @@ loop-done-preserved g c =
           c.as_slice.result.now image u r long c.in_ok-add_one.ensures.added.0);
       only = λ only. c.in_ok-add_one.ensures.durable;
       settled = λ some. c.in_ok-add_one.ensures.durable;
+      rest = inr c.in_ok-add_one.ensures.durable;
       moments = λ told only limit places d start.
           let laws : Laws = record {
             grows = c.append_holds.ensures.grows;
@@ -294,7 +315,13 @@ loop-done-preserved g c =
           (λ i or_not. fill_or_not laws _ limit places d s p start k _ t q at.has (at.holds told limit places d start) takes.1
           c.as_slice.result.now image c.args.more i c.loop-done-test.true or_not);
       failures = c.in_ok-add_one.ensures.count ∙ at.failures;
-      calls = omega (arith, at.calls, c.add_one.ensures.calls);
+      no_calls = λ none. absurd (omega (arith, none));
+      calls = omega (
+        arith,
+        calls_so k (g.S.Store.calls (store_of c.args.file.now)) (g.S.Store.calls (store_of c.loop-done.file))
+            (g.S.Store.calls (store_of c.add_one.new.file)) at.no_calls at.calls c.add_one.ensures.calls
+            (λ some. c.add_one.ensures.calls_whole (is_reached s p k t q at.has some)),
+      );
       reach = omega (arith, at.reach, c.add_one.ensures.reach);
     }
 
@@ -330,6 +357,7 @@ returns-in_err-add_one-clause-partly g c =
     rw is (∣ record {
       more = k;
       fewer = c.loop-done-test.true;
+      room = at.room;
       has = subst (λ r. HasRecords s p k (schema_of c.add_one.new.file) r) (sym c.in_err-add_one.ensures.err.1)
           (subst (λ u. HasRecords s p k u q) (sym c.in_err-add_one.ensures.err.0) at.has);
       stands = λ told no_device. ap (λ f. g.S.Store.bytes (store_of f)) (c.in_err-add_one.ensures.unchanged no_device) ∙ at.bytes told;
