@@ -216,6 +216,7 @@ filled_up old limit s p o n how t q told new is leaves full = record {
   fits = leaves.more;
   fewer = leaves.fewer;
   filled = record { schema = s; placed = p; opens = o; bytes = leaves.stands is (λ device. cc device) };
+  room = leaves.room;
   grows = can_grow s p n how;
   full = subst (IsFullFor s.version p) (sym (add-one leaves.more)) (full_now s p leaves.more t q leaves.has full);
 }

@@ -11,7 +11,7 @@ use Rattle.ncc_check.specs.declared.append_error.AppendError.TheVariants as erro
 use Rattle.ncc_lines.specs.Refusals.{append_line}
 use Rattle.ncc_lines.specs.Texts.{records_line}
 use Rattle.ncc_check.specs.AppendLaws.{CanGrow}
-use Rattle.ncc_write.specs.Extends.{ExtendsAs, HasFillsOrNot, IsFullFor, filled_bytes}
+use Rattle.ncc_write.specs.Extends.{ExtendsAs, HasFillsOrNot, IsFullFor, TakesRecords, filled_bytes}
 use Rattle.ncc_engines.specs.declared.answer.Answer.{Answer}
 use Rattle.ncc_engines.specs.declared.answer.Answer.TheVariants.{Passed, Refused, Device, Memory}
 use Rattle.ncc_engines.specs.Answers.{Texts}
@@ -70,11 +70,12 @@ pub record IsFilled (old : List ℕ) (limit more : ℕ) (new : List ℕ) : Type 
 abbrev pub IsFilledWhole : (old : List ℕ) (limit most : ℕ) (new : List ℕ) → Type 0
 IsFilledWhole old limit most new = (more : ℕ) × (more ≤ most) × IsFilled old limit more new
 
--- the records that there is room for were added, and no more
+-- the records that there is room for were added, and there is none for another
 pub record IsFilledUp (old : List ℕ) (limit more : ℕ) (new : List ℕ) : Type 0 where
   pub fits : ℕ
   pub fewer : fits < more
   pub filled : IsFilled old limit fits new
+  pub room : TakesRecords filled.schema filled.placed fits
   pub grows : CanGrow filled.schema filled.placed
   pub full : IsFullFor filled.schema.version filled.placed (fits + 1)
 

@@ -92,6 +92,8 @@ pub fn extend_engine<S: Store, W: Sink>(
     ensures durable { Only (S.bytes store) (S.images store) → result.1 ≡ Answer.Passed
         → Only (S.bytes result.0) (S.images result.0) }
     ensures settled { 0 < more → result.1 ≡ Answer.Passed → Only (S.bytes result.0) (S.images result.0) }
+    ensures rest { result.1 ≢ Answer.Device → Unmoved S.bytes S.images S.moment S.images_since store result.0
+        ⊎ Only (S.bytes result.0) (S.images result.0) }
     ensures none { more ≡ 0 → Unmoved S.bytes S.images S.moment S.images_since store result.0 }
     ensures refused { IsTrue S.tells_bytes → (Passes (S.bytes store) limit → ⊥)
         → Unmoved S.bytes S.images S.moment S.images_since store result.0 }
@@ -101,7 +103,7 @@ pub fn extend_engine<S: Store, W: Sink>(
         → Rose (S.failures store) (S.failures result.0) ⊎ Rose (W.failures sink.old) (W.failures sink.new) }
     ensures still { (S.failures result.0 ≡ S.failures store → ⊥) → W.calls sink.new ≡ W.calls sink.old }
     ensures calls { IsTrue S.tells_bytes
-        → S.calls result.0 ≤ S.calls store + calls_for (length (S.bytes store)) limit + 5 * more }
+        → S.calls result.0 ≤ S.calls store + calls_for (length (S.bytes store)) limit + 4 * more + 1 }
     ensures calls_refused { IsTrue S.tells_bytes → (Passes (S.bytes store) limit → ⊥)
         → S.calls result.0 ≤ S.calls store + calls_for (length (S.bytes store)) limit }
     ensures reach { S.reach result.0 ≤ max (S.reach store) limit }

@@ -26,6 +26,7 @@ pub fn plan<S: Store, W: Sink>(
 ) -> Result<Built, Answer>
     ensures planned { IfOk result (λ b. IsPlanned (schema_of file.now) (placed_of file.now) (planned_schema b)) }
     ensures version { IfOk result (λ b. (planned_schema b).version ≡ version) }
+    ensures still { IfOk result (λ b. sink.new ≡ sink.old) }
     ensures plans { PlansInto version (schema_of file.now) (records_of_file (placed_of file.now))
         (W.put sink.old) (W.put sink.new) result }
     ensures quiet { (result ≡ Err Answer.Device → ⊥) → W.failures sink.new ≡ W.failures sink.old }

@@ -156,6 +156,15 @@ returns-in-Ok-clause-settled g c = λ some passed.
     subst (λ s. Only (g.S.Store.bytes s) (g.S.Store.images s)) (sym c.into_store.ensures)
     (passed_ok c.extend-extended.result c.records.result _ _ tells (c.extend-extended.ensures.settled some))
 
+pub returns-in-Ok-clause-rest : goal.returns-in-Ok-clause-rest
+returns-in-Ok-clause-rest g c = λ other.
+    let new = c.extend-extended.new.file in
+    ⊎_elim
+    (λ is. inl (subst (λ x. Unmoved g.S.Store.bytes g.S.Store.images g.S.Store.moment g.S.Store.images_since c.args.store x)
+    (sym (c.into_store.ensures ∙ ap (λ x. store_of x) is)) c.in-Ok.ensures.unmoved))
+    (λ only. inr (subst (λ x. Only (g.S.Store.bytes x) (g.S.Store.images x)) (sym c.into_store.ensures) only))
+    (c.extend-extended.ensures.rest (λ device. other (c.tell-answer.ensures.told device)))
+
 pub returns-in-Ok-clause-leaves : goal.returns-in-Ok-clause-leaves
 returns-in-Ok-clause-leaves g c = λ told.
     let f = c.in-Ok.opened in
