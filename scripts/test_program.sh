@@ -497,6 +497,57 @@ else
   echo "skipped a full disk: none can be mounted"
 fi
 
+# IN is only read.
+expect "convert a file that may not be written" 1 "fault EndsEarly at 0" "" convert --to 2 /proc/sys/kernel/osrelease new_release.nc
+
+# Where nothing can be synced, neither `ok` nor how many records there are is printed.
+if cc -O1 -shared -fPIC -o refuse.so "$top/scripts/refuse_calls.c" -ldl 2> /dev/null; then
+  cp two.nc unsynced.nc
+  UNSYNCED=1 LD_PRELOAD=$folder/refuse.so "$ncc" extend unsynced.nc 1 > out 2> err
+  count "extend, no sync" "3  error device" "$? $(cat out) $(cat err)"
+  count "extend, no sync: the count" "$(bytes_from two.nc 4 4)" "$(bytes_from unsynced.nc 4 4)"
+  UNSYNCED=1 LD_PRELOAD=$folder/refuse.so "$ncc" convert --to 5 kinds_1.nc unsynced_5.nc > out 2> err
+  count "convert, no sync" "3  error device" "$? $(cat out) $(cat err)"
+  count "convert, no sync: the file" "" "$(cmp unsynced_5.nc kinds_5.nc 2>&1)"
+else
+  echo "skipped syncs that fail: there is no C compiler"
+fi
+
+# A million records of two variables, of which a run is stopped for a while: only a terminal is told how far it is.
+{
+  head -c 4 two.nc
+  printf '\0\x0f\x42\x40'
+  head -c 120 two.nc | tail -c 112
+  head -c 8000000 /dev/zero
+} > many.nc
+count "check of a million records" "ok CDF-1 records 1000000 variables 2" "$("$ncc" check many.nc | head -n 1)"
+cat > stopped.py <<'END'
+import os, pty, re, signal, subprocess, sys, time
+
+terminal, told = pty.openpty()
+errors = subprocess.PIPE if sys.argv[1] == "pipe" else told
+run = subprocess.Popen(sys.argv[2:], stdin=subprocess.DEVNULL, stdout=subprocess.PIPE, stderr=errors)
+time.sleep(0.1)
+run.send_signal(signal.SIGSTOP)
+time.sleep(1.5)
+run.send_signal(signal.SIGCONT)
+line = run.stdout.read().decode().strip()
+status = run.wait()
+shown = run.stderr.read() if sys.argv[1] == "pipe" else b""
+if sys.argv[1] == "terminal":
+    os.set_blocking(terminal, False)
+    try:
+        shown = os.read(terminal, 65536)
+    except BlockingIOError:
+        pass
+print(status, line, "bytes" if re.fullmatch(rb"(\r\d+ of 8000000 bytes)+\r\x1b\[K", shown) else shown or "nothing")
+END
+count "a terminal is told how far convert is" "0 ok CDF-2 bytes" \
+  "$(python3 stopped.py terminal "$ncc" convert --to 2 many.nc shown.nc)"
+count "a pipe isn't told of convert" "0 ok CDF-2 nothing" \
+  "$(python3 stopped.py pipe "$ncc" convert --to 2 many.nc unshown.nc)"
+rm -f many.nc shown.nc unshown.nc
+
 expect_first "convert to no version" 2 "" "error: the following required arguments were not provided:" convert tiny.nc new.nc
 expect_first "convert to CDF-3" 2 "" "error: invalid value '3' for '--to <VERSION>'" convert --to 3 tiny.nc new.nc
 expect_first "convert to what" 2 "" "error: the following required arguments were not provided:" convert --to 1 tiny.nc

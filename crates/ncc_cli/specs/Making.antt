@@ -1,23 +1,42 @@
 -- The file that a conversion makes.
-use Rattle.std.specs.Prelude.{◌≡◌, List, ℕ, Option, Some}
+use Rattle.std.specs.Prelude.{◌≡◌, ◌⊎◌, ◌+◌, ◌≤◌, Bool, IsTrue, List, ℕ, length, Option, Some}
 use Rattle.ncc_values.specs.declared.version.Version.{Version}
 use Rattle.ncc_schema.specs.declared.schema.Schema.{Schema}
 use Rattle.ncc_layout.specs.declared.placed_file.Placed.{Placed}
-use Rattle.ncc_build.specs.Dataset.{Dataset, IsDataset, with_version}
-use Rattle.ncc_build.specs.File.{file_of}
+use Rattle.ncc_check.specs.Checks.{Opens}
+use Rattle.ncc_check.specs.FromStore.{calls_for}
+use Rattle.ncc_build.specs.Dataset.{Dataset, IsDataset, slabs_of, with_version}
+use Rattle.ncc_build.specs.File.{file_of, header_of}
 use Rattle.ncc_write.specs.Planned.{found_schema}
 use Rattle.ncc_write.specs.Writing.{IsFront}
+use Rattle.ncc_convert.specs.Converting.{IsSomeFile, ReadsAs}
+use Rattle.ncc_convert.specs.Copying.{pieces_of}
 use Rattle.ncc_convert.specs.Found.{IsOf}
 
 -- the schema of an open file, in this version
 abbrev pub in_version : Version → Schema → Placed → Schema
 in_version v s p = with_version (found_schema s p) v
 
--- these are exactly the bytes of the file of what an open file holds, by this schema
-abbrev pub IsFileOf : (file : List ℕ) → Placed → Schema → (made : Option (List ℕ)) → Type 0
-IsFileOf file p t made = (d : Dataset) → IsDataset d → IsOf file p t d → made ≡ Some (file_of d)
+-- The file that was made is exactly that of what an open file holds, by this schema, where its bytes are told; whatever
+-- they are it is the file of some dataset. It passes without a note, and reads back as it was written.
+pub record IsFileOf (told : Bool) (file : List ℕ) (p : Placed) (t : Schema) (made : Option (List ℕ)) : Type 0 where
+  pub bytes : List ℕ
+  pub is : made ≡ Some bytes
+  pub some : ∥ IsSomeFile t bytes ∥₁
+  pub exactly : IsTrue told → (d : Dataset) → IsDataset d → IsOf file p t d → bytes ≡ file_of d
+  pub reads : (limit : ℕ) → length (header_of t) ≤ limit → ReadsAs told file p t limit bytes
 
--- or a beginning of them
+-- or a beginning of it
 abbrev pub IsBeginningOf : (file : List ℕ) → Placed → Schema → (made : Option (List ℕ)) → Type 0
 IsBeginningOf file p t made = (d : Dataset) → IsDataset d → IsOf file p t d
     → (front : List ℕ) × (made ≡ Some front) × IsFront front (file_of d)
+
+-- no file was made
+abbrev pub IsUnmade : {T : Type 0} → (file : T → Option (List ℕ)) → (makes : T → ℕ) → (old new : T) → Type 0
+IsUnmade file makes old new = (file new ≡ file old) × (makes new ≡ makes old)
+
+-- the calls of a check, and for a file that passes one for each piece of its slabs
+abbrev pub FewCalls : (bytes : List ℕ) → (limit : ℕ) → Version → (old new : ℕ) → Type 0
+FewCalls b limit v old new = (new ≤ old + calls_for (length b) limit)
+    ⊎ ((s : Schema) × (p : Placed) × Opens b limit s p × (new ≤ old + calls_for (length b) limit
+    + pieces_of (in_version v s p) (slabs_of (in_version v s p))))

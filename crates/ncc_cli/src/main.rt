@@ -2,8 +2,10 @@
 #![tactic(auto)]
 
 mod commands;
+mod converting;
 mod converting_files;
 mod finishing;
+mod limited;
 mod picking;
 mod progress;
 mod run;

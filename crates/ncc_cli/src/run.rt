@@ -1,47 +1,23 @@
 //! Running a command.
 
-ghost use Rattle.std.specs.Prelude.{◌≡◌, ◌≢◌, ◌⊎◌, ◌+◌, ◌*◌, ◌<◌, ◌≤◌, List, ℕ, length, IsTrue, IfSome};
-ghost use Rattle.ncc_values.specs.Failures.{Rose};
-ghost use Rattle.ncc_schema.specs.Device.{LosesAtMost, Puts};
-ghost use Rattle.ncc_schema.specs.Schema.{Place};
-ghost use Rattle.ncc_store.specs.Store.{LeavesOnly, Only, Unmoved};
-ghost use Rattle.ncc_check.specs.FromStore.{calls_for};
-ghost use Rattle.ncc_build.specs.Dataset.{Dataset, IsDataset};
-ghost use Rattle.ncc_write.specs.Additions.{HoldsAll};
-ghost use Rattle.ncc_write.specs.Extends.{HoldsSome};
-ghost use Rattle.ncc_engines.specs.Extending.{ExtendsInto, IsFilled, IsFilledSome, IsFilledUp, IsFilledWhole, IsFrontOfRefusal, TakesNone};
-ghost use Rattle.ncc_engines.specs.Listing.{Lists};
-ghost use Rattle.ncc_engines.specs.Selecting.{SelectsInto};
+ghost use Rattle.std.specs.Prelude.{◌≤◌};
 
 use crate::commands::{LIMIT, command};
 use crate::converting_files::convert_named;
 use crate::finishing::{USAGE, explain, finish, flushed};
+use crate::limited::{extended, listed, selected};
 use crate::picking::{pick_given, refuse_words};
 use crate::progress::{ProgressLine, Terminals};
 use clap::ArgMatches;
 use ncc_csv::Pick;
-use ncc_engines::{Answer, check_engine, csv_engine, extend_engine, list_engine};
-use ncc_header::{ReadSource, Sink, Source, WriteSink};
+use ncc_engines::{Answer, check_engine};
+use ncc_header::{ReadSource, WriteSink};
 use ncc_lines::Progress;
-use ncc_store::{FileStore, Store};
-use std::alloc::Global;
+use ncc_store::FileStore;
 use std::fs;
 use std::fs::File;
 use std::io::{BufReader, BufWriter, Write};
 use std::rt::{Clock, Files};
-
-/// Lists a source onto a sink, with the program's limit.
-fn listed<R: Source, W: Sink>(alloc: Global, source: &mut R, sink: &mut W) -> Answer
-    ensures lists { IfSome (R.left source.old) (λ input. (out : List ℕ)
-        × Puts (W.put sink.old) (W.put sink.new) out × Lists input LIMIT result out) }
-    ensures most { LosesAtMost (R.left source.old) (R.left source.new) LIMIT }
-    ensures quiet { (result ≡ Answer.Device → ⊥)
-        → (R.failures source.new ≡ R.failures source.old) × (W.failures sink.new ≡ W.failures sink.old) }
-    ensures device { result ≡ Answer.Device
-        → Rose (R.failures source.old) (R.failures source.new) ⊎ Rose (W.failures sink.old) (W.failures sink.new) }
-{
-    list_engine(alloc, source, LIMIT, sink)
-}
 
 /// Lists the header of a file.
 fn list<R: Files<File = File> + AllocGlobal, O: Write>(rt: &R, path: &str, out: &mut O) -> Answer {
@@ -92,25 +68,6 @@ fn check_named<R: Files<File = File> + AllocGlobal, O: Write>(
     check(rt, path, limit, words.get_flag("strict"), out)
 }
 
-/// Prints what is picked of a variable onto a sink, with the program's limit.
-fn selected<S: Store, W: Sink, P: Progress>(
-    alloc: Global,
-    store: S,
-    name: &str,
-    pick: Pick,
-    sink: &mut W,
-    progress: &mut P,
-) -> (S, Answer)
-    ensures selects { IsTrue S.tells_bytes → (out : List ℕ) × Puts (W.put sink.old) (W.put sink.new) out
-        × SelectsInto (S.bytes store) LIMIT name.now pick result.1 out }
-    ensures quiet { (result.1 ≡ Answer.Device → ⊥)
-        → (S.failures result.0 ≡ S.failures store) × (W.failures sink.new ≡ W.failures sink.old) }
-    ensures device { result.1 ≡ Answer.Device
-        → Rose (S.failures store) (S.failures result.0) ⊎ Rose (W.failures sink.old) (W.failures sink.new) }
-{
-    csv_engine(alloc, store, LIMIT, name.as_bytes(), pick, sink, progress)
-}
-
 /// Prints what is picked of a variable of a file.
 fn select_from<R: Files<File = File> + AllocGlobal, O: Write, P: Progress>(
     rt: &R,
@@ -147,40 +104,6 @@ fn csv<R: Files<File = File> + Clock + AllocGlobal, O: Write, E: Write>(
     let answer = select_from(rt, path, name, pick, out, &mut line);
     line.end();
     answer
-}
-
-/// Adds records of fill values, with the program's limit.
-fn extended<S: Store, W: Sink>(alloc: Global, store: S, more: u64, sink: &mut W) -> (S, Answer)
-    ensures extends { IsTrue S.tells_bytes → (out : List ℕ) × Puts (W.put sink.old) (W.put sink.new) out
-        × ExtendsInto (S.bytes store) LIMIT more result.1 out }
-    ensures counted { IsTrue S.tells_bytes → (out : List ℕ) × Puts (W.put sink.old) (W.put sink.new) out
-        × (IsFrontOfRefusal (S.bytes store) LIMIT more out
-        ⊎ (∥ IsFilled (S.bytes store) LIMIT more (S.bytes result.0) ∥₁)) }
-    ensures bytes { IsTrue S.tells_bytes → result.1 ≡ Answer.Passed
-        → ∥ IsFilled (S.bytes store) LIMIT more (S.bytes result.0) ∥₁ }
-    ensures untouched { IsTrue S.tells_bytes → result.1 ≡ Answer.Refused
-        → (Unmoved S.bytes S.images S.moment S.images_since store result.0 × TakesNone (S.bytes store) LIMIT)
-        ⊎ (∥ IsFilledUp (S.bytes store) LIMIT more (S.bytes result.0) ∥₁) }
-    ensures leaves { IsTrue S.tells_bytes
-        → Unmoved S.bytes S.images S.moment S.images_since store result.0
-        ⊎ (∥ IsFilledSome (S.bytes store) LIMIT more (S.bytes result.0) ∥₁) }
-    ensures whole { IsTrue S.tells_bytes → result.1 ≢ Answer.Device
-        → Unmoved S.bytes S.images S.moment S.images_since store result.0
-        ⊎ (∥ IsFilledWhole (S.bytes store) LIMIT more (S.bytes result.0) ∥₁) }
-    ensures any_moment { IsTrue S.tells_bytes → Only (S.bytes store) (S.images store)
-        → (places : List Place) (d : Dataset) → IsDataset d → HoldsAll (S.bytes store) LIMIT places d
-        → LeavesOnly S.moment S.images_since store result.0 (λ c. ∥ HoldsSome c LIMIT places d more ∥₁) }
-    ensures settled { 0 < more → result.1 ≡ Answer.Passed → Only (S.bytes result.0) (S.images result.0) }
-    ensures none { more ≡ 0 → Unmoved S.bytes S.images S.moment S.images_since store result.0 }
-    ensures still { (S.failures result.0 ≡ S.failures store → ⊥) → W.calls sink.new ≡ W.calls sink.old }
-    ensures calls { IsTrue S.tells_bytes
-        → S.calls result.0 ≤ S.calls store + calls_for (length (S.bytes store)) LIMIT + 5 * more }
-    ensures quiet { (result.1 ≡ Answer.Device → ⊥)
-        → (S.failures result.0 ≡ S.failures store) × (W.failures sink.new ≡ W.failures sink.old) }
-    ensures device { result.1 ≡ Answer.Device
-        → Rose (S.failures store) (S.failures result.0) ⊎ Rose (W.failures sink.old) (W.failures sink.new) }
-{
-    extend_engine(alloc, store, LIMIT, more, sink)
 }
 
 /// Adds records of fill values to a file.

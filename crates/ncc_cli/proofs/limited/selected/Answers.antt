@@ -2,7 +2,7 @@ use Rattle.std.proofs.Common.{ℕ, List, subst}
 use Rattle.ncc_schema.specs.Device.{Puts}
 use Rattle.ncc_engines.specs.Selecting.{SelectsInto}
 use Rattle.ncc_cli.specs.declared.commands.TheConstants.{LIMIT}
-use Rattle.ncc_cli.proofs.run.selected.Goals as goal
+use Rattle.ncc_cli.proofs.limited.selected.Goals as goal
 
 pub returns-clause-selects : goal.returns-clause-selects
 returns-clause-selects g c = λ told.
