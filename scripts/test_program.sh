@@ -540,7 +540,7 @@ if sys.argv[1] == "terminal":
         shown = os.read(terminal, 65536)
     except BlockingIOError:
         pass
-print(status, line, "bytes" if re.fullmatch(rb"(\r\d+ of 8000000 bytes)+\r\x1b\[K", shown) else shown or "nothing")
+print(status, line, "bytes" if re.fullmatch(rb"(\r\d+ of 8000120 bytes)+\r\x1b\[K", shown) else shown or "nothing")
 END
 count "a terminal is told how far convert is" "0 ok CDF-2 bytes" \
   "$(python3 stopped.py terminal "$ncc" convert --to 2 many.nc shown.nc)"

@@ -2,7 +2,7 @@
 
 ghost use Rattle.std.specs.Prelude.{◌≡◌, ◌≢◌, ◌⊎◌, ◌+◌, ◌*◌, ◌<◌, ◌≤◌, ℕ, List, length, true, false, Err, IsTrue, IfErr, OnOk, OnErr};
 ghost use Rattle.ncc_schema.specs.Schema.{Place};
-ghost use Rattle.ncc_layout.specs.Placed.{file_length_of, record_size_of_file};
+ghost use Rattle.ncc_layout.specs.Placed.{file_length_of, record_size_of_file, records_of_file};
 ghost use Rattle.ncc_store.specs.Store.{LeavesOnly, Only};
 ghost use Rattle.ncc_check.specs.Appending.{CountsDevice, HasRecord, HasRecordOrNot, IsFull, next_record_at, with_record};
 ghost use Rattle.ncc_check.specs.declared.append_error.AppendError.TheVariants as AppendError;
@@ -86,6 +86,11 @@ pub fn extend<S: Store>(alloc: Global, file: &mut NcFile<S>, more: u64) -> Resul
         (λ c. ∥ HoldsSome c limit places d more ∥₁) }
     ensures count { CountsDevice (S.failures (store_of file.old)) (S.failures (store_of file.new)) result }
     ensures calls { S.calls (store_of file.new) ≤ S.calls (store_of file.old) + 4 * more + 1 }
+    ensures calls_each { S.calls (store_of file.new) + 4 * records_of_file (placed_of file.old)
+        ≤ S.calls (store_of file.old) + 4 * records_of_file (placed_of file.new) + 5 }
+    ensures calls_added { (result ≡ Err AppendError.Device → ⊥)
+        → S.calls (store_of file.new) + 4 * records_of_file (placed_of file.old)
+        ≤ S.calls (store_of file.old) + 4 * records_of_file (placed_of file.new) + 1 }
     ensures reach { S.reach (store_of file.new) ≤ S.reach (store_of file.old) }
 {
     open_file_has_sizes(file);

@@ -5,7 +5,7 @@ use Rattle.ncc_check.specs.Appending.{HasRecordOrNot, TakesRecord}
 use Rattle.ncc_check.specs.Files.{store_of, schema_of, placed_of, must_reopen}
 use Rattle.ncc_check.specs.declared.append_error.AppendError.{AppendError}
 use Rattle.ncc_check.specs.declared.append_error.AppendError.TheVariants as error
-use Rattle.ncc_layout.specs.Placed.{record_size_of_file}
+use Rattle.ncc_layout.specs.Placed.{record_size_of_file, records_of_file}
 use Rattle.ncc_write.specs.Additions.{HoldsAll}
 use Rattle.ncc_write.specs.Extends.{AddsAs, Contains, HasRecords, HoldsSome, TakesRecords, filled_bytes, with_fills}
 use Rattle.ncc_write.specs.Records.{bytes_of_record, fill_values}
@@ -163,6 +163,30 @@ returns-in_err-add_one-clause-calls g c =
     (λ some. c.add_one.ensures.calls_whole (is_reached (schema_of c.args.file.now) (placed_of c.args.file.now)
     c.loop-done._done (schema_of c.loop-done.file) (placed_of c.loop-done.file) at.has some)) in
     omega (arith, so, c.loop-done-test.true)
+
+pub returns-in_err-add_one-clause-calls_each : goal.returns-in_err-add_one-clause-calls_each
+returns-in_err-add_one-clause-calls_each g c =
+    let at = c.loop-done.invariant in
+    let so = calls_so c.loop-done._done (g.S.Store.calls (store_of c.args.file.now)) (g.S.Store.calls (store_of c.loop-done.file))
+    (g.S.Store.calls (store_of c.add_one.new.file)) at.no_calls at.calls c.add_one.ensures.calls
+    (λ some. c.add_one.ensures.calls_whole (is_reached (schema_of c.args.file.now) (placed_of c.args.file.now)
+    c.loop-done._done (schema_of c.loop-done.file) (placed_of c.loop-done.file) at.has some)) in
+    omega (arith, so, at.has.records_are, ap (λ q. records_of_file q) c.in_err-add_one.ensures.err.1)
+
+pub returns-in_err-add_one-clause-calls_added : goal.returns-in_err-add_one-clause-calls_added
+returns-in_err-add_one-clause-calls_added g c =
+    let e = c.in_err-add_one.field-0.0 in
+    let at = c.loop-done.invariant in
+    let is : c.from_residual-in_err-add_one.result ≡ Err e = search rules in
+    λ other.
+    let same = c.in_err-add_one.ensures.unchanged (λ device. other (is ∙ ap (λ (x : AppendError). Err x) device)) in
+    omega (
+      arith,
+      at.calls,
+      at.has.records_are,
+      ap (λ f. g.S.Store.calls (store_of f)) same,
+      ap (λ f. records_of_file (placed_of f)) same,
+    )
 
 pub returns-in_err-add_one-clause-full_at_once : goal.returns-in_err-add_one-clause-full_at_once
 returns-in_err-add_one-clause-full_at_once g c = λ full. absurd (c.loop-done.invariant.takes.room full)
