@@ -1,5 +1,5 @@
 -- The file that a conversion makes.
-use Rattle.std.specs.Prelude.{◌≡◌, ◌⊎◌, ◌+◌, ◌≤◌, Bool, IsTrue, List, ℕ, length, Option, Some}
+use Rattle.std.specs.Prelude.{◌≡◌, ◌⊎◌, ◌+◌, ◌≤◌, Bool, IsTrue, List, [], ℕ, length, Option, Some}
 use Rattle.ncc_values.specs.declared.version.Version.{Version}
 use Rattle.ncc_schema.specs.declared.schema.Schema.{Schema}
 use Rattle.ncc_layout.specs.declared.placed_file.Placed.{Placed}
@@ -34,6 +34,10 @@ IsBeginningOf file p t made = (d : Dataset) → IsDataset d → IsOf file p t d
 -- no file was made
 abbrev pub IsUnmade : {T : Type 0} → (file : T → Option (List ℕ)) → (makes : T → ℕ) → (old new : T) → Type 0
 IsUnmade file makes old new = (file new ≡ file old) × (makes new ≡ makes old)
+
+-- or one without a byte
+abbrev pub IsUnmadeOrEmpty : {T : Type 0} → (file : T → Option (List ℕ)) → (makes : T → ℕ) → (old new : T) → Type 0
+IsUnmadeOrEmpty file makes old new = IsUnmade file makes old new ⊎ (file new ≡ Some [])
 
 -- the calls of a check, and for a file that passes one for each piece of its slabs
 abbrev pub FewCalls : (bytes : List ℕ) → (limit : ℕ) → Version → (old new : ℕ) → Type 0

@@ -21,7 +21,7 @@ ghost use Rattle.ncc_convert.specs.Lines.{converted_line, plan_line};
 ghost use Rattle.ncc_engines.specs.Converting.{IsRefusalLine, HasConvertedFront, HasRefusalFront};
 ghost use Rattle.ncc_lines.specs.Sends.{PutsFront};
 ghost use Rattle.ncc_engines.specs.Planning.{IsAgainst, IsConvertible, HaltsLine};
-ghost use Rattle.ncc_cli.specs.Making.{in_version, IsFileOf, IsBeginningOf, IsUnmade, FewCalls};
+ghost use Rattle.ncc_cli.specs.Making.{in_version, IsFileOf, IsBeginningOf, IsUnmade, IsUnmadeOrEmpty, FewCalls};
 
 use crate::commands::LIMIT;
 use crate::target::Target;
@@ -53,6 +53,8 @@ fn convert_into<S: Store, T: Target, P: Progress>(
     ensures begun { IsTrue S.tells_bytes → IsTrue T.tells_bytes → result ≢ Answer.Passed
         → IsUnmade T.file T.makes target.old target.new
         ⊎ IsBeginningOf (S.bytes (store_of file.old)) (placed_of file.old) (planned_schema built) (T.file target.new) }
+    ensures spared { IsTrue T.tells_bytes → result ≡ Answer.Memory
+        → IsUnmadeOrEmpty T.file T.makes target.old target.new }
     ensures durable { result ≡ Answer.Passed → T.settled target.new }
     ensures once { T.makes target.new ≤ T.makes target.old + 1 }
     ensures quiet { result ≢ Answer.Device → (S.failures (store_of file.new) ≡ S.failures (store_of file.old))
@@ -96,6 +98,8 @@ fn convert_file<S: Store, T: Target, W: Sink, P: Progress>(
         (in_version version (schema_of file.old) (placed_of file.old)) (T.file target.new) }
     ensures unmade { (f : WriteFault) → IsAgainst version (schema_of file.old) (records_of_file (placed_of file.old)) f
         → (target.new ≡ target.old) × (file.new ≡ file.old) }
+    ensures spared { IsTrue T.tells_bytes → result ≡ Answer.Memory
+        → IsUnmadeOrEmpty T.file T.makes target.old target.new }
     ensures durable { result ≡ Answer.Passed → T.settled target.new }
     ensures once { T.makes target.new ≤ T.makes target.old + 1 }
     ensures convertible { result ≡ Answer.Passed
@@ -179,6 +183,8 @@ pub fn convert_store<S: Store + Drop, T: Target, W: Sink, P: Progress>(
     ensures unmade { result.1 ≡ Answer.Refused → target.new ≡ target.old }
     ensures unmade_where_refused { IsTrue S.tells_bytes → (text : List ℕ)
         → IsRefusalLine (S.bytes store) LIMIT version text → target.new ≡ target.old }
+    ensures spared { IsTrue T.tells_bytes → result.1 ≡ Answer.Memory
+        → IsUnmadeOrEmpty T.file T.makes target.old target.new }
     ensures durable { result.1 ≡ Answer.Passed → T.settled target.new }
     ensures once { T.makes target.new ≤ T.makes target.old + 1 }
     ensures convertible { IsTrue S.tells_bytes → result.1 ≡ Answer.Passed → (s : Schema) × (p : Placed)

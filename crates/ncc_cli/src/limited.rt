@@ -12,7 +12,7 @@ ghost use Rattle.ncc_check.specs.FromStore.{calls_for};
 ghost use Rattle.ncc_build.specs.Dataset.{Dataset, IsDataset};
 ghost use Rattle.ncc_write.specs.Additions.{HoldsAll};
 ghost use Rattle.ncc_write.specs.Extends.{HoldsSome, with_fills};
-ghost use Rattle.ncc_engines.specs.Extending.{ExtendsInto, IsFilled, IsFilledSome, IsFilledUp, IsFilledWhole, IsFrontOfRefusal, TakesNone};
+ghost use Rattle.ncc_engines.specs.Extending.{ExtendsInto, IsFilled, FillsUp, IsFilledSome, IsFilledWhole, IsFrontOfRefusal, TakesNone};
 ghost use Rattle.ncc_engines.specs.Listing.{Lists};
 ghost use Rattle.ncc_csv.specs.Named.{IsFirstNamed};
 ghost use Rattle.ncc_engines.specs.Selecting.{SelectsInto, contents_of, value_calls};
@@ -83,7 +83,9 @@ pub fn extended<S: Store, W: Sink>(alloc: Global, store: S, more: u64, sink: &mu
         → ∥ IsFilled (S.bytes store) LIMIT more (S.bytes result.0) ∥₁ }
     ensures untouched { IsTrue S.tells_bytes → result.1 ≡ Answer.Refused
         → (Unmoved S.bytes S.images S.moment S.images_since store result.0 × TakesNone (S.bytes store) LIMIT)
-        ⊎ (∥ IsFilledUp (S.bytes store) LIMIT more (S.bytes result.0) ∥₁) }
+        ⊎ (∥ FillsUp (S.bytes store) LIMIT more (S.bytes result.0)
+        (Unmoved S.bytes S.images S.moment S.images_since store result.0)
+        (S.calls store + calls_for (length (S.bytes store)) LIMIT) (S.calls result.0) ∥₁) }
     ensures leaves { IsTrue S.tells_bytes
         → Unmoved S.bytes S.images S.moment S.images_since store result.0
         ⊎ (∥ IsFilledSome (S.bytes store) LIMIT more (S.bytes result.0) ∥₁) }
@@ -107,7 +109,7 @@ pub fn extended<S: Store, W: Sink>(alloc: Global, store: S, more: u64, sink: &mu
     ensures still { (S.failures result.0 ≡ S.failures store → ⊥) → W.calls sink.new ≡ W.calls sink.old }
     ensures calls { IsTrue S.tells_bytes
         → S.calls result.0 ≤ S.calls store + calls_for (length (S.bytes store)) LIMIT + 4 * more + 1 }
-    ensures calls_refused { IsTrue S.tells_bytes → (Passes (S.bytes store) LIMIT → ⊥)
+    ensures calls_none { IsTrue S.tells_bytes → (more ≡ 0) ⊎ TakesNone (S.bytes store) LIMIT
         → S.calls result.0 ≤ S.calls store + calls_for (length (S.bytes store)) LIMIT }
     ensures reach { S.reach result.0 ≤ max (S.reach store) LIMIT }
     ensures quiet { (result.1 ≡ Answer.Device → ⊥)

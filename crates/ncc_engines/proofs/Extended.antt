@@ -7,12 +7,12 @@ use Rattle.ncc_schema.specs.Device.{Puts}
 use Rattle.ncc_schema.specs.declared.schema.Count.TheVariants.{Known}
 use Rattle.ncc_schema.specs.declared.schema.Schema.{Schema}
 use Rattle.ncc_layout.specs.declared.placed_file.Placed.{Placed}
-use Rattle.ncc_layout.specs.Placed.{records_of_file}
+use Rattle.ncc_layout.specs.Placed.{file_length_of, records_of_file}
 use Rattle.ncc_check.specs.Checks.{Opens}
 use Rattle.ncc_check.specs.Faults.{Fails}
 use Rattle.ncc_check.specs.declared.append_error.AppendError.{AppendError}
 use Rattle.ncc_check.specs.declared.append_error.AppendError.TheVariants as errors
-use Rattle.ncc_check.specs.AppendLaws.{CanGrow}
+use Rattle.ncc_check.specs.AppendLaws.{CanGrow, ShowsSame}
 use Rattle.ncc_check.specs.Appending.{IsFull}
 use Rattle.ncc_check.specs.declared.fault.FileFault.{FileFault}
 use Rattle.ncc_lines.specs.Sends.{SendsAll}
@@ -25,7 +25,7 @@ use Rattle.ncc_layout.specs.Plans.{IsKnown}
 use Rattle.ncc_build.specs.Dataset.{Dataset, IsDataset}
 use Rattle.ncc_write.specs.Additions.{HoldsAll}
 use Rattle.ncc_write.specs.Extends.{ExtendsAs, HoldsSome, IsFullFor, LeavesFills, filled_bytes}
-use Rattle.ncc_write.proofs.MoreRecords.{as_first, full_now}
+use Rattle.ncc_write.proofs.MoreRecords.{as_first, can_grow as can_grow_on, full_now, full_then, no_records}
 use Rattle.ncc_write.specs.Records.{followed_by}
 use Rattle.ncc_engines.specs.declared.answer.Answer.{Answer}
 use Rattle.ncc_engines.specs.declared.answer.Answer.TheVariants.{Passed, Refused, Device, Memory}
@@ -210,16 +210,50 @@ takes_none s p (suc n) errors.Memory how full device memory grows = memory refl
 
 pub filled_up : (old : List ℕ) (limit : ℕ) (s : Schema) (p : Placed) → Opens old limit s p → (n : ℕ)
     → ExtendsAs false s p n (Err errors.CountFull) → (t : Schema) (q : Placed) (told : Bool) (new : List ℕ)
-    → IsTrue told → LeavesFills old s p t q told n errors.CountFull new → IsFull t.version q
-    → IsFilledUp old limit n new
-filled_up old limit s p o n how t q told new is leaves full = record {
-  fits = leaves.more;
-  fewer = leaves.fewer;
-  filled = record { schema = s; placed = p; opens = o; bytes = leaves.stands is (λ device. cc device) };
-  room = leaves.room;
-  grows = can_grow s p n how;
-  full = subst (IsFullFor s.version p) (sym (add-one leaves.more)) (full_now s p leaves.more t q leaves.has full);
-}
+    → IsTrue told → (leaves : LeavesFills old s p t q told n errors.CountFull new) → IsFull t.version q
+    → (u : IsFilledUp old limit n new) × (u.fits ≡ leaves.more) × (u.fits ≡ 0 → IsFull s.version p)
+filled_up old limit s p o n how t q told new is leaves full =
+    let next = full_now s p leaves.more t q leaves.has full in (
+      record {
+        fits = leaves.more;
+        fewer = leaves.fewer;
+        filled = record { schema = s; placed = p; opens = o; bytes = leaves.stands is (λ device. cc device) };
+        room = leaves.room;
+        grows = can_grow s p n how;
+        full = subst (IsFullFor s.version p) (sym (add-one leaves.more)) next;
+      },
+      refl,
+      λ none. full_then s p 0 s p (no_records s p) (subst (λ (k : ℕ). IsFullFor s.version p (suc k)) none next),
+    )
+
+-- ---- a file that takes no record
+
+-- the same file, opened anew, takes none either
+pub takes_none_too : (s : Schema) (p : Placed) (t : Schema) (q : Placed) → s ≡ t → ShowsSame p (file_length_of p) q
+    → CanGrow s p → CanGrow t q
+takes_none_too s p t q same shows = can_grow_on s p 0 t q (record {
+  schema_is = sym same;
+  header_is = shows.header_is;
+  length_is = shows.length_is;
+  size_is = shows.size_is;
+  records_are = omega (arith, shows.records_are);
+  vars_are = shows.vars_are;
+})
+
+pub nothing_added : (s : Schema) (p : Placed) (n : ℕ) (result : Result (Unit {0}) AppendError)
+    → ExtendsAs false s p n result → (CanGrow s p → ⊥) → (U : Type 0) → (n ≡ 0 → U)
+    → IfErr result (λ e. e ≢ errors.Device → e ≢ errors.CountFull → U) → U
+nothing_added s p zero (Ok x) how cannot U none same = none refl
+nothing_added s p zero (Err e) how cannot U none same = absurd how
+nothing_added s p (suc k) (Ok x) how cannot U none same = absurd (cannot how.1.0)
+nothing_added s p (suc k) (Err errors.CountFull) how cannot U none same = absurd (cannot how.1)
+nothing_added s p (suc k) (Err errors.Device) how cannot U none same = absurd (cannot (as_first s p how.1))
+nothing_added s p (suc k) (Err errors.Memory) how cannot U none same = absurd (cannot (as_first s p how.1))
+nothing_added s p (suc k) (Err errors.Reopen) how cannot U none same = same (λ e. cc e) (λ e. cc e)
+nothing_added s p (suc k) (Err errors.NoRecordVariable) how cannot U none same = same (λ e. cc e) (λ e. cc e)
+nothing_added s p (suc k) (Err errors.NotPacked) how cannot U none same = same (λ e. cc e) (λ e. cc e)
+nothing_added s p (suc k) (Err errors.Streaming) how cannot U none same = same (λ e. cc e) (λ e. cc e)
+nothing_added s p (suc k) (Err (errors.WrongValues j)) how cannot U none same = same (λ e. cc e) (λ e. cc e)
 
 -- why the answer was Refused
 pub refused_for : (result : Result (Unit {0}) AppendError) (records : ℕ) (old new : Option (List ℕ))

@@ -1,5 +1,5 @@
 -- What the extend engine writes.
-use Rattle.std.specs.Prelude.{◌≡◌, ◌≢◌, ◌⊎◌, ℕ, ◌+◌, ◌<◌, ◌≤◌, false, List, [], ◌++◌, Result, Ok, Err}
+use Rattle.std.specs.Prelude.{◌≡◌, ◌≢◌, ◌⊎◌, ℕ, ◌+◌, ◌*◌, ◌<◌, ◌≤◌, false, List, [], ◌++◌, Result, Ok, Err}
 use Rattle.ncc_schema.specs.declared.schema.Count.TheVariants.{Known}
 use Rattle.ncc_schema.specs.declared.schema.Schema.{Schema}
 use Rattle.ncc_layout.specs.declared.placed_file.Placed.{Placed}
@@ -78,6 +78,11 @@ pub record IsFilledUp (old : List ℕ) (limit more : ℕ) (new : List ℕ) : Typ
   pub room : TakesRecords filled.schema filled.placed fits
   pub grows : CanGrow filled.schema filled.placed
   pub full : IsFullFor filled.schema.version filled.placed (fits + 1)
+
+-- so many at most were called, four for each of them and one more, and where there is room for none nothing was written
+abbrev pub FillsUp : (old : List ℕ) (limit more : ℕ) (new : List ℕ) → (unmoved : Type 0) → (before calls : ℕ) → Type 0
+FillsUp old limit more new unmoved before calls =
+    (u : IsFilledUp old limit more new) × (u.fits ≡ 0 → unmoved) × (calls ≤ before + 4 * u.fits + 1)
 
 -- the bytes don't pass, or they are of a file that takes no record, whatever room there is
 abbrev pub TakesNone : (bytes : List ℕ) (limit : ℕ) → Type 0

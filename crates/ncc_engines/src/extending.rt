@@ -11,9 +11,10 @@ ghost use Rattle.ncc_check.specs.declared.append_error.AppendError.TheVariants a
 ghost use Rattle.ncc_build.specs.Dataset.{Dataset, IsDataset};
 ghost use Rattle.ncc_write.specs.Additions.{HoldsAll};
 ghost use Rattle.ncc_write.specs.Extends.{HoldsSome, with_fills};
-ghost use Rattle.ncc_engines.specs.Extending.{ExtendsInto, IsFilled, IsFilledSome, IsFilledUp, IsFilledWhole, IsFrontOfRefusal, TakesNone, Tells};
+ghost use Rattle.ncc_engines.specs.Extending.{ExtendsInto, IsFilled, FillsUp, IsFilledSome, IsFilledWhole, IsFrontOfRefusal, TakesNone, Tells};
 
 use crate::answer::{Answer, answered};
+use ncc_check::laws::appending::opens_as_one;
 use ncc_check::{AppendError, NcFile, Refusal, laws as check_laws, open};
 use ncc_header::{Count, Sink};
 use ncc_lines::{send_append_refusal, send_file_fault, send_records};
@@ -76,7 +77,9 @@ pub fn extend_engine<S: Store, W: Sink>(
         → ∥ IsFilled (S.bytes store) limit more (S.bytes result.0) ∥₁ }
     ensures untouched { IsTrue S.tells_bytes → result.1 ≡ Answer.Refused
         → (Unmoved S.bytes S.images S.moment S.images_since store result.0 × TakesNone (S.bytes store) limit)
-        ⊎ (∥ IsFilledUp (S.bytes store) limit more (S.bytes result.0) ∥₁) }
+        ⊎ (∥ FillsUp (S.bytes store) limit more (S.bytes result.0)
+        (Unmoved S.bytes S.images S.moment S.images_since store result.0)
+        (S.calls store + calls_for (length (S.bytes store)) limit) (S.calls result.0) ∥₁) }
     ensures leaves { IsTrue S.tells_bytes
         → Unmoved S.bytes S.images S.moment S.images_since store result.0
         ⊎ (∥ IsFilledSome (S.bytes store) limit more (S.bytes result.0) ∥₁) }
@@ -104,11 +107,12 @@ pub fn extend_engine<S: Store, W: Sink>(
     ensures still { (S.failures result.0 ≡ S.failures store → ⊥) → W.calls sink.new ≡ W.calls sink.old }
     ensures calls { IsTrue S.tells_bytes
         → S.calls result.0 ≤ S.calls store + calls_for (length (S.bytes store)) limit + 4 * more + 1 }
-    ensures calls_refused { IsTrue S.tells_bytes → (Passes (S.bytes store) limit → ⊥)
+    ensures calls_none { IsTrue S.tells_bytes → (more ≡ 0) ⊎ TakesNone (S.bytes store) limit
         → S.calls result.0 ≤ S.calls store + calls_for (length (S.bytes store)) limit }
     ensures reach { S.reach result.0 ≤ max (S.reach store) limit }
 {
     check_laws::passing_has_no_fault();
+    opens_as_one();
     followed_twice();
     match open(alloc, store, limit) {
         Ok(opened) => {

@@ -2,7 +2,7 @@
 
 use ncc_engines::{Answer, extend_engine};
 use ncc_files::{FIXED, LIMIT, RECORDS, RECORDS_DATA, TWO_RECORD_VARIABLES, bytes_of, with_byte};
-use ncc_header::WriteSink;
+use ncc_header::{FuseSink, WriteSink};
 use ncc_store::{FuseStore, MemStore};
 use std::alloc::{AllocError, Global};
 use std::test::*;
@@ -146,6 +146,27 @@ fn files_that_are_extended(rt: HostRuntime) -> Result<(), Fail> {
         let (store, found) = extend_engine(alloc, MemStore::new(bytes), LIMIT, more, &mut sink);
         assert!(rt; found == answer);
         assert!(rt; sink.into_inner().as_slice() == text.as_bytes(), "{text}");
+        assert!(rt; store.into_bytes().as_slice() == after.as_slice());
+    }
+    Ok(())
+}
+
+/// The line is one call of the output: where it fails the file is the same as where it doesn't.
+#[test]
+fn outputs_that_fail(rt: HostRuntime) -> Result<(), Fail> {
+    let alloc = rt.alloc();
+    for row in rows(alloc)? {
+        let Row {
+            bytes,
+            more,
+            answer: _,
+            text: _,
+            after,
+        } = row;
+        let mut sink = FuseSink::new(WriteSink::new(Vec::new(alloc)), 0, 65_536);
+        let (store, found) = extend_engine(alloc, MemStore::new(bytes), LIMIT, more, &mut sink);
+        assert!(rt; found == Answer::Device);
+        assert!(rt; sink.into_inner().into_inner().is_empty());
         assert!(rt; store.into_bytes().as_slice() == after.as_slice());
     }
     Ok(())

@@ -7,7 +7,7 @@ use crate::converting::convert_store;
 use crate::target::Target;
 use ncc_engines::Answer;
 use ncc_files::{FIXED, FIXED_IN_CDF_5, bytes_of};
-use ncc_header::WriteSink;
+use ncc_header::{FuseSink, WriteSink};
 use ncc_lines::Unshown;
 use ncc_store::{FuseStore, MemStore};
 use ncc_values::{Version, count_failure};
@@ -83,39 +83,34 @@ impl Target for Kept {
     }
 }
 
-/// What comes of converting the file of these words in a store that fails after so many calls: the answer, and what
-/// was printed.
+/// What comes of converting the file of these words, where the store fails after so many calls, and the output after
+/// so many: the answer, and what was printed.
 fn converted(
     target: &mut Kept,
     words: &[u32],
     version: Version,
-    calls: u64,
+    (calls, writes): (u64, u64),
 ) -> Result<(Answer, Vec<u8>), AllocError> {
     let alloc = target.alloc;
     let store = FuseStore::new(MemStore::new(bytes_of(alloc, words)?), calls);
-    let mut sink = WriteSink::new(Vec::new(alloc));
+    let mut sink = FuseSink::new(WriteSink::new(Vec::new(alloc)), writes, 65_536);
     let (_, answer) = convert_store(alloc, store, version, target, &mut sink, &mut Unshown);
-    Ok((answer, sink.into_inner()))
+    Ok((answer, sink.into_inner().into_inner()))
 }
 
-/// A check takes two calls of the store, and the values a third. The header is 128 bytes long.
+/// A check takes two calls of the store, and the values a third; the line is one call of the output. The header is 128
+/// bytes long.
 #[test]
 fn files_that_are_made(rt: HostRuntime) -> Result<(), Fail> {
     let whole = bytes_of(rt.alloc(), &FIXED_IN_CDF_5)?;
+    let ok = "ok CDF-5\n";
     for (fault, calls, answer, line, makes, settled, length) in [
-        (
-            Fault::Nothing,
-            3,
-            Answer::Passed,
-            "ok CDF-5\n",
-            1,
-            true,
-            136,
-        ),
-        (Fault::Nothing, 2, Answer::Device, "", 1, false, 128),
-        (Fault::Nothing, 1, Answer::Device, "", 0, false, 0),
-        (Fault::Making, 3, Answer::Device, "", 0, false, 0),
-        (Fault::Settling, 3, Answer::Device, "", 1, false, 136),
+        (Fault::Nothing, (3, 1), Answer::Passed, ok, 1, true, 136),
+        (Fault::Nothing, (3, 0), Answer::Device, "", 1, true, 136),
+        (Fault::Nothing, (2, 1), Answer::Device, "", 1, false, 128),
+        (Fault::Nothing, (1, 1), Answer::Device, "", 0, false, 0),
+        (Fault::Making, (3, 1), Answer::Device, "", 0, false, 0),
+        (Fault::Settling, (3, 1), Answer::Device, "", 1, false, 136),
     ] {
         let mut target = Kept::new(rt.alloc(), fault);
         let (found, told) = converted(&mut target, &FIXED, Version::V5, calls)?;
@@ -132,13 +127,27 @@ fn files_that_are_made(rt: HostRuntime) -> Result<(), Fail> {
 #[test]
 fn files_that_are_not_made(rt: HostRuntime) -> Result<(), Fail> {
     let records = [0x43444605, 0, 0x80000000, 0, 0, 0, 0, 0, 0, 0, 0, 0];
-    for (words, version, line) in [
-        (&records[..], Version::V1, "refused CountForVersion\n"),
-        (&records[..2], Version::V5, "fault EndsEarly at 4\n"),
+    for (words, version, writes, answer, line) in [
+        (
+            &records[..],
+            Version::V1,
+            1,
+            Answer::Refused,
+            "refused CountForVersion\n",
+        ),
+        (&records[..], Version::V1, 0, Answer::Device, ""),
+        (
+            &records[..2],
+            Version::V5,
+            1,
+            Answer::Refused,
+            "fault EndsEarly at 4\n",
+        ),
+        (&records[..2], Version::V5, 0, Answer::Device, ""),
     ] {
         let mut target = Kept::new(rt.alloc(), Fault::Nothing);
-        let (found, told) = converted(&mut target, words, version, 10)?;
-        assert_eq!(rt; found, Answer::Refused);
+        let (found, told) = converted(&mut target, words, version, (10, writes))?;
+        assert_eq!(rt; found, answer);
         assert!(rt; told.as_slice() == line.as_bytes());
         assert_eq!(rt; target.makes, 0);
     }

@@ -1,5 +1,5 @@
 use Rattle.std.proofs.Math.Logic.{∥∥₁_map}
-use Rattle.std.proofs.Common.{◌≡◌, ◌≢◌, ◌⊎◌, ◌+◌, inl, inr, ⊎_elim, false, ℕ, List, [], Bool, Ok, Err, refl, ap, sym, subst, ◌∙◌}
+use Rattle.std.proofs.Common.{◌≡◌, ◌≢◌, ◌⊎◌, ◌+◌, inl, inr, ⊎_elim, false, ℕ, List, [], length, Bool, Ok, Err, refl, ap, sym, subst, ◌∙◌, arith}
 use Rattle.std.specs.Prelude.{OnOk}
 use Rattle.ncc_values.specs.Failures.{Rose}
 use Rattle.ncc_layout.specs.Placed.{records_of_file}
@@ -7,16 +7,17 @@ use Rattle.ncc_store.specs.Store.{LeavesOnly, Only, Unmoved}
 use Rattle.ncc_check.specs.Appending.{IsFull}
 use Rattle.ncc_check.specs.declared.append_error.AppendError.{AppendError}
 use Rattle.ncc_check.specs.declared.append_error.AppendError.TheVariants as errors
-use Rattle.ncc_engines.specs.Extending.{IsFilled, IsFilledSome, IsFilledUp, IsFilledWhole}
+use Rattle.ncc_engines.specs.Extending.{FillsUp, IsFilled, IsFilledSome, IsFilledWhole}
 use Rattle.ncc_store.proofs.Moments.{joined, stays}
 use Rattle.ncc_check.specs.Checks.{Opens, Refuses}
+use Rattle.ncc_check.specs.FromStore.{calls_for}
 use Rattle.ncc_check.specs.Files.{store_of, schema_of, placed_of}
 use Rattle.ncc_check.specs.declared.fault.Refusal.{Refusal}
 use Rattle.ncc_write.specs.Additions.{HoldsAll}
 use Rattle.ncc_write.specs.Extends.{Contains, ExtendsAs, HoldsSome, LeavesFills, filled_bytes, with_fills}
 use Rattle.ncc_write.proofs.MoreFills.{at_start}
 use Rattle.ncc_engines.specs.declared.answer.Answer.{Answer}
-use Rattle.ncc_engines.proofs.Extended.{Told, fault_went, filled_up, is_full, some_filled, refused_for, none_more, takes_none, whole_filled, passed_ok, went, nothing_put, refused_or_filled, fault_front}
+use Rattle.ncc_engines.proofs.Extended.{Told, fault_went, filled_up, is_full, nothing_added, some_filled, refused_for, none_more, takes_none, takes_none_too, whole_filled, passed_ok, went, nothing_put, refused_or_filled, fault_front}
 use Rattle.ncc_engines.proofs.extending.extend_engine.Goals as goal
 
 pub returns-in-Ok-clause-extends : goal.returns-in-Ok-clause-extends
@@ -134,10 +135,22 @@ returns-in-Ok-clause-untouched g c = λ told refused.
     rw is at c.extend-extended.ensures.partly in
     let room : IsFull (schema_of new).version (placed_of new) = (rw is at c.extend-extended.ensures.full) refl in
     let how : ExtendsAs false s p c.args.more (Err errors.CountFull) = rw is at answer in
-    inr (subst (λ x. ∥ IsFilledUp (g.S.Store.bytes c.args.store) c.args.limit c.args.more (g.S.Store.bytes x) ∥₁) (sym c.into_store.ensures)
-    (∥∥₁_map partly (λ leaves. filled_up (g.S.Store.bytes c.args.store) c.args.limit s p (c.in-Ok.ensures.passes told) c.args.more how
+    let unmoved : IsFull s.version p → Unmoved g.S.Store.bytes g.S.Store.images g.S.Store.moment g.S.Store.images_since c.args.store (store_of new) =
+    λ at_once. subst (λ f. Unmoved g.S.Store.bytes g.S.Store.images g.S.Store.moment g.S.Store.images_since c.args.store (store_of f))
+    (sym ((rw is at c.extend-extended.ensures.full_at_once) at_once)) c.in-Ok.ensures.unmoved in
+    let few = c.extend-extended.ensures.calls_added (λ device. cc (sym is ∙ device)) in
+    let before = g.S.Store.calls c.args.store + calls_for (length (g.S.Store.bytes c.args.store)) c.args.limit in
+    inr (subst (λ x. ∥ FillsUp (g.S.Store.bytes c.args.store) c.args.limit c.args.more (g.S.Store.bytes x)
+    (Unmoved g.S.Store.bytes g.S.Store.images g.S.Store.moment g.S.Store.images_since c.args.store x) before (g.S.Store.calls x) ∥₁)
+    (sym c.into_store.ensures)
+    (∥∥₁_map partly (λ leaves.
+    let up = filled_up (g.S.Store.bytes c.args.store) c.args.limit s p (c.in-Ok.ensures.passes told) c.args.more how
     (schema_of new) (placed_of new) g.S.Store.tells_bytes (g.S.Store.bytes (store_of new)) told
-    (subst (λ (b : List ℕ). LeavesFills b s p (schema_of new) (placed_of new) g.S.Store.tells_bytes c.args.more errors.CountFull (g.S.Store.bytes (store_of new))) same leaves) room))))
+    (subst (λ (b : List ℕ). LeavesFills b s p (schema_of new) (placed_of new) g.S.Store.tells_bytes c.args.more errors.CountFull (g.S.Store.bytes (store_of new))) same leaves) room in (
+      up.0,
+      λ none. unmoved (up.2 none),
+      omega (arith, few, up.1, leaves.has.records_are, c.in-Ok.ensures.calls told),
+    )))))
     (λ other. inl (
       subst (λ x. Unmoved g.S.Store.bytes g.S.Store.images g.S.Store.moment g.S.Store.images_since c.args.store x)
           (sym (c.into_store.ensures ∙ ap (λ x. store_of x) (unchanged why.2 other))) c.in-Ok.ensures.unmoved,
@@ -187,10 +200,31 @@ returns-in-Ok-clause-leaves g c = λ told.
     (λ some. inr (subst (λ x. ∥ IsFilledSome (g.S.Store.bytes c.args.store) c.args.limit c.args.more (g.S.Store.bytes x) ∥₁)
     (sym c.into_store.ensures) some)) filled
 
-pub returns-in-Ok-clause-calls_refused : goal.returns-in-Ok-clause-calls_refused
-returns-in-Ok-clause-calls_refused g c = λ told fails.
+pub returns-in-Ok-clause-calls_none : goal.returns-in-Ok-clause-calls_none
+returns-in-Ok-clause-calls_none g c = λ told either.
+    let f = c.in-Ok.opened in
+    let s = schema_of f in
+    let p = placed_of f in
+    let new = c.extend-extended.new.file in
     let o = c.in-Ok.ensures.passes told in
-    absurd (fails (o.header, o.passes))
+    let answer = subst (λ (b : Bool). ExtendsAs b s p c.args.more c.extend-extended.result) c.in-Ok.ensures.fresh c.extend-extended.ensures.answer in
+    let same : new ≡ f = ⊎_elim
+    (λ zero. c.extend-extended.ensures.none zero)
+    (λ takes_none. ⊎_elim
+    (λ fails. absurd (fails (o.header, o.passes)))
+    (λ other.
+    let as_one = c.opens_as_one.ensures (g.S.Store.bytes c.args.store) c.args.limit s p other.0 other.1 o other.2 in
+    nothing_added s p c.args.more c.extend-extended.result answer
+    (λ grows. other.3 (takes_none_too s p other.0 other.1 as_one.0 as_one.1 grows)) (new ≡ f)
+    c.extend-extended.ensures.none c.extend-extended.ensures.unchanged)
+    takes_none)
+    either in
+    omega (
+      arith,
+      c.in-Ok.ensures.calls told,
+      ap (λ x. g.S.Store.calls (store_of x)) same,
+      ap g.S.Store.calls c.into_store.ensures,
+    )
 
 pub returns-in-Fault-clause-untouched : goal.returns-in-Fault-clause-untouched
 returns-in-Fault-clause-untouched g c = λ told refused.
