@@ -1,9 +1,9 @@
 #!/usr/bin/env bash
-# Times `ncc check` on large headers and on a file of 512 MiB, with its peak memory. Beside it stands the time
-# of reading alone, which is that of the header less its last byte, and `ncvalidator` where that is installed
-# (pnetcdf-bin). The program is the first word, or the ncc of the path: one that scripts/install.sh built. The
-# aim is, of 24,000 variables with 20 attributes, at most 0.45 of ncvalidator's time for reading alone, 0.6 for
-# a check, and 0.7 of its memory.
+# Times `ncc check` on large headers and on a file of 512 MiB, with its peak memory. Beside it stands the time of
+# reading alone, which is that of the header less its last byte, and `ncvalidator` where that is installed
+# (pnetcdf-bin), by turns. The program is the first word, or the ncc of the path: one that scripts/install.sh built.
+# The aim is, of 24,000 variables with 20 attributes, at most 0.45 of ncvalidator's time for reading alone, 0.6 for a
+# check, and 0.7 of its memory.
 set -euo pipefail
 ncc=${1:-ncc}
 here=$(cd "$(dirname "$0")" && pwd)
@@ -20,15 +20,25 @@ printf '\0\0\0\1\x20\0\0\0\0\0\0\x50' >> "$large.nc"
 head -c 79 "$large.nc" > "$large.cut"
 truncate -s $((80 + 512 * 1024 * 1024)) "$large.nc"
 
+# How long one is beside another.
+beside() {
+    awk "BEGIN { printf \"%.2f\", $1 / $2 }"
+}
+
 for file in "$folder"/*.nc; do
-    checked=$(least "$ncc" check "$file")
-    read=$(least "$ncc" check "${file%.nc}.cut")
-    ratio=$(awk "BEGIN { printf \"%.2f\", $checked / $read }")
+    checked=
+    read=
+    other=
+    for _ in 1 2 3 4 5 6 7 8 9 10 11; do
+        checked=$(lesser "$checked" "$(once "$ncc" check "$file")")
+        read=$(lesser "$read" "$(once "$ncc" check "${file%.nc}.cut")")
+        if command -v ncvalidator > /dev/null; then other=$(lesser "$other" "$(once ncvalidator -q "$file")"); fi
+    done
     line="$(basename "$file" .nc), header of $(($(stat -c %s "${file%.nc}.cut") + 1)) bytes: ncc check"
-    line+=" $((checked / 1000)) ms, $(peak "$ncc" check "$file") KiB; reading alone $((read / 1000)) ms, ratio $ratio"
-    if command -v ncvalidator > /dev/null; then
-        other=$(least ncvalidator -q "$file")
+    line+=" $((checked / 1000)) ms, $(peak "$ncc" check "$file") KiB; reading alone $((read / 1000)) ms"
+    if [ -n "$other" ]; then
         line+="; ncvalidator $((other / 1000)) ms, $(peak ncvalidator -q "$file") KiB"
+        line+="; ratios $(beside "$checked" "$other") and $(beside "$read" "$other")"
     fi
     echo "$line"
 done
