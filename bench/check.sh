@@ -2,8 +2,9 @@
 # Times `ncc check` on large headers and on a file of 512 MiB, with its peak memory. Beside it stands the time of
 # reading alone, which is that of the header less its last byte, and `ncvalidator` where that is installed
 # (pnetcdf-bin), by turns. The program is the first word, or the ncc of the path: one that scripts/install.sh built.
-# The aim is, of 24,000 variables with 20 attributes, at most 0.45 of ncvalidator's time for reading alone, 0.6 for a
-# check, and 0.7 of its memory.
+# The aims are, of 24,000 variables with 20 attributes, at most 0.45 of ncvalidator's time for reading alone, 0.6 for a
+# check, and 0.7 of its memory; and for a check 1.5 of reading alone, which it kept while reading took three times as
+# long, and doesn't keep now.
 set -euo pipefail
 ncc=${1:-ncc}
 here=$(cd "$(dirname "$0")" && pwd)
@@ -36,6 +37,7 @@ for file in "$folder"/*.nc; do
     done
     line="$(basename "$file" .nc), header of $(($(stat -c %s "${file%.nc}.cut") + 1)) bytes: ncc check"
     line+=" $((checked / 1000)) ms, $(peak "$ncc" check "$file") KiB; reading alone $((read / 1000)) ms"
+    line+=", ratio $(beside "$checked" "$read")"
     if [ -n "$other" ]; then
         line+="; ncvalidator $((other / 1000)) ms, $(peak ncvalidator -q "$file") KiB"
         line+="; ratios $(beside "$checked" "$other") and $(beside "$read" "$other")"
