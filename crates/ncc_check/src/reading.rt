@@ -4,7 +4,7 @@ ghost use Rattle.std.specs.Prelude.{◌≡◌, ◌⊎◌, ◌+◌, ◌≤◌, �
 ghost use Rattle.ncc_store.specs.Store.{Unmoved, KeepsImages};
 ghost use Rattle.ncc_header.specs.Decoder.{Took, limit_of};
 ghost use Rattle.ncc_check.specs.Checks.{CountsAs};
-ghost use Rattle.ncc_check.specs.FromStore.{reads_for, FedPiece, FailsPiece, HasEnough, ReadsHeader, IsBegun};
+ghost use Rattle.ncc_check.specs.FromStore.{calls_for, reads_for, FedPiece, FailsPiece, HasEnough, ReadsHeader, IsBegun};
 
 use crate::fault::Refusal;
 use ncc_header::{Decoder, Fed, Header, laws};
@@ -99,4 +99,19 @@ pub fn header_of<S: Store>(
         Ok(header) => Ok(header),
         Err(error) => Err(Refusal::from(error)),
     }
+}
+
+/// The header at the front of the file that a store holds, of at most `limit` bytes.
+pub fn header_in<S: Store>(alloc: Global, store: &mut S, limit: u64) -> Result<Header, Refusal>
+    ensures reads { IsTrue S.tells_bytes → ReadsHeader (S.bytes store.old) limit result }
+    ensures unmoved { Unmoved S.bytes S.images S.moment S.images_since store.old store.new }
+    ensures kept { KeepsImages (S.images store.old) (S.images store.new) }
+    ensures count { CountsAs (S.failures store.old) (S.failures store.new) result }
+    ensures calls { IsTrue S.tells_bytes
+        → S.calls store.new ≤ S.calls store.old + calls_for (length (S.bytes store.old)) limit }
+    ensures reach { S.reach store.new ≤ max (S.reach store.old) limit }
+{
+    store_laws::unmoved_calls_join::<S>();
+    let file_length = store.len()?;
+    header_of(alloc, store, limit, file_length)
 }

@@ -7,12 +7,6 @@ use Rattle.ncc_cli.specs.declared.picking.WordFault.{WordFault}
 use Rattle.ncc_cli.specs.declared.picking.WordFault.TheVariants as words
 use Rattle.ncc_engines.specs.declared.answer.Answer.TheVariants.{Passed, Refused, Device, Memory}
 
-abbrev pub status_of : Answer → ℕ
-status_of Passed = 0
-status_of Refused = 1
-status_of Device = 3
-status_of Memory = 3
-
 -- the words of a selection aren't taken
 abbrev pub status_of_words : WordFault → ℕ
 status_of_words words.NoList = 2

@@ -7,15 +7,28 @@ use std::alloc::{AllocError, Global};
 pub const LIMIT: u64 = 67_108_864;
 
 /// What the help of `ncc` says of its statuses.
-const STATUSES: &str = "Status:
+const STATUSES: &str = "Example:
+  ncc check ocean.nc
+
+`ncc help COMMAND` says more of a command, and `ncc help faults` lists all faults, notes and
+refusals.
+
+Status:
   0  it passed
   1  the file was refused
   2  the command line is wrong
   3  a device or memory failed";
 
-/// What the help of `list` says of them, and of the limit.
-const LIST_STATUSES: &str =
-    "A header may have 67,108,864 bytes; a longer one is the fault HeaderTooLong.
+/// What the help of `list` says of its lines, statuses and the limit.
+const LIST_STATUSES: &str = "Example:
+  ncc list --decimal ocean.nc
+
+Of several files each line has the path, a colon and a space before it, and the status is the
+worst. A FILE - is standard input, where it is the only one. A list of names has a NUL byte after
+each, as `find -print0` writes them.
+
+A header may have 67,108,864 bytes; a longer one is the fault HeaderTooLong. `ncc help faults`
+lists all faults.
 
 Status:
   0  listed
@@ -23,9 +36,19 @@ Status:
   2  the command line is wrong
   3  a device or memory failed";
 
-/// What the help of `check` says of them, and of the limit.
-const CHECK_STATUSES: &str =
-    "A header may have 67,108,864 bytes, or as many as --max-header says; a longer one is the
+/// What the help of `check` says of its lines, statuses and the limit.
+const CHECK_STATUSES: &str = "Example:
+  ncc check --brief *.nc
+
+It prints `ok`, the version, the number of records and of variables, and a line for each note:
+something unusual that a reader can live with. Of a file that doesn't pass it prints the first
+fault and its offset in bytes. `ncc help faults` lists all faults and notes.
+
+Of several files each line has the path, a colon and a space before it, and the status is the
+worst. With --brief there is one line for each: the status, the answer and the path, with tabs
+between them. A list of names has a NUL byte after each, as `find -print0` writes them.
+
+A header may have 67,108,864 bytes, or as many as --max-header says; a longer one is the
 fault HeaderTooLong.
 
 Status:
@@ -35,13 +58,19 @@ Status:
   3  a device or memory failed";
 
 /// What the help of `csv` says of its lists and statuses.
-const CSV_STATUSES: &str =
-    "A is a list of numbers with commas between them, one for each dimension. What isn't given
+const CSV_STATUSES: &str = "Example:
+  ncc csv --decimal ocean.nc temperature --start 0,0,0 --count 1,1,5
+
+A is a list of numbers with commas between them, one for each dimension. What isn't given
 is 0 for the start, 1 for the stride, and for the count as many indices as there are.
 
 The first row names the dimensions and the variable. Each other row has the indices of an
 element in the whole array, and its value; a char is the number of its byte, and a float or
-a double is shown by its bits.
+a double is shown by its bits, or with --decimal as a number.
+
+It prints `refused NoVariable` where no variable has the name, `refused RankMismatch` where a list
+has not one number for each dimension, `refused ZeroStride K` and `refused Outside K` where a
+stride is 0 or an index is outside along dimension K, counted from 0; or the file's fault.
 
 Status:
   0  selected
@@ -50,22 +79,34 @@ Status:
   3  a device or memory failed";
 
 /// What the help of `extend` says of what it writes, and of statuses.
-const EXTEND_STATUSES: &str =
-    "A record of fill values is added N times, each with its own syncs: whatever stops it, the
-file passes with those that were added. It prints how many records there are then; a refusal
-is the only line, and leaves the records before it. With N 0 nothing is written.
+const EXTEND_STATUSES: &str = "Example:
+  ncc extend series.nc 1
+
+N records of fill values are added, each with its own syncs: whatever stops it, the file passes
+with those that were added. It prints how many records there are then. A refusal is the only line,
+and leaves the records before it. With N 0 nothing is written.
+
+It prints `refused NoRecordVariable` where no variable has records, `refused NotPacked` where the
+records don't follow one another, `refused Streaming` where the file is still being written, and
+`refused CountFull` where the version can't count one more record; or the file's fault.
 
 Status:
   0  all records were added
-  1  the file has a fault or takes no record more, which is the only line
+  1  the file has a fault or takes no more records, which is the only line
   2  the command line is wrong
   3  a device or memory failed";
 
 /// What the help of `convert` says of what it writes, and of statuses.
-const CONVERT_STATUSES: &str =
-    "The new file has the same dimensions, attributes, variables and values, each in a place of its
+const CONVERT_STATUSES: &str = "Example:
+  ncc convert --to 5 ocean.nc ocean_5.nc
+
+The new file has the same dimensions, attributes, variables and values, each in a place of its
 own, and is on the disk when the line is printed. A refusal is the only line, and then no
 file is made; after a failure the new file is a beginning of what it would be.
+
+It prints `refused TypeForVersion`, `refused CountForVersion`, `refused SizeForVersion` or `refused
+OffsetForVersion` where the version has no such type, or can't count or place so much, and
+`refused BadName` or `refused DuplicateName` for a name that no file should have; or IN's fault.
 
 Status:
   0  converted
@@ -83,18 +124,60 @@ fn file_argument<'a>(alloc: Global) -> Arg<'a> {
         .action(ArgAction::Set)
 }
 
+/// Files, unless a list names them.
+fn files_argument<'a>(alloc: Global) -> Result<Arg<'a>, AllocError> {
+    Arg::new(alloc, "FILE")
+        .help("netCDF classic files")
+        .required_unless_present("files-from0")?
+        .num_args(1..)
+        .action(ArgAction::Append)
+}
+
+/// A list of names of files.
+fn names_argument<'a>(alloc: Global) -> Result<Arg<'a>, AllocError> {
+    Arg::new(alloc, "files-from0")
+        .long("files-from0")
+        .value_name("LIST")
+        .help("Takes the names of the files from LIST, each ended by a NUL byte; - is standard input")
+        .action(ArgAction::Set)
+        .conflicts_with("FILE")
+}
+
+/// A flag.
+fn flag<'a>(alloc: Global, name: &'a str, help: &'a str) -> Arg<'a> {
+    Arg::new(alloc, name)
+        .long(name)
+        .help(help)
+        .action(ArgAction::SetTrue)
+}
+
+/// Whether floats print in decimal.
+fn decimal_argument<'a>(alloc: Global) -> Arg<'a> {
+    flag(
+        alloc,
+        "decimal",
+        "Shows floats as the shortest decimals that read back to the same bits",
+    )
+}
+
+/// Whether a failure is explained.
+fn verbose_argument<'a>(alloc: Global) -> Arg<'a> {
+    flag(alloc, "verbose", "Says why, where a file can't be read or written")
+}
+
 fn list_command<'a>(alloc: Global) -> Result<Command<'a>, AllocError> {
     Command::new(alloc, "list")
-        .about("Lists what the header of a file says")
+        .about("Lists what the headers of files say")
         .after_help(LIST_STATUSES)
-        .arg(file_argument(alloc))
+        .arg(decimal_argument(alloc))?
+        .arg(names_argument(alloc)?)?
+        .arg(verbose_argument(alloc))?
+        .arg(files_argument(alloc)?)
 }
 
 fn check_command<'a>(alloc: Global) -> Result<Command<'a>, AllocError> {
-    let strict = Arg::new(alloc, "strict")
-        .long("strict")
-        .help("Refuses a file that has a note")
-        .action(ArgAction::SetTrue);
+    let strict = flag(alloc, "strict", "Refuses a file that has a note");
+    let brief = flag(alloc, "brief", "Prints one line for each file");
     let limit = Arg::new(alloc, "max-header")
         .long("max-header")
         .value_name("N")
@@ -102,11 +185,14 @@ fn check_command<'a>(alloc: Global) -> Result<Command<'a>, AllocError> {
         .value_parser(value_parser!(u64))
         .action(ArgAction::Set);
     Command::new(alloc, "check")
-        .about("Says whether a file is sound, and what is unusual in it")
+        .about("Says whether files are sound, and what is unusual in them")
         .after_help(CHECK_STATUSES)
         .arg(strict)?
+        .arg(brief)?
         .arg(limit)?
-        .arg(file_argument(alloc))
+        .arg(names_argument(alloc)?)?
+        .arg(verbose_argument(alloc))?
+        .arg(files_argument(alloc)?)
 }
 
 /// An argument that is a list of numbers.
@@ -129,6 +215,8 @@ fn csv_command<'a>(alloc: Global) -> Result<Command<'a>, AllocError> {
         .arg(list_argument(alloc, "start", "The first index along each dimension"))?
         .arg(list_argument(alloc, "count", "How many indices along each dimension"))?
         .arg(list_argument(alloc, "stride", "The step from one index to the next"))?
+        .arg(decimal_argument(alloc))?
+        .arg(verbose_argument(alloc))?
         .arg(file_argument(alloc))?
         .arg(variable)
 }
@@ -142,6 +230,7 @@ fn extend_command<'a>(alloc: Global) -> Result<Command<'a>, AllocError> {
     Command::new(alloc, "extend")
         .about("Adds records of fill values to a file")
         .after_help(EXTEND_STATUSES)
+        .arg(verbose_argument(alloc))?
         .arg(file_argument(alloc))?
         .arg(more)
 }
@@ -166,6 +255,7 @@ fn convert_command<'a>(alloc: Global) -> Result<Command<'a>, AllocError> {
         .about("Writes what a file holds into a new file, in another version")
         .after_help(CONVERT_STATUSES)
         .arg(version)?
+        .arg(verbose_argument(alloc))?
         .arg(from)?
         .arg(to)
 }

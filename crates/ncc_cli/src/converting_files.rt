@@ -3,43 +3,62 @@
 ghost use Rattle.std.specs.Prelude.{◌≡◌, codes};
 
 use crate::converting::convert_store;
-use crate::finishing::flushed;
-use crate::progress::ProgressLine;
+use crate::finishing::{Ended, flushed};
+use crate::paths::open_store;
+use crate::reasons::{Reason, Trouble};
 use crate::target::NewFile;
-use clap::ArgMatches;
 use ncc_engines::Answer;
 use ncc_header::WriteSink;
 use ncc_lines::Progress;
-use ncc_store::FileStore;
 use ncc_values::Version;
 use std::fs::File;
 use std::io::{BufWriter, Write};
 use std::rt::{Clock, Files};
 
 /// Converts a file into a new one.
-fn convert<R: Files<File = File> + AllocGlobal, O: Write, P: Progress>(
+pub fn convert<'a, R: Files<File = File> + AllocGlobal, O: Write, P: Progress>(
     rt: &R,
-    from: &str,
+    from: &'a [u8],
     version: Version,
-    to: &str,
+    to: &'a [u8],
     out: &mut O,
     progress: &mut P,
-) -> Answer {
-    let Ok(store) = FileStore::open(rt, from, false) else {
-        return Answer::Device;
+) -> Ended<'a> {
+    let mut trouble = Trouble {
+        name: from,
+        reason: Reason::Other,
+    };
+    let store = match open_store(rt, from, false) {
+        Ok(store) => store,
+        Err(reason) => {
+            trouble.reason = reason;
+            return Ended {
+                answer: Answer::Device,
+                trouble: Some(trouble),
+            };
+        }
     };
     let Ok(writer) = BufWriter::new(rt.alloc(), out) else {
-        return Answer::Memory;
+        return Ended {
+            answer: Answer::Memory,
+            trouble: None,
+        };
     };
     let mut sink = WriteSink::new(writer);
     let mut target = NewFile::new(rt, to);
     let (_, answer) = convert_store(rt.alloc(), store, version, &mut target, &mut sink, progress);
+    if let Some(reason) = target.reason() {
+        trouble = Trouble { name: to, reason };
+    }
     let mut writer = sink.into_inner();
-    flushed(&mut writer, answer)
+    Ended {
+        answer: flushed(&mut writer, answer),
+        trouble: Some(trouble),
+    }
 }
 
 /// The version of this word.
-fn version_of(word: &str) -> Version
+pub fn version_of(word: &str) -> Version
     ensures one { word.now ≡ codes "1" → result ≡ Version.V1 }
     ensures two { word.now ≡ codes "2" → result ≡ Version.V2 }
     ensures five { word.now ≡ codes "5" → result ≡ Version.V5 }
@@ -49,19 +68,4 @@ fn version_of(word: &str) -> Version
         "2" => Version::V2,
         _ => Version::V5,
     }
-}
-
-/// Converts the file that these words name, as they say, and shows on `err` how far it is where `shown`.
-pub fn convert_named<R: Files<File = File> + Clock + AllocGlobal, O: Write, E: Write>(
-    rt: &R,
-    words: &ArgMatches,
-    out: &mut O,
-    err: &mut E,
-    shown: bool,
-) -> Answer {
-    let version = version_of(words.get_str("to").unwrap_or(""));
-    let from = words.get_str("IN").unwrap_or("");
-    let to = words.get_str("OUT").unwrap_or("");
-    let mut line = ProgressLine::new(rt, err, shown);
-    convert(rt, from, version, to, out, &mut line)
 }

@@ -3,23 +3,19 @@
 ghost use Rattle.std.specs.Prelude.{◌≡◌, ◌≢◌, []};
 ghost use Rattle.std.specs.Io.Buffered.{writer_buffer};
 ghost use Rattle.clap.specs.Values.{kind_of};
-ghost use Rattle.ncc_cli.specs.Status.{status_of, Explains, Flushes};
+ghost use Rattle.ncc_batch.specs.Shown.{status_of};
+ghost use Rattle.ncc_cli.specs.Status.{Explains, Flushes};
 
+use crate::reasons::{Reason, Trouble, tell_trouble};
 use clap::Error;
 use clap::error::ErrorKind;
+use ncc_batch::status;
 use ncc_engines::Answer;
 use std::alloc::Global;
 use std::io::{BufWriter, Write};
 
-/// The program's statuses: it passed, the file was refused, the command line was wrong, or a device
-/// or memory failed.
-const PASSED: u8 = 0;
-
-const REFUSED: u8 = 1;
-
+/// The status of a command line that is wrong.
 pub const USAGE: u8 = 2;
-
-const FAILED: u8 = 3;
 
 /// Says on `err` what kept the command from its end, as far as that can be written, and gives the
 /// status.
@@ -27,16 +23,46 @@ pub fn finish<E: Write>(answer: Answer, err: &mut E) -> u8
     ensures { result ≡ status_of answer }
 {
     match answer {
-        Answer::Passed => PASSED,
-        Answer::Refused => REFUSED,
         Answer::Device => {
             let _ = err.write_all(b"error device\n");
-            FAILED
         }
         Answer::Memory => {
             let _ = err.write_all(b"error memory\n");
-            FAILED
         }
+        _ => {}
+    }
+    status(answer)
+}
+
+/// What a command came to, and what failed where that is known.
+#[derive(Clone, Copy)]
+pub struct Ended<'a> {
+    pub answer: Answer,
+    pub trouble: Option<Trouble<'a>>,
+}
+
+/// Says on `err` what kept the command from its end, and with `told` why, and gives the status. Where nobody reads
+/// the output any more nothing is said.
+pub fn end<E: Write>(ended: Ended<'_>, output: Option<Reason>, told: bool, err: &mut E) -> u8
+    ensures { result ≡ status_of ended.answer }
+{
+    if output == Some(Reason::Closed) {
+        return status(ended.answer);
+    }
+    let status = finish(ended.answer, err);
+    if told && ended.answer == Answer::Device {
+        tell_why(ended.trouble, output, err);
+    }
+    status
+}
+
+/// Says on `err` which file failed, and why, or else that the output did.
+fn tell_why<E: Write>(trouble: Option<Trouble<'_>>, output: Option<Reason>, err: &mut E) {
+    if let Some(reason) = output {
+        let name = b"standard output".as_slice();
+        tell_trouble(Trouble { name, reason }, err);
+    } else if let Some(trouble) = trouble {
+        tell_trouble(trouble, err);
     }
 }
 

@@ -21,14 +21,19 @@ use crate::commands::LIMIT;
 use ncc_csv::Pick;
 use ncc_engines::{Answer, csv_engine, extend_engine, list_engine};
 use ncc_header::{Sink, Source};
-use ncc_lines::Progress;
+use ncc_lines::{FloatStyle, Progress};
 use ncc_store::Store;
 use std::alloc::Global;
 
 /// Lists a source onto a sink, with the program's limit.
-pub fn listed<R: Source, W: Sink>(alloc: Global, source: &mut R, sink: &mut W) -> Answer
+pub fn listed<R: Source, W: Sink>(
+    alloc: Global,
+    source: &mut R,
+    style: FloatStyle,
+    sink: &mut W,
+) -> Answer
     ensures lists { IfSome (R.left source.old) (λ input. (out : List ℕ)
-        × Puts (W.put sink.old) (W.put sink.new) out × Lists input LIMIT result out) }
+        × Puts (W.put sink.old) (W.put sink.new) out × Lists input LIMIT style result out) }
     ensures exactly { result ≡ Answer.Passed → IfSome (R.left source.old) (λ input.
         (h : Header) × Begins input LIMIT h × IsLeft (R.left source.new) input h) }
     ensures most { LosesAtMost (R.left source.old) (R.left source.new) LIMIT }
@@ -39,20 +44,21 @@ pub fn listed<R: Source, W: Sink>(alloc: Global, source: &mut R, sink: &mut W) -
     ensures still { (R.failures source.new ≡ R.failures source.old → ⊥)
         → W.calls sink.new ≡ W.calls sink.old }
 {
-    list_engine(alloc, source, LIMIT, sink)
+    list_engine(alloc, source, LIMIT, style, sink)
 }
 
 /// Prints what is picked of a variable onto a sink, with the program's limit.
 pub fn selected<S: Store, W: Sink, P: Progress>(
     alloc: Global,
     store: S,
-    name: &str,
+    name: &[u8],
     pick: Pick,
+    style: FloatStyle,
     sink: &mut W,
     progress: &mut P,
 ) -> (S, Answer)
     ensures selects { IsTrue S.tells_bytes → (out : List ℕ) × Puts (W.put sink.old) (W.put sink.new) out
-        × SelectsInto (S.bytes store) LIMIT name.now pick result.1 out }
+        × SelectsInto (S.bytes store) LIMIT name.now pick style result.1 out }
     ensures own { IsTrue S.tells_bytes → result.1 ≡ Answer.Passed → HasOwnElements (S.bytes store) LIMIT }
     ensures unmoved { Unmoved S.bytes S.images S.moment S.images_since store result.0 }
     ensures kept { KeepsImages (S.images store) (S.images result.0) }
@@ -66,7 +72,7 @@ pub fn selected<S: Store, W: Sink, P: Progress>(
     ensures stopped { IsTrue S.tells_bytes → (Passes (S.bytes store) LIMIT → ⊥)
         → S.calls result.0 ≤ S.calls store + calls_for (length (S.bytes store)) LIMIT }
 {
-    csv_engine(alloc, store, LIMIT, name.as_bytes(), pick, sink, progress)
+    csv_engine(alloc, store, LIMIT, name, pick, style, sink, progress)
 }
 
 /// Adds records of fill values, with the program's limit.

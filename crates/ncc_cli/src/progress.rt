@@ -75,6 +75,22 @@ impl<'a, R: Clock, E: Write> ProgressLine<'a, R, E> {
     }
 }
 
+impl<'a, R: Clock, E: Write> ProgressLine<'a, R, E> {
+    /// Shows that so many files of all are done.
+    pub fn files(&mut self, done: u64, all: u64) {
+        self.show(done, all, b" files");
+    }
+
+    /// Where other lines are written, once the line is taken away.
+    pub fn other(&mut self) -> &mut E {
+        if self.drawn {
+            let _ = self.err.write_all(b"\r\x1b[K");
+        }
+        self.drawn = false;
+        self.err
+    }
+}
+
 impl<'a, R: Clock, E: Write> Progress for ProgressLine<'a, R, E> {
     fn rows(&mut self, done: u64, all: u64) {
         self.show(done, all, b" rows");
@@ -87,10 +103,7 @@ impl<'a, R: Clock, E: Write> Progress for ProgressLine<'a, R, E> {
 
     /// Takes the line away.
     fn end(&mut self) {
-        if self.drawn {
-            let _ = self.err.write_all(b"\r\x1b[K");
-        }
-        self.drawn = false;
+        self.other();
         self.next = None;
     }
 }

@@ -4,6 +4,9 @@ ghost use Rattle.std.specs.Prelude.{◌≡◌, ◌+◌, ◌≤◌, Bool, true, f
 ghost use Rattle.ncc_values.specs.Failures.{last_count, joint_count, Rose};
 ghost use Rattle.ncc_cli.specs.Making.{IsUnmade};
 
+use crate::paths::make_file;
+use crate::reasons::{Reason, reason_of};
+use crate::watched::Watched;
 use ncc_header::{Sink, WriteSink};
 use ncc_values::count_failure;
 use std::fs::File;
@@ -56,23 +59,30 @@ pub trait Target {
 #[derive(Drop)]
 pub struct NewFile<'a, R> {
     files: &'a R,
-    path: &'a str,
+    name: &'a [u8],
+    reason: Option<Reason>,
     failures: u64,
     ghost counted: { failures ≤ last_count },
 }
 
 impl<'a, R: Files<File = File>> NewFile<'a, R> {
-    pub fn new(files: &'a R, path: &'a str) -> NewFile<'a, R> {
+    pub fn new(files: &'a R, name: &'a [u8]) -> NewFile<'a, R> {
         NewFile {
             files,
-            path,
+            name,
+            reason: None,
             failures: 0,
         }
+    }
+
+    /// Why it failed last, if it did.
+    pub fn reason(&self) -> Option<Reason> {
+        self.reason
     }
 }
 
 impl<'a, R: Files<File = File>> Target for NewFile<'a, R> {
-    type Out = WriteSink<File>;
+    type Out = WriteSink<Watched<File>>;
 
     ghost tells_bytes = { false };
 
@@ -86,23 +96,34 @@ impl<'a, R: Files<File = File>> Target for NewFile<'a, R> {
 
     ghost at_most_last = { λ t. t.counted };
 
-    fn make(&mut self) -> Option<WriteSink<File>> {
-        match File::create_new(self.files, self.path) {
-            Ok(file) => Some(WriteSink::new(file)),
-            Err(_) => {
+    fn make(&mut self) -> Option<WriteSink<Watched<File>>> {
+        match make_file(self.files, self.name) {
+            Ok(file) => Some(WriteSink::new(Watched::new(file))),
+            Err(reason) => {
+                self.reason = Some(reason);
                 count_failure(&mut self.failures);
                 None
             }
         }
     }
 
-    fn close(&mut self, out: WriteSink<File>, synced: bool) -> bool {
+    fn close(&mut self, out: WriteSink<Watched<File>>, synced: bool) -> bool {
         self.failures = self.failures.saturating_add(out.failures());
-        let file = out.into_inner();
-        if !synced || file.sync_all().is_ok() {
+        let watched = out.into_inner();
+        if watched.reason().is_some() {
+            self.reason = watched.reason();
+        }
+        let file = watched.into_inner();
+        if !synced {
             return true;
         }
-        count_failure(&mut self.failures);
-        false
+        match file.sync_all() {
+            Ok(()) => true,
+            Err(error) => {
+                self.reason = Some(reason_of(error.kind()));
+                count_failure(&mut self.failures);
+                false
+            }
+        }
     }
 }

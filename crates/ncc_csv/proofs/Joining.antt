@@ -11,30 +11,31 @@ use Rattle.ncc_values.specs.declared.xtype.XType.{XType}
 use Rattle.ncc_slab.specs.Selected.{number_at, numbers_of, part_of}
 use Rattle.ncc_slab.specs.Selection.{indices_of, selected_count}
 use Rattle.ncc_slab.specs.declared.slab.Slab.{Slab}
+use Rattle.ncc_lines.specs.declared.style.FloatStyle.{FloatStyle}
 use Rattle.ncc_csv.specs.Csv.{rows_text}
 use Rattle.ncc_csv.specs.Rows.{row_line, value_row, value_rows, part_text}
 use Rattle.ncc_csv.proofs.PartTexts.{length-numbers_of}
 
-rows_by : (t : XType) (f : List ℕ → ℤ) (indices : List (List ℕ)) → value_rows t indices (map f indices) ≡ map (λ i. value_row t i (f i)) indices
-rows_by t f [] = refl
-rows_by t f (i ∷ indices) = ap (λ (l : List (List (List ℕ))). value_row t i (f i) ∷ l) (rows_by t f indices)
+rows_by : (style : FloatStyle) (t : XType) (f : List ℕ → ℤ) (indices : List (List ℕ)) → value_rows style t indices (map f indices) ≡ map (λ i. value_row style t i (f i)) indices
+rows_by style t f [] = refl
+rows_by style t f (i ∷ indices) = ap (λ (l : List (List (List ℕ))). value_row style t i (f i) ∷ l) (rows_by style t f indices)
 
-pub part_is_of_elements : (file : List ℕ) (record_size : ℕ) (x : PlacedVar) (s : Slab) (first n : ℕ) (values : Values) → first + n ≤ selected_count s → type_of values ≡ x.xtype
-    → numbers_of values ≡ map (number_at file record_size x) (part_of s first n) → part_text s first values ≡ rows_text file record_size x (part_of s first n)
-part_is_of_elements file record_size x s first n values there typed numbers =
+pub part_is_of_elements : (style : FloatStyle) (file : List ℕ) (record_size : ℕ) (x : PlacedVar) (s : Slab) (first n : ℕ) (values : Values) → first + n ≤ selected_count s → type_of values ≡ x.xtype
+    → numbers_of values ≡ map (number_at file record_size x) (part_of s first n) → part_text style s first values ≡ rows_text style file record_size x (part_of s first n)
+part_is_of_elements style file record_size x s first n values there typed numbers =
     let indices = part_of s first n in
     let long : length indices ≡ n = length-take-le n (drop first (indices_of s)) (omega (arith, there, length-drop first (indices_of s))) in
     let count : count_of values ≡ n =
     sym (length-numbers_of values) ∙ ap (λ (l : List ℤ). length l) numbers ∙ length-map indices (number_at file record_size x) ∙ long in
-    ap (λ (k : ℕ). flat_map row_line (value_rows (type_of values) (part_of s first k) (numbers_of values))) count
-    ∙ ap (λ (t : XType). flat_map row_line (value_rows t indices (numbers_of values))) typed
-    ∙ ap (λ (l : List ℤ). flat_map row_line (value_rows x.xtype indices l)) numbers
-    ∙ ap (λ (l : List (List (List ℕ))). flat_map row_line l) (rows_by x.xtype (number_at file record_size x) indices)
+    ap (λ (k : ℕ). flat_map row_line (value_rows style (type_of values) (part_of s first k) (numbers_of values))) count
+    ∙ ap (λ (t : XType). flat_map row_line (value_rows style t indices (numbers_of values))) typed
+    ∙ ap (λ (l : List ℤ). flat_map row_line (value_rows style x.xtype indices l)) numbers
+    ∙ ap (λ (l : List (List (List ℕ))). flat_map row_line l) (rows_by style x.xtype (number_at file record_size x) indices)
 
-pub rows_join : (file : List ℕ) (record_size : ℕ) (x : PlacedVar) (s : Slab) (first m n : ℕ)
-    → rows_text file record_size x (part_of s first (m + n)) ≡ rows_text file record_size x (part_of s first m) ++ rows_text file record_size x (part_of s (first + m) n)
-rows_join file record_size x s first m n =
-    let row = λ (i : List ℕ). value_row x.xtype i (number_at file record_size x i) in
+pub rows_join : (style : FloatStyle) (file : List ℕ) (record_size : ℕ) (x : PlacedVar) (s : Slab) (first m n : ℕ)
+    → rows_text style file record_size x (part_of s first (m + n)) ≡ rows_text style file record_size x (part_of s first m) ++ rows_text style file record_size x (part_of s (first + m) n)
+rows_join style file record_size x s first m n =
+    let row = λ (i : List ℕ). value_row style x.xtype i (number_at file record_size x i) in
     let indices = drop first (indices_of s) in
     ap (λ (l : List (List ℕ)). flat_map row_line (map row l)) (take-add m n indices)
     ∙ ap (λ (l : List (List (List ℕ))). flat_map row_line l) (map-append row (take m indices) (take n (drop m indices)))

@@ -18,6 +18,7 @@ use Rattle.ncc_slab.specs.declared.slab.Slab.{Slab}
 use Rattle.ncc_csv.specs.Csv.{rows_text}
 use Rattle.ncc_csv.specs.Rows.{part_text}
 use Rattle.ncc_csv.specs.Sheets.{part_rows, SendsNext}
+use Rattle.ncc_lines.specs.declared.style.FloatStyle.{FloatStyle}
 use Rattle.ncc_csv.proofs.Joining.{part_is_of_elements, rows_join, all_are_selected}
 
 -- ---- the values of a part
@@ -30,14 +31,14 @@ added_to_none file size left t n old v none counted added =
     subst (λ (k : ℕ). AddsPlaces file size (take k left) (no_values t) v) all (subst (λ (o : Values). AddsPlaces file size (take n left) o v) none added)
 
 -- their rows are those of the elements
-pub rows_of_part : PartHasNumbers → (file : List ℕ) (record_size : ℕ) (x : PlacedVar) (s : Slab) (t : XType) (left : List ℕ) (first : ℕ) (v : Values) → t ≡ x.xtype → left ≡ drop first (places_of record_size x s)
-    → first + count_of v ≤ selected_count s → type_of v ≡ t → AddsPlaces file (size_of t) (take (count_of v) left) (no_values t) v → part_text s first v ≡ part_rows file record_size x s first (count_of v)
-rows_of_part numbers file record_size x s t left first v of rest there typed added =
+pub rows_of_part : (style : FloatStyle) → PartHasNumbers → (file : List ℕ) (record_size : ℕ) (x : PlacedVar) (s : Slab) (t : XType) (left : List ℕ) (first : ℕ) (v : Values) → t ≡ x.xtype → left ≡ drop first (places_of record_size x s)
+    → first + count_of v ≤ selected_count s → type_of v ≡ t → AddsPlaces file (size_of t) (take (count_of v) left) (no_values t) v → part_text style s first v ≡ part_rows style file record_size x s first (count_of v)
+rows_of_part style numbers file record_size x s t left first v of rest there typed added =
     let n = count_of v in
     let here : AddsPlaces file (size_of x.xtype) (take n (drop first (places_of record_size x s))) (no_values x.xtype) v =
     subst (λ (l : List ℕ). AddsPlaces file (size_of x.xtype) (take n l) (no_values x.xtype) v) rest
     (subst (λ (u : XType). AddsPlaces file (size_of u) (take n left) (no_values u) v) of added) in
-    part_is_of_elements file record_size x s first n v there (typed ∙ of)
+    part_is_of_elements style file record_size x s first n v there (typed ∙ of)
     (numbers file record_size x s first n (no_values x.xtype) v (type_of-no_values x.xtype) (count_of-no_values x.xtype) here)
 
 -- ---- fronts
@@ -56,24 +57,24 @@ front_behind old mid new text a b e puts w = (a ++ w.0, w.1, e ∙ ap (λ (z : L
 
 -- ---- rows of parts
 
-module _ (file : List ℕ) (record_size : ℕ) (x : PlacedVar) (s : Slab) where
+module _ (style : FloatStyle) (file : List ℕ) (record_size : ℕ) (x : PlacedVar) (s : Slab) where
   -- those of all that are left begin with those of the next
-  pub rows_left : (first n left : ℕ) → n ≤ left → part_rows file record_size x s first left ≡ part_rows file record_size x s first n ++ part_rows file record_size x s (first + n) (left - n)
+  pub rows_left : (first n left : ℕ) → n ≤ left → part_rows style file record_size x s first left ≡ part_rows style file record_size x s first n ++ part_rows style file record_size x s (first + n) (left - n)
   rows_left first n left le =
       let all : left ≡ n + (left - n) = omega arith in
-      ap (part_rows file record_size x s first) all ∙ rows_join file record_size x s first n (left - n)
+      ap (part_rows style file record_size x s first) all ∙ rows_join style file record_size x s first n (left - n)
 
   -- those of the first, and behind them those of the next
-  pub rows_so_far : (done n : ℕ) → part_rows file record_size x s 0 (done + n) ≡ part_rows file record_size x s 0 done ++ part_rows file record_size x s done n
+  pub rows_so_far : (done n : ℕ) → part_rows style file record_size x s 0 (done + n) ≡ part_rows style file record_size x s 0 done ++ part_rows style file record_size x s done n
   rows_so_far done n =
       let same : 0 + done ≡ done = omega arith in
-      rows_join file record_size x s 0 done n ∙ ap (λ (k : ℕ). part_rows file record_size x s 0 done ++ part_rows file record_size x s k n) same
+      rows_join style file record_size x s 0 done n ∙ ap (λ (k : ℕ). part_rows style file record_size x s 0 done ++ part_rows style file record_size x s k n) same
 
   -- and so all of them
-  pub rows_in_all : (done left : ℕ) → done + left ≡ selected_count s → rows_text file record_size x (indices_of s) ≡ part_rows file record_size x s 0 done ++ part_rows file record_size x s done left
+  pub rows_in_all : (done left : ℕ) → done + left ≡ selected_count s → rows_text style file record_size x (indices_of s) ≡ part_rows style file record_size x s 0 done ++ part_rows style file record_size x s done left
   rows_in_all done left all =
-      ap (rows_text file record_size x) (sym (all_are_selected s))
-      ∙ ap (part_rows file record_size x s 0) (sym all) ∙ rows_so_far done left
+      ap (rows_text style file record_size x) (sym (all_are_selected s))
+      ∙ ap (part_rows style file record_size x s 0) (sym all) ∙ rows_so_far done left
 
 -- nothing went out
 pub no_front : (put : Option (List ℕ)) (text : List ℕ) → PutsFront put put text

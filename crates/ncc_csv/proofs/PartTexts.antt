@@ -17,26 +17,27 @@ use Rattle.ncc_slab.specs.declared.slab.Slab.{Slab}
 use Rattle.ncc_csv.specs.Rows.{row_line, element_row, value_row, value_rows, part_text}
 use Rattle.ncc_csv.specs.Runs.{first_rows, slab_row}
 use Rattle.ncc_csv.specs.Values.{number_text}
+use Rattle.ncc_lines.specs.declared.style.FloatStyle.{FloatStyle}
 use Rattle.ncc_csv.proofs.Runs.{first_rows-add, first_rows_same, rows_from}
 
 -- ---- rows of lists
 
-listed : XType → List (List ℕ) → List ℤ → (k : ℕ) → List (List ℕ)
-listed t indices numbers k = element_row (get_or indices k []) (get_or (map (number_text t) numbers) k [])
+listed : FloatStyle → XType → List (List ℕ) → List ℤ → (k : ℕ) → List (List ℕ)
+listed style t indices numbers k = element_row (get_or indices k []) (get_or (map (number_text style t) numbers) k [])
 
-rows_of_lists : (t : XType) (indices : List (List ℕ)) (numbers : List ℤ) → length indices ≡ length numbers → flat_map row_line (value_rows t indices numbers) ≡ first_rows (listed t indices numbers) (length numbers)
+rows_of_lists : (style : FloatStyle) (t : XType) (indices : List (List ℕ)) (numbers : List ℤ) → length indices ≡ length numbers → flat_map row_line (value_rows style t indices numbers) ≡ first_rows (listed style t indices numbers) (length numbers)
 unfolding listed
-rows_of_lists t [] [] e = refl
-rows_of_lists t [] (z ∷ numbers) e = absurd (omega (arith, e))
-rows_of_lists t (i ∷ indices) [] e = absurd (omega (arith, e))
-rows_of_lists t (i ∷ indices) (z ∷ numbers) e =
-    let row = listed t (i ∷ indices) (z ∷ numbers) in
+rows_of_lists style t [] [] e = refl
+rows_of_lists style t [] (z ∷ numbers) e = absurd (omega (arith, e))
+rows_of_lists style t (i ∷ indices) [] e = absurd (omega (arith, e))
+rows_of_lists style t (i ∷ indices) (z ∷ numbers) e =
+    let row = listed style t (i ∷ indices) (z ∷ numbers) in
     let one : suc (length numbers) ≡ 1 + length numbers = omega arith in
-    ap (λ (l : List ℕ). row_line (value_row t i z) ++ l) (rows_of_lists t indices numbers (omega (arith, e)))
-    ∙ ap (λ (l : List ℕ). row_line (value_row t i z) ++ l) (first_rows_same (listed t indices numbers) (λ k. row (1 + k)) (length numbers)
+    ap (λ (l : List ℕ). row_line (value_row style t i z) ++ l) (rows_of_lists style t indices numbers (omega (arith, e)))
+    ∙ ap (λ (l : List ℕ). row_line (value_row style t i z) ++ l) (first_rows_same (listed style t indices numbers) (λ k. row (1 + k)) (length numbers)
     (λ k lt.
     let next : suc k ≡ 1 + k = omega arith in
-    ap (λ (n : ℕ). listed t (i ∷ indices) (z ∷ numbers) n) next))
+    ap (λ (n : ℕ). listed style t (i ∷ indices) (z ∷ numbers) n) next))
     ∙ sym (first_rows-add row 1 (length numbers))
     ∙ ap (λ (n : ℕ). first_rows row n) (sym one)
 
@@ -54,36 +55,36 @@ length-numbers_of (Int64s items) = refl
 length-numbers_of (UInt64s items) = length-map items (λ x. pos x)
 
 -- the rows of values, by the texts of these
-rows_of_values : (s : Slab) (first : ℕ) (v : Values) → first + count_of v ≤ selected_count s
-    → first_rows (slab_row s first (map (number_text (type_of v)) (numbers_of v))) (count_of v) ≡ part_text s first v
+rows_of_values : (style : FloatStyle) (s : Slab) (first : ℕ) (v : Values) → first + count_of v ≤ selected_count s
+    → first_rows (slab_row s first (map (number_text style (type_of v)) (numbers_of v))) (count_of v) ≡ part_text style s first v
 unfolding listed
-rows_of_values s first v there =
+rows_of_values style s first v there =
     let n = count_of v in
     let indices = indices_of s in
     let part = part_of s first n in
     let long : length part ≡ length (numbers_of v) =
     length-take-le n (drop first indices) (omega (arith, there, length-drop first indices)) ∙ sym (length-numbers_of v) in
-    first_rows_same (slab_row s first (map (number_text (type_of v)) (numbers_of v))) (listed (type_of v) part (numbers_of v)) n
+    first_rows_same (slab_row s first (map (number_text style (type_of v)) (numbers_of v))) (listed style (type_of v) part (numbers_of v)) n
     (λ k lt.
-    ap (λ (l : List ℕ). element_row l (get_or (map (number_text (type_of v)) (numbers_of v)) k []))
+    ap (λ (l : List ℕ). element_row l (get_or (map (number_text style (type_of v)) (numbers_of v)) k []))
     (sym (get_or-take n (drop first indices) k [] lt ∙ get_or-drop first indices k [])))
-    ∙ ap (λ (k : ℕ). first_rows (listed (type_of v) part (numbers_of v)) k) (sym (length-numbers_of v))
-    ∙ sym (rows_of_lists (type_of v) part (numbers_of v) long)
+    ∙ ap (λ (k : ℕ). first_rows (listed style (type_of v) part (numbers_of v)) k) (sym (length-numbers_of v))
+    ∙ sym (rows_of_lists style (type_of v) part (numbers_of v) long)
 
 -- the rows of items of one type were sent as those of values
-pub sends_items : {A : Type 0} (text : A → List ℕ) (make : List A → Values) → ((items : List A) → map text items ≡ map (number_text (type_of (make items))) (numbers_of (make items)))
+pub sends_items : {A : Type 0} (style : FloatStyle) (text : A → List ℕ) (make : List A → Values) → ((items : List A) → map text items ≡ map (number_text style (type_of (make items))) (numbers_of (make items)))
     → ((items : List A) → length items ≡ count_of (make items)) → (old new : Option (List ℕ)) (s : Slab) (first : ℕ) (v : Values) (items xs : List A) (result : Result (Unit {0}) Halt)
     → v ≡ make items → xs ≡ items → first + count_of v ≤ selected_count s → SendsAll old new (first_rows (slab_row s first (map text xs)) (length xs)) result
-    → SendsAll old new (part_text s first v) result
-sends_items text make shown counted old new s first v items xs result is same there sent =
+    → SendsAll old new (part_text style s first v) result
+sends_items style text make shown counted old new s first v items xs result is same there sent =
     let w = make items in
     let inside : first + count_of w ≤ selected_count s = subst (λ (x : Values). first + count_of x ≤ selected_count s) is there in
-    let rows : first_rows (slab_row s first (map text xs)) (length xs) ≡ part_text s first v =
+    let rows : first_rows (slab_row s first (map text xs)) (length xs) ≡ part_text style s first v =
     ap (λ l. first_rows (slab_row s first (map text l)) (length l)) same
     ∙ ap (λ (k : ℕ). first_rows (slab_row s first (map text items)) k) (counted items)
     ∙ ap (λ (l : List (List ℕ)). first_rows (slab_row s first l) (count_of w)) (shown items)
-    ∙ rows_of_values s first w inside
-    ∙ ap (λ (x : Values). part_text s first x) (sym is) in
+    ∙ rows_of_values style s first w inside
+    ∙ ap (λ (x : Values). part_text style s first x) (sym is) in
     subst (λ (t : List ℕ). SendsAll old new t result) rows sent
 
 -- ---- block by block

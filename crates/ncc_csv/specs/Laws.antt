@@ -9,6 +9,7 @@ use Rattle.ncc_slab.specs.Selected.{number_at, numbers_of, part_of}
 use Rattle.ncc_slab.specs.Selection.{indices_of, selected_count}
 use Rattle.ncc_slab.specs.declared.fault.SlabFault.{SlabFault}
 use Rattle.ncc_slab.specs.declared.slab.Slab.{Slab}
+use Rattle.ncc_lines.specs.declared.style.FloatStyle.{FloatStyle}
 use Rattle.ncc_csv.specs.Csv.{rows_text}
 use Rattle.ncc_csv.specs.Picks.{picked, pick_fault}
 use Rattle.ncc_csv.specs.Rows.{HasIndices, part_text}
@@ -20,13 +21,14 @@ FittingHasIndices = (lengths : List ℕ) (s : Slab) → FitsIn lengths s → All
 
 -- the rows of values are those of their elements, where the values have the numbers that the file has there
 abbrev pub PartIsOfElements : Type 0
-PartIsOfElements = (file : List ℕ) (record_size : ℕ) (x : PlacedVar) (s : Slab) (first n : ℕ) (values : Values) → first + n ≤ selected_count s → type_of values ≡ x.xtype
-    → numbers_of values ≡ map (number_at file record_size x) (part_of s first n) → part_text s first values ≡ rows_text file record_size x (part_of s first n)
+PartIsOfElements = (style : FloatStyle) (file : List ℕ) (record_size : ℕ) (x : PlacedVar) (s : Slab) (first n : ℕ) (values : Values) → first + n ≤ selected_count s → type_of values ≡ x.xtype
+    → numbers_of values ≡ map (number_at file record_size x) (part_of s first n) → part_text style s first values ≡ rows_text style file record_size x (part_of s first n)
 
 -- the rows of a part, and behind them those of the next one, are the rows of both
 abbrev pub RowsJoin : Type 0
-RowsJoin = (file : List ℕ) (record_size : ℕ) (x : PlacedVar) (s : Slab) (first m n : ℕ)
-    → rows_text file record_size x (part_of s first (m + n)) ≡ rows_text file record_size x (part_of s first m) ++ rows_text file record_size x (part_of s (first + m) n)
+RowsJoin = (style : FloatStyle) (file : List ℕ) (record_size : ℕ) (x : PlacedVar) (s : Slab) (first m n : ℕ)
+    → rows_text style file record_size x (part_of s first (m + n))
+    ≡ rows_text style file record_size x (part_of s first m) ++ rows_text style file record_size x (part_of s (first + m) n)
 
 -- the first elements, as many as are selected, are those of the selection
 abbrev pub AllAreSelected : Type 0

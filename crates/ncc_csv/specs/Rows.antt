@@ -10,6 +10,7 @@ use Rattle.ncc_values.specs.declared.xtype.XType.{XType}
 use Rattle.ncc_slab.specs.Selected.{part_of, numbers_of}
 use Rattle.ncc_slab.specs.declared.slab.Slab.{Slab}
 use Rattle.ncc_csv.specs.Values.{number_text}
+use Rattle.ncc_lines.specs.declared.style.FloatStyle.{FloatStyle}
 
 -- ---- rows
 
@@ -18,13 +19,13 @@ abbrev pub element_row : (index text : List ℕ) → List (List ℕ)
 element_row index text = map decimal index ++ text ∷ []
 
 -- indices in the whole array, and the value with this number
-abbrev pub value_row : XType → (index : List ℕ) → (number : ℤ) → List (List ℕ)
-value_row t index z = element_row index (number_text t z)
+abbrev pub value_row : FloatStyle → XType → (index : List ℕ) → (number : ℤ) → List (List ℕ)
+value_row style t index z = element_row index (number_text style t z)
 
 -- a row for each value
-abbrev pub value_rows : XType → (indices : List (List ℕ)) → (numbers : List ℤ) → List (List (List ℕ))
-value_rows t (i ∷ indices) (z ∷ numbers) = value_row t i z ∷ value_rows t indices numbers
-value_rows t _ _ = []
+abbrev pub value_rows : FloatStyle → XType → (indices : List (List ℕ)) → (numbers : List ℤ) → List (List (List ℕ))
+value_rows style t (i ∷ indices) (z ∷ numbers) = value_row style t i z ∷ value_rows style t indices numbers
+value_rows style t _ _ = []
 
 -- ---- their text
 
@@ -32,8 +33,9 @@ abbrev pub row_line : (row : List (List ℕ)) → List ℕ
 row_line row = row_text default_writer row
 
 -- of the values of a selection from the element with this number on
-abbrev pub part_text : Slab → (first : ℕ) → Values → List ℕ
-part_text s first values = flat_map row_line (value_rows (type_of values) (part_of s first (count_of values)) (numbers_of values))
+abbrev pub part_text : FloatStyle → Slab → (first : ℕ) → Values → List ℕ
+part_text style s first values =
+    flat_map row_line (value_rows style (type_of values) (part_of s first (count_of values)) (numbers_of values))
 
 -- ---- indices
 

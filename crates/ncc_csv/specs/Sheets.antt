@@ -14,13 +14,15 @@ use Rattle.ncc_slab.specs.declared.fault.SlabFault.{SlabFault}
 use Rattle.ncc_slab.specs.declared.fault.SlabFault.TheVariants as faults
 use Rattle.ncc_slab.specs.declared.slab.Slab.{Slab}
 use Rattle.ncc_slab.specs.Selected.{part_of}
+use Rattle.ncc_lines.specs.declared.style.FloatStyle.{FloatStyle}
 use Rattle.ncc_csv.specs.Csv.{rows_text, csv_text}
 use Rattle.ncc_csv.specs.Named.{no_var}
 use Rattle.ncc_csv.specs.Refusals.{refused_line}
 
 -- the names and the rows of a selection of the variable with this number
-abbrev pub sheet_text : (bytes : List ℕ) → Schema → Placed → (number : ℕ) → Slab → List ℕ
-sheet_text bytes schema placed n s = csv_text schema.dims (get_or schema.vars n no_var) bytes (record_size_of_file placed) (var_at (vars_of placed) n) s
+abbrev pub sheet_text : FloatStyle → (bytes : List ℕ) → Schema → Placed → (number : ℕ) → Slab → List ℕ
+sheet_text style bytes schema placed n s =
+    csv_text style schema.dims (get_or schema.vars n no_var) bytes (record_size_of_file placed) (var_at (vars_of placed) n) s
 
 -- those, or the line of the selection's fault
 abbrev pub sheet_or_line : Option SlabFault → (sheet : List ℕ) → List ℕ
@@ -33,8 +35,8 @@ SendsSheet fault old new sheet (Ok b) = Puts old new (sheet_or_line fault sheet)
 SendsSheet fault old new sheet (Err e) = PutsFront old new (sheet_or_line fault sheet)
 
 -- the rows of so many elements of a selection, behind the first ones
-abbrev pub part_rows : (file : List ℕ) → (record_size : ℕ) → PlacedVar → Slab → (first count : ℕ) → List ℕ
-part_rows file record_size x s first n = rows_text file record_size x (part_of s first n)
+abbrev pub part_rows : FloatStyle → (file : List ℕ) → (record_size : ℕ) → PlacedVar → Slab → (first count : ℕ) → List ℕ
+part_rows style file record_size x s first n = rows_text style file record_size x (part_of s first n)
 
 -- the rows of the next elements went out, and the answer is how many; or a front of those of all that are left
 abbrev pub SendsNext : (rows : (count : ℕ) → List ℕ) → (left : ℕ) → (old new : Option (List ℕ)) → Result ℕ Halt → Type 0

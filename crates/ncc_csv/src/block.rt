@@ -11,6 +11,7 @@ use crate::heads::{count_along, index_along, set_heads, stride_along};
 use crate::row::{put_row, put_run};
 use crate::word::Word;
 use csv::{Error, Writer};
+use ncc_lines::FloatStyle;
 use ncc_slab::Slab;
 use std::io::Write;
 
@@ -22,6 +23,7 @@ fn put_next_run<W: Write + Drop, T: Cell>(
     slab: &Slab,
     number: u64,
     values: &[T],
+    style: FloatStyle,
 ) -> Result<usize, Error>
     requires between { IsBetween w.old }
     requires ranked { length slab.now.count ≡ length heads.old + 1 }
@@ -31,7 +33,7 @@ fn put_next_run<W: Write + Drop, T: Cell>(
     ensures some { IfOk result (λ n. 0 < n) }
     ensures within { IfOk result (λ n. n ≤ length values.now) }
     ensures added { IfOk result (λ n. Adds W.contents w.old w.new
-        (first_rows (slab_row slab.now number (map T.text values.now)) n)) }
+        (first_rows (slab_row slab.now number (map (T.text style) values.now)) n)) }
 {
     let last = heads.len();
     let count = count_along(slab, last);
@@ -45,6 +47,7 @@ fn put_next_run<W: Write + Drop, T: Cell>(
         start,
         stride_along(slab, last),
         values.split_at(n).0,
+        style,
     )?;
     Ok(n)
 }
@@ -56,6 +59,7 @@ fn put_runs<W: Write + Drop, T: Cell>(
     slab: &Slab,
     first: u64,
     values: &[T],
+    style: FloatStyle,
 ) -> Result<(), Error>
     requires between { IsBetween w.old }
     requires ranked { length slab.now.count ≡ length heads.old + 1 }
@@ -63,12 +67,12 @@ fn put_runs<W: Write + Drop, T: Cell>(
     requires there { first + length values.now ≤ selected_count slab.now }
     requires counted { selected_count slab.now < 2 ^ 64 }
     ensures { OnOk result (Adds W.contents w.old w.new
-        (first_rows (slab_row slab.now first (map T.text values.now)) (length values.now))) }
+        (first_rows (slab_row slab.now first (map (T.text style) values.now)) (length values.now))) }
 {
     let mut done = 0;
     while done < values.len() {
         let rest = values.split_at(done).1;
-        done += put_next_run(w, heads, slab, first + done as u64, rest)?;
+        done += put_next_run(w, heads, slab, first + done as u64, rest, style)?;
     }
     Ok(())
 }
@@ -87,15 +91,16 @@ fn put_scalar<W: Write + Drop, T: Cell>(
     slab: &Slab,
     first: u64,
     values: &[T],
+    style: FloatStyle,
 ) -> Result<(), Error>
     requires between { IsBetween w.old }
     requires scalar { length slab.now.count ≡ 0 }
     requires there { first + length values.now ≤ selected_count slab.now }
     ensures { OnOk result (Adds W.contents w.old w.new
-        (first_rows (slab_row slab.now first (map T.text values.now)) (length values.now))) }
+        (first_rows (slab_row slab.now first (map (T.text style) values.now)) (length values.now))) }
 {
     for k in 0..values.len() {
-        put_alone(w, values[k].word())?;
+        put_alone(w, values[k].word(style))?;
     }
     Ok(())
 }
@@ -107,6 +112,7 @@ pub fn put_rows<W: Write + Drop, T: Cell>(
     slab: &Slab,
     first: u64,
     values: &[T],
+    style: FloatStyle,
 ) -> Result<(), Error>
     requires between { IsBetween w.old }
     requires ranked { length heads.old ≡ length slab.now.count - 1 }
@@ -114,10 +120,10 @@ pub fn put_rows<W: Write + Drop, T: Cell>(
     requires there { first + length values.now ≤ selected_count slab.now }
     requires counted { selected_count slab.now < 2 ^ 64 }
     ensures { OnOk result (Adds W.contents w.old w.new
-        (first_rows (slab_row slab.now first (map T.text values.now)) (length values.now))) }
+        (first_rows (slab_row slab.now first (map (T.text style) values.now)) (length values.now))) }
 {
     if slab.count.is_empty() {
-        return put_scalar(w, slab, first, values);
+        return put_scalar(w, slab, first, values, style);
     }
-    put_runs(w, heads, slab, first, values)
+    put_runs(w, heads, slab, first, values, style)
 }

@@ -21,7 +21,7 @@ ghost use Rattle.ncc_csv.specs.Sheets.{BlamesOne, BlamesEither, part_rows, Sends
 use crate::sending::send_part;
 use ncc_check::NcFile;
 use ncc_header::{Sink, Values};
-use ncc_lines::{Halt, Progress};
+use ncc_lines::{FloatStyle, Halt, Progress};
 use ncc_slab::{Slab, SlabFault, SlabParts, laws as slab_laws};
 use ncc_store::{Store, laws as store_laws};
 use std::alloc::Global;
@@ -70,6 +70,7 @@ fn send_next<S: Store, W: Sink>(
     slab: &Slab,
     parts: &mut SlabParts,
     first: u64,
+    style: FloatStyle,
     sink: &mut W,
 ) -> Result<u64, Halt>
     requires long { parts_length parts.old ≤ file_length_of (placed_of file.old) }
@@ -81,7 +82,7 @@ fn send_next<S: Store, W: Sink>(
     ensures some { IfOk result (λ n. 0 < length (parts_left parts.old) → 0 < n) }
     ensures sent { IsTrue S.tells_bytes → (record_size : ℕ) (x : PlacedVar) → parts_type parts.old ≡ x.xtype
         → parts_left parts.old ≡ drop first (places_of record_size x slab.now)
-        → SendsNext (part_rows (S.bytes (store_of file.old)) record_size x slab.now first)
+        → SendsNext (part_rows style (S.bytes (store_of file.old)) record_size x slab.now first)
         (length (parts_left parts.old)) (W.put sink.old) (W.put sink.new) result }
     ensures type_is { parts_type parts.new ≡ parts_type parts.old }
     ensures long { parts_length parts.new ≡ parts_length parts.old }
@@ -98,7 +99,7 @@ fn send_next<S: Store, W: Sink>(
     slab_laws::part_has_numbers();
     slab_laws::no_part_is_the_end();
     let values = next_values(alloc, file, parts)?;
-    let sent = send_part(alloc, slab, first, &values, sink);
+    let sent = send_part(alloc, slab, first, &values, style, sink);
     let count = values.len() as u64;
     drop(values);
     match sent {
@@ -114,13 +115,14 @@ pub fn send_rows<S: Store, W: Sink, P: Progress>(
     file: &mut NcFile<S>,
     slab: &Slab,
     parts: &mut SlabParts,
+    style: FloatStyle,
     sink: &mut W,
     progress: &mut P,
 ) -> Result<(), Halt>
     requires begins { (number : ℕ) × BeginsParts (placed_of file.old) number slab.now parts.old }
     requires fits { HasIndices slab.now }
     ensures sent { IsTrue S.tells_bytes → (number : ℕ) → BeginsParts (placed_of file.old) number slab.now parts.old
-        → SendsAll (W.put sink.old) (W.put sink.new) (rows_text (S.bytes (store_of file.old))
+        → SendsAll (W.put sink.old) (W.put sink.new) (rows_text style (S.bytes (store_of file.old))
         (record_size_of_file (placed_of file.old)) (var_at (vars_of (placed_of file.old)) number)
         (indices_of slab.now)) result }
     ensures schema { schema_of file.new ≡ schema_of file.old }
@@ -138,7 +140,7 @@ pub fn send_rows<S: Store, W: Sink, P: Progress>(
     let all = parts.left();
     let mut done = 0;
     while done < all {
-        done += send_next(alloc, file, slab, parts, done, sink)?;
+        done += send_next(alloc, file, slab, parts, done, style, sink)?;
         progress.rows(done, all);
     }
     Ok(())

@@ -8,6 +8,7 @@ ghost use Rattle.ncc_csv.specs.Runs.{run_row, first_rows};
 use crate::cell::Cell;
 use crate::word::Word;
 use csv::{Error, Writer};
+use ncc_lines::FloatStyle;
 use std::io::Write;
 
 /// The text of a field of a row of two parts.
@@ -44,15 +45,16 @@ pub fn put_run<W: Write + Drop, T: Cell>(
     start: u64,
     stride: u64,
     values: &[T],
+    style: FloatStyle,
 ) -> Result<(), Error>
     requires between { IsBetween w.old }
     requires fits { start + (length values.now - 1) * stride < 2 ^ 64 }
     ensures { OnOk result (Adds W.contents w.old w.new
-        (first_rows (run_row (map word_text heads.now) start stride (map T.text values.now)) (length values.now))) }
+        (first_rows (run_row (map word_text heads.now) start stride (map (T.text style) values.now)) (length values.now))) }
 {
     for k in 0..values.len() {
         let index = start + k as u64 * stride;
-        put_row(w, heads, &[Word::unsigned(index), values[k].word()])?;
+        put_row(w, heads, &[Word::unsigned(index), values[k].word(style)])?;
     }
     Ok(())
 }

@@ -12,14 +12,14 @@ use crate::cell::Cell;
 use crate::word::Word;
 use csv::Writer;
 use ncc_header::{Sink, Values};
-use ncc_lines::{Halt, send_page};
+use ncc_lines::{FloatStyle, Halt, send_page};
 use ncc_slab::Slab;
 use std::alloc::{AllocError, Global};
 use std::mem;
 
-/// How many fields gather in memory before they are sent. Each has at most 21 bytes with what parts it from the
+/// How many fields gather in memory before they are sent. Each has at most 25 bytes with what parts it from the
 /// next, so that they are below 64 KiB.
-const FIELDS: usize = 3_000;
+const FIELDS: usize = 2_600;
 
 /// Adds the rows of a few values to the page. Where that fails, which is for want of memory, the page is lost.
 fn gather_rows<T: Cell>(
@@ -29,16 +29,17 @@ fn gather_rows<T: Cell>(
     slab: &Slab,
     first: u64,
     values: &[T],
+    style: FloatStyle,
 ) -> Result<(), AllocError>
     requires ranked { length heads.old ≡ length slab.now.count - 1 }
     requires fits { HasIndices slab.now }
     requires there { first + length values.now ≤ selected_count slab.now }
     requires counted { selected_count slab.now < 2 ^ 64 }
     ensures { OnOk result (page.new.items ≡ page.old.items
-        ++ first_rows (slab_row slab.now first (map T.text values.now)) (length values.now)) }
+        ++ first_rows (slab_row slab.now first (map (T.text style) values.now)) (length values.now)) }
 {
     let mut w = Writer::from_writer(mem::replace(page, Vec::new(alloc)));
-    if put_rows(&mut w, heads, slab, first, values).is_err() {
+    if put_rows(&mut w, heads, slab, first, values, style).is_err() {
         return Err(AllocError);
     }
     match w.into_inner() {
@@ -58,6 +59,7 @@ fn send_block<T: Cell, W: Sink>(
     slab: &Slab,
     first: u64,
     values: &[T],
+    style: FloatStyle,
     sink: &mut W,
 ) -> Result<(), Halt>
     requires empty { page.old.items ≡ [] }
@@ -67,10 +69,10 @@ fn send_block<T: Cell, W: Sink>(
     requires counted { selected_count slab.now < 2 ^ 64 }
     ensures empty { OnOk result (page.new.items ≡ []) }
     ensures sent { SendsAll (W.put sink.old) (W.put sink.new)
-        (first_rows (slab_row slab.now first (map T.text values.now)) (length values.now)) result }
+        (first_rows (slab_row slab.now first (map (T.text style) values.now)) (length values.now)) result }
     ensures count { Blames (W.failures sink.old) (W.failures sink.new) result }
 {
-    gather_rows(alloc, page, heads, slab, first, values)?;
+    gather_rows(alloc, page, heads, slab, first, values, style)?;
     send_page(page, sink)
 }
 
@@ -82,6 +84,7 @@ fn send_blocks<T: Cell, W: Sink>(
     slab: &Slab,
     first: u64,
     values: &[T],
+    style: FloatStyle,
     sink: &mut W,
 ) -> Result<(), Halt>
     requires empty { page.old.items ≡ [] }
@@ -90,7 +93,7 @@ fn send_blocks<T: Cell, W: Sink>(
     requires there { first + length values.now ≤ selected_count slab.now }
     requires counted { selected_count slab.now < 2 ^ 64 }
     ensures sent { SendsAll (W.put sink.old) (W.put sink.new)
-        (first_rows (slab_row slab.now first (map T.text values.now)) (length values.now)) result }
+        (first_rows (slab_row slab.now first (map (T.text style) values.now)) (length values.now)) result }
     ensures count { Blames (W.failures sink.old) (W.failures sink.new) result }
 {
     let most = (FIELDS / heads.len().saturating_add(2)).max(1);
@@ -98,7 +101,7 @@ fn send_blocks<T: Cell, W: Sink>(
     while done < values.len() {
         let rest = values.split_at(done).1;
         let piece = rest.split_at(rest.len().min(most)).0;
-        send_block(alloc, page, heads, slab, first + done as u64, piece, sink)?;
+        send_block(alloc, page, heads, slab, first + done as u64, piece, style, sink)?;
         done += piece.len();
     }
     Ok(())
@@ -110,13 +113,14 @@ fn send_values<T: Cell, W: Sink>(
     slab: &Slab,
     first: u64,
     values: &[T],
+    style: FloatStyle,
     sink: &mut W,
 ) -> Result<(), Halt>
     requires fits { HasIndices slab.now }
     requires there { first + length values.now ≤ selected_count slab.now }
     requires counted { selected_count slab.now < 2 ^ 64 }
     ensures sent { SendsAll (W.put sink.old) (W.put sink.new)
-        (first_rows (slab_row slab.now first (map T.text values.now)) (length values.now)) result }
+        (first_rows (slab_row slab.now first (map (T.text style) values.now)) (length values.now)) result }
     ensures count { Blames (W.failures sink.old) (W.failures sink.new) result }
 {
     let mut page = Vec::new(alloc);
@@ -128,6 +132,7 @@ fn send_values<T: Cell, W: Sink>(
         slab,
         first,
         values,
+        style,
         sink,
     )
 }
@@ -139,25 +144,26 @@ pub fn send_part<W: Sink>(
     slab: &Slab,
     first: u64,
     values: &Values,
+    style: FloatStyle,
     sink: &mut W,
 ) -> Result<(), Halt>
     requires fits { HasIndices slab.now }
     requires there { first + count_of values.now ≤ selected_count slab.now }
     requires counted { selected_count slab.now < 2 ^ 64 }
-    ensures sent { SendsAll (W.put sink.old) (W.put sink.new) (part_text slab.now first values.now) result }
+    ensures sent { SendsAll (W.put sink.old) (W.put sink.new) (part_text style slab.now first values.now) result }
     ensures count { Blames (W.failures sink.old) (W.failures sink.new) result }
 {
     match values {
-        Values::Bytes(items) => send_values(alloc, slab, first, items.as_slice(), sink),
-        Values::Chars(items) => send_values(alloc, slab, first, items.as_slice(), sink),
-        Values::Shorts(items) => send_values(alloc, slab, first, items.as_slice(), sink),
-        Values::Ints(items) => send_values(alloc, slab, first, items.as_slice(), sink),
-        Values::Floats(items) => send_values(alloc, slab, first, items.as_slice(), sink),
-        Values::Doubles(items) => send_values(alloc, slab, first, items.as_slice(), sink),
-        Values::UBytes(items) => send_values(alloc, slab, first, items.as_slice(), sink),
-        Values::UShorts(items) => send_values(alloc, slab, first, items.as_slice(), sink),
-        Values::UInts(items) => send_values(alloc, slab, first, items.as_slice(), sink),
-        Values::Int64s(items) => send_values(alloc, slab, first, items.as_slice(), sink),
-        Values::UInt64s(items) => send_values(alloc, slab, first, items.as_slice(), sink),
+        Values::Bytes(items) => send_values(alloc, slab, first, items.as_slice(), style, sink),
+        Values::Chars(items) => send_values(alloc, slab, first, items.as_slice(), style, sink),
+        Values::Shorts(items) => send_values(alloc, slab, first, items.as_slice(), style, sink),
+        Values::Ints(items) => send_values(alloc, slab, first, items.as_slice(), style, sink),
+        Values::Floats(items) => send_values(alloc, slab, first, items.as_slice(), style, sink),
+        Values::Doubles(items) => send_values(alloc, slab, first, items.as_slice(), style, sink),
+        Values::UBytes(items) => send_values(alloc, slab, first, items.as_slice(), style, sink),
+        Values::UShorts(items) => send_values(alloc, slab, first, items.as_slice(), style, sink),
+        Values::UInts(items) => send_values(alloc, slab, first, items.as_slice(), style, sink),
+        Values::Int64s(items) => send_values(alloc, slab, first, items.as_slice(), style, sink),
+        Values::UInt64s(items) => send_values(alloc, slab, first, items.as_slice(), style, sink),
     }
 }

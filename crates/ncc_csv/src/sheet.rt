@@ -22,7 +22,7 @@ use crate::refusals::send_refusal;
 use ncc_check::NcFile;
 use ncc_check::laws::open_file_places_all;
 use ncc_header::{Schema, Sink, Var};
-use ncc_lines::{Halt, Progress};
+use ncc_lines::{FloatStyle, Halt, Progress};
 use ncc_slab::laws::{lengths_fit, refused_unless_it_fits};
 use ncc_slab::{Slab, SlabFault, SlabParts};
 use ncc_store::Store;
@@ -60,13 +60,14 @@ fn send_selected<S: Store, W: Sink, P: Progress>(
     var: usize,
     slab: &Slab,
     parts: &mut SlabParts,
+    style: FloatStyle,
     sink: &mut W,
     progress: &mut P,
 ) -> Result<(), Halt>
     requires selected { slab_fault (vars_of (placed_of file.old)) var slab.now ≡ None }
     requires begins { BeginsParts (placed_of file.old) var slab.now parts.old }
     ensures sent { IsTrue S.tells_bytes → SendsAll (W.put sink.old) (W.put sink.new)
-        (sheet_text (S.bytes (store_of file.old)) (schema_of file.old) (placed_of file.old) var slab.now) result }
+        (sheet_text style (S.bytes (store_of file.old)) (schema_of file.old) (placed_of file.old) var slab.now) result }
     ensures schema { schema_of file.new ≡ schema_of file.old }
     ensures placed { placed_of file.new ≡ placed_of file.old }
     ensures reopen { must_reopen file.new ≡ must_reopen file.old }
@@ -84,22 +85,24 @@ fn send_selected<S: Store, W: Sink, P: Progress>(
     fitting_has_indices();
     let schema = file.schema();
     send_names(alloc, schema.dims.as_slice(), var_of(schema, var), sink)?;
-    send_rows(alloc, file, slab, parts, sink, progress)
+    send_rows(alloc, file, slab, parts, style, sink, progress)
 }
 
 /// Sends the row of names and the rows of a selection of the variable with this number, or the line of the
-/// selection's refusal, and tells whether it was selected. Memory doesn't grow with the selection.
+/// selection's refusal, and tells whether it was selected. Floats are in this style. Memory doesn't grow with the
+/// selection.
 pub fn send_sheet<S: Store, W: Sink, P: Progress>(
     alloc: Global,
     file: &mut NcFile<S>,
     var: usize,
     slab: &Slab,
+    style: FloatStyle,
     sink: &mut W,
     progress: &mut P,
 ) -> Result<bool, Halt>
     ensures sent { IsTrue S.tells_bytes → SendsSheet (slab_fault (vars_of (placed_of file.old)) var slab.now)
         (W.put sink.old) (W.put sink.new)
-        (sheet_text (S.bytes (store_of file.old)) (schema_of file.old) (placed_of file.old) var slab.now) result }
+        (sheet_text style (S.bytes (store_of file.old)) (schema_of file.old) (placed_of file.old) var slab.now) result }
     ensures answer { IfOk result (λ b. b ≡ is_none (slab_fault (vars_of (placed_of file.old)) var slab.now)) }
     ensures schema { schema_of file.new ≡ schema_of file.old }
     ensures placed { placed_of file.new ≡ placed_of file.old }
@@ -119,6 +122,6 @@ pub fn send_sheet<S: Store, W: Sink, P: Progress>(
         Ok(parts) => parts,
         Err(fault) => return refuse(alloc, fault, sink),
     };
-    send_selected(alloc, file, var, slab, &mut parts, sink, progress)?;
+    send_selected(alloc, file, var, slab, &mut parts, style, sink, progress)?;
     Ok(true)
 }

@@ -1,22 +1,24 @@
 //! The text of one field.
 
-ghost use Rattle.std.specs.Prelude.{◌≡◌, ◌≤◌, ◌/◌, ◌%◌, decimal};
+ghost use Rattle.std.specs.Prelude.{◌≡◌, ◌≤◌, ◌/◌, ◌%◌, decimal, length};
 ghost use Rattle.std.specs.Fmt.{signed_decimal};
+ghost use Rattle.ncc_decimal.specs.Texts.{text_of};
 ghost use Rattle.ncc_lines.specs.Words.{hex_digit};
 ghost use Rattle.ncc_csv.specs.Values.{bits_text};
 
 use itoa::write_digits;
+use ncc_decimal::Text;
 use ncc_lines::digit;
 
-/// As many bytes as a field has at most: an integer of 64 bits with its sign.
-const SIZE: usize = 20;
+/// As many bytes as a field has at most: a double in decimal.
+const SIZE: usize = 24;
 
 /// A short text in an array, at whose end it stands.
 #[derive(Clone, Copy)]
 pub struct Word {
-    bytes: [u8; 20],
+    bytes: [u8; 24],
     start: usize,
-    ghost within: { start ≤ 20 },
+    ghost within: { start ≤ 24 },
 }
 
 /// The first digit of a byte.
@@ -67,12 +69,28 @@ impl Word {
         }
     }
 
+    /// A float in decimal.
+    pub fn of_text(text: Text) -> Word
+        requires { length (text_of text) ≤ 24 }
+        ensures { word_text result ≡ text_of text }
+    {
+        let shown = text.as_slice();
+        let mut bytes = [0; SIZE];
+        let start = SIZE - shown.len();
+        bytes[start..].copy_from_slice(shown);
+        Word { bytes, start }
+    }
+
     /// The bits of a float, in hexadecimal.
     pub fn of_float(bits: [u8; 4]) -> Word
         ensures { word_text result ≡ bits_text bits }
     {
         let [a, b, c, d] = bits;
         let bytes = [
+            0,
+            0,
+            0,
+            0,
             0,
             0,
             0,
@@ -94,7 +112,7 @@ impl Word {
             high(d),
             low(d),
         ];
-        Word { bytes, start: 10 }
+        Word { bytes, start: 14 }
     }
 
     /// The bits of a double, in hexadecimal.
@@ -103,6 +121,10 @@ impl Word {
     {
         let [a, b, c, d, e, f, g, h] = bits;
         let bytes = [
+            0,
+            0,
+            0,
+            0,
             0,
             0,
             b'0',
@@ -124,6 +146,6 @@ impl Word {
             high(h),
             low(h),
         ];
-        Word { bytes, start: 2 }
+        Word { bytes, start: 6 }
     }
 }

@@ -13,6 +13,6 @@ pub use answer::{Answer, answered};
 pub use checking::check_engine;
 pub use converting::convert_engine;
 pub use extending::extend_engine;
-pub use listing::list_engine;
+pub use listing::{list_engine, list_store_engine};
 pub use planning::plan;
 pub use selecting::csv_engine;

@@ -1,28 +1,33 @@
 //! `list`: what the header alone says.
 
-ghost use Rattle.std.specs.Prelude.{◌≡◌, ◌⊎◌, ℕ, List, IfSome};
+ghost use Rattle.std.specs.Prelude.{◌≡◌, ◌⊎◌, ◌+◌, ◌≤◌, max, ℕ, List, length, IfSome, IsTrue};
 ghost use Rattle.ncc_schema.specs.Device.{LosesAtMost, Puts};
+ghost use Rattle.ncc_store.specs.Store.{Unmoved, KeepsImages};
+ghost use Rattle.ncc_check.specs.FromStore.{calls_for};
 ghost use Rattle.ncc_values.specs.Failures.{Rose};
 ghost use Rattle.ncc_schema.specs.declared.schema.Header.{Header as TheHeader};
 ghost use Rattle.ncc_header.specs.Answers.{Begins, IsLeft};
 ghost use Rattle.ncc_engines.specs.Listing.{Lists};
 
 use crate::answer::{Answer, answered};
+use ncc_check::{Refusal, header_in};
 use ncc_header::{HeaderError, Sink, Source, laws, read_header};
-use ncc_lines::{send_fault, send_header};
+use ncc_lines::{FloatStyle, send_fault, send_file_fault, send_header};
+use ncc_store::Store;
 use std::alloc::Global;
 
-/// Writes the lines of the header at the front of the source, of at most `limit` bytes, or the line
-/// of its fault. Of a source that tells its bytes exactly the header is read where it passed, and no
-/// byte past the limit otherwise.
+/// Writes the lines of the header at the front of the source, of at most `limit` bytes, with its floats
+/// in this style; or the line of its fault. Of a source that tells its bytes exactly the header is read
+/// where it passed, and no byte past the limit otherwise.
 pub fn list_engine<R: Source, W: Sink>(
     alloc: Global,
     source: &mut R,
     limit: u64,
+    style: FloatStyle,
     sink: &mut W,
 ) -> Answer
     ensures lists { IfSome (R.left source.old) (λ input. (out : List ℕ)
-        × Puts (W.put sink.old) (W.put sink.new) out × Lists input limit result out) }
+        × Puts (W.put sink.old) (W.put sink.new) out × Lists input limit style result out) }
     ensures exactly { result ≡ Answer.Passed → IfSome (R.left source.old) (λ input.
         (h : TheHeader) × Begins input limit h × IsLeft (R.left source.new) input h) }
     ensures most { LosesAtMost (R.left source.old) (R.left source.new) limit }
@@ -35,9 +40,42 @@ pub fn list_engine<R: Source, W: Sink>(
 {
     laws::header_or_stop();
     match read_header(alloc, source, limit) {
-        Ok(header) => answered(send_header(alloc, &header, sink), Answer::Passed),
+        Ok(header) => answered(send_header(alloc, &header, style, sink), Answer::Passed),
         Err(HeaderError::Fault(fault)) => answered(send_fault(alloc, fault, sink), Answer::Refused),
         Err(HeaderError::Device) => Answer::Device,
         Err(HeaderError::Memory) => Answer::Memory,
+    }
+}
+
+/// Writes the same of the file that a store holds. The store is asked for its length once, and for pieces of at most
+/// 65,536 bytes.
+pub fn list_store_engine<S: Store, W: Sink>(
+    alloc: Global,
+    store: &mut S,
+    limit: u64,
+    style: FloatStyle,
+    sink: &mut W,
+) -> Answer
+    ensures lists { IsTrue S.tells_bytes → (out : List ℕ) × Puts (W.put sink.old) (W.put sink.new) out
+        × Lists (S.bytes store.old) limit style result out }
+    ensures unmoved { Unmoved S.bytes S.images S.moment S.images_since store.old store.new }
+    ensures kept { KeepsImages (S.images store.old) (S.images store.new) }
+    ensures quiet { (result ≡ Answer.Device → ⊥)
+        → (S.failures store.new ≡ S.failures store.old) × (W.failures sink.new ≡ W.failures sink.old) }
+    ensures still { (S.failures store.new ≡ S.failures store.old → ⊥) → W.calls sink.new ≡ W.calls sink.old }
+    ensures device { result ≡ Answer.Device
+        → Rose (S.failures store.old) (S.failures store.new) ⊎ Rose (W.failures sink.old) (W.failures sink.new) }
+    ensures calls { IsTrue S.tells_bytes
+        → S.calls store.new ≤ S.calls store.old + calls_for (length (S.bytes store.old)) limit }
+    ensures reach { S.reach store.new ≤ max (S.reach store.old) limit }
+{
+    laws::header_or_stop();
+    match header_in(alloc, store, limit) {
+        Ok(header) => answered(send_header(alloc, &header, style, sink), Answer::Passed),
+        Err(Refusal::Fault(fault)) => {
+            answered(send_file_fault(alloc, fault, sink), Answer::Refused)
+        }
+        Err(Refusal::Device) => Answer::Device,
+        Err(Refusal::Memory) => Answer::Memory,
     }
 }

@@ -13,21 +13,22 @@ ghost use Rattle.ncc_engines.specs.Answers.{Writes};
 ghost use Rattle.ncc_engines.specs.Selecting.{contents_in, contents_of, value_calls, sheet_answer, IsCsvText, IsSelection, SelectsInto};
 ghost use Rattle.ncc_engines.specs.declared.answer.Answer.{Answer as GivenAnswer};
 ghost use Rattle.ncc_csv.specs.declared.pick.Pick.{Pick as GivenPick};
+ghost use Rattle.ncc_lines.specs.declared.style.FloatStyle.{FloatStyle as GivenStyle};
 
 use crate::answer::{Answer, answered};
 use ncc_check::{NcFile, Refusal, laws as check_laws, open};
 use ncc_csv::{Pick, laws as csv_laws, send_refusal, send_sheet, var_named};
 use ncc_header::Sink;
 use ncc_header::laws::header_or_stop;
-use ncc_lines::{Halt, Progress, send_file_fault};
+use ncc_lines::{FloatStyle, Halt, Progress, send_file_fault};
 use ncc_slab::SlabFault;
 use ncc_store::Store;
 use std::alloc::Global;
 
 /// Of any bytes one answer and one text at most is right.
 fn one_csv_text()
-    ensures { (bytes : List ℕ) (limit : ℕ) (name : List ℕ) (pick : GivenPick) (a b : GivenAnswer) (t u : List ℕ)
-        → IsCsvText bytes limit name pick a t → IsCsvText bytes limit name pick b u → (a ≡ b) × (t ≡ u) }
+    ensures { (bytes : List ℕ) (limit : ℕ) (name : List ℕ) (pick : GivenPick) (style : GivenStyle) (a b : GivenAnswer) (t u : List ℕ)
+        → IsCsvText bytes limit name pick style a t → IsCsvText bytes limit name pick style b u → (a ≡ b) × (t ≡ u) }
 {
     check_laws::passing_has_no_fault();
     header_or_stop();
@@ -51,12 +52,13 @@ fn select<S: Store, W: Sink, P: Progress>(
     file: &mut NcFile<S>,
     name: &[u8],
     pick: Pick,
+    style: FloatStyle,
     sink: &mut W,
     progress: &mut P,
 ) -> Answer
     ensures selects { IsTrue S.tells_bytes → (out : List ℕ) × Puts (W.put sink.old) (W.put sink.new) out × Writes
         (IsSelection (contents_in (S.bytes (store_of file.old)) (schema_of file.old) (placed_of file.old))
-        name.now pick)
+        name.now pick style)
         result out }
     ensures unmoved { Unmoved S.bytes S.images S.moment S.images_since (store_of file.old) (store_of file.new) }
     ensures kept { KeepsImages (S.images (store_of file.old)) (S.images (store_of file.new)) }
@@ -77,7 +79,7 @@ fn select<S: Store, W: Sink, P: Progress>(
         );
     };
     match pick.slab(alloc, file.placed().shape(var)) {
-        Ok(slab) => told(send_sheet(alloc, file, var, &slab, sink, progress)),
+        Ok(slab) => told(send_sheet(alloc, file, var, &slab, style, sink, progress)),
         Err(fault) => {
             if fault == SlabFault::Memory {
                 return Answer::Memory;
@@ -88,18 +90,20 @@ fn select<S: Store, W: Sink, P: Progress>(
 }
 
 /// Writes the names and rows of what is picked of the first variable of this name, in a file that passes
-/// with at most `limit` bytes of header; or the line of its refusal, or of the file's first fault.
+/// with at most `limit` bytes of header, with floats in this style; or the line of its refusal, or of the file's first
+/// fault.
 pub fn csv_engine<S: Store, W: Sink, P: Progress>(
     alloc: Global,
     store: S,
     limit: u64,
     name: &[u8],
     pick: Pick,
+    style: FloatStyle,
     sink: &mut W,
     progress: &mut P,
 ) -> (S, Answer)
     ensures selects { IsTrue S.tells_bytes → (out : List ℕ) × Puts (W.put sink.old) (W.put sink.new) out
-        × SelectsInto (S.bytes store) limit name.now pick result.1 out }
+        × SelectsInto (S.bytes store) limit name.now pick style result.1 out }
     ensures own { IsTrue S.tells_bytes → result.1 ≡ Answer.Passed → HasOwnElements (S.bytes store) limit }
     ensures unmoved { Unmoved S.bytes S.images S.moment S.images_since store result.0 }
     ensures kept { KeepsImages (S.images store) (S.images result.0) }
@@ -119,7 +123,7 @@ pub fn csv_engine<S: Store, W: Sink, P: Progress>(
     match open(alloc, store, limit) {
         Ok(opened) => {
             let mut file = opened;
-            let answer = select(alloc, &mut file, name, pick, sink, progress);
+            let answer = select(alloc, &mut file, name, pick, style, sink, progress);
             (file.into_store(), answer)
         }
         Err((store, refusal)) => match refusal {

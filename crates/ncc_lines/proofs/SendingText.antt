@@ -9,6 +9,7 @@ use Rattle.ncc_schema.specs.declared.schema.VarPlace.{VarPlace}
 use Rattle.ncc_schema.specs.Device.{Puts}
 use Rattle.ncc_schema.proofs.Writing.{puts_both, puts_none}
 use Rattle.ncc_lines.specs.declared.halt.Halt.{Halt}
+use Rattle.ncc_lines.specs.declared.style.FloatStyle.{FloatStyle}
 use Rattle.ncc_lines.specs.Sends.{PutsFront, SentUpTo, Sends, SendsAll}
 use Rattle.ncc_lines.specs.Texts.{dim_line, dim_lines, begin_of, var_text, var_texts}
 
@@ -21,11 +22,11 @@ next_line dims number d inside is =
     ∙ ap (λ (e : Dim). dim_line number e ++ dim_lines (number + 1) (drop (number + 1) dims)) (sym is)
 
 -- the text of a variable, and then those that follow
-pub next_var : (dims : List Dim) (places : List VarPlace) (vars : List Var) (number begin : ℕ) (x : Var) → number < length vars → x ≡ get_or vars number x → begin ≡ begin_of places number → var_texts dims places number (drop number vars) ≡ var_text dims number begin x ++ var_texts dims places (number + 1) (drop (number + 1) vars)
-next_var dims places vars number begin x inside is e =
-    ap (var_texts dims places number) (drop_more vars number x inside)
-    ∙ ap (λ (y : Var). var_text dims number (begin_of places number) y ++ var_texts dims places (number + 1) (drop (number + 1) vars)) (sym is)
-    ∙ ap (λ (b : ℕ). var_text dims number b x ++ var_texts dims places (number + 1) (drop (number + 1) vars)) (sym e)
+pub next_var : (style : FloatStyle) (dims : List Dim) (places : List VarPlace) (vars : List Var) (number begin : ℕ) (x : Var) → number < length vars → x ≡ get_or vars number x → begin ≡ begin_of places number → var_texts style dims places number (drop number vars) ≡ var_text style dims number begin x ++ var_texts style dims places (number + 1) (drop (number + 1) vars)
+next_var style dims places vars number begin x inside is e =
+    ap (var_texts style dims places number) (drop_more vars number x inside)
+    ∙ ap (λ (y : Var). var_text style dims number (begin_of places number) y ++ var_texts style dims places (number + 1) (drop (number + 1) vars)) (sym is)
+    ∙ ap (λ (b : ℕ). var_text style dims number b x ++ var_texts style dims places (number + 1) (drop (number + 1) vars)) (sym e)
 
 -- the text of an item, and then those that follow
 pub next_item : {A : Type 0} (f : A → List ℕ) (items : List A) (i : ℕ) (x outside : A) → i < length items → x ≡ get_or items i outside → flat_map f (drop i items) ≡ f x ++ flat_map f (drop (i + 1) items)

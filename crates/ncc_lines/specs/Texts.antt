@@ -19,6 +19,7 @@ use Rattle.ncc_schema.specs.declared.schema.Var.{Var}
 use Rattle.ncc_schema.specs.declared.schema.VarPlace.{VarPlace}
 use Rattle.ncc_schema.specs.Schema.{is_record_var}
 use Rattle.ncc_lines.specs.Words.{name_text, values_text}
+use Rattle.ncc_lines.specs.declared.style.FloatStyle.{FloatStyle}
 
 -- ---- the format and the number of records
 
@@ -73,11 +74,11 @@ attr_type values = codes " " ++ word_of (type_of values) ++ codes " " ++ decimal
 abbrev pub attr_head : (owner : Option ℕ) → Attr → List ℕ
 attr_head owner a = attr_start owner ++ (name_text a.name ++ attr_type a.values)
 
-abbrev pub attr_line : (owner : Option ℕ) → Attr → List ℕ
-attr_line owner a = attr_head owner a ++ (values_text a.values ++ codes "\n")
+abbrev pub attr_line : FloatStyle → (owner : Option ℕ) → Attr → List ℕ
+attr_line style owner a = attr_head owner a ++ (values_text style a.values ++ codes "\n")
 
-abbrev pub attr_lines : (owner : Option ℕ) → List Attr → List ℕ
-attr_lines owner attrs = flat_map (attr_line owner) attrs
+abbrev pub attr_lines : FloatStyle → (owner : Option ℕ) → List Attr → List ℕ
+attr_lines style owner attrs = flat_map (attr_line style owner) attrs
 
 -- ---- variables
 
@@ -112,21 +113,22 @@ abbrev pub var_line : List Dim → (number begin : ℕ) → Var → List ℕ
 var_line dims number begin x = var_head dims number begin x ++ (flat_map (dim_word dims) x.dims ++ codes "\n")
 
 -- the line of a variable and those of its attributes
-abbrev pub var_text : List Dim → (number begin : ℕ) → Var → List ℕ
-var_text dims number begin x = var_line dims number begin x ++ attr_lines (Some number) x.attrs
+abbrev pub var_text : FloatStyle → List Dim → (number begin : ℕ) → Var → List ℕ
+var_text style dims number begin x = var_line dims number begin x ++ attr_lines style (Some number) x.attrs
 
 -- the texts of variables that are numbered from here on
-abbrev pub var_texts : List Dim → List VarPlace → (number : ℕ) → List Var → List ℕ
-var_texts dims places number [] = []
-var_texts dims places number (x ∷ vars) = var_text dims number (begin_of places number) x ++ var_texts dims places (number + 1) vars
+abbrev pub var_texts : FloatStyle → List Dim → List VarPlace → (number : ℕ) → List Var → List ℕ
+var_texts style dims places number [] = []
+var_texts style dims places number (x ∷ vars) =
+    var_text style dims number (begin_of places number) x ++ var_texts style dims places (number + 1) vars
 
 -- ---- all lines of a header
 
-abbrev pub schema_lines : Schema → List ℕ
-schema_lines s = head_lines s ++ (dim_lines 0 s.dims ++ attr_lines None s.gatts)
+abbrev pub schema_lines : FloatStyle → Schema → List ℕ
+schema_lines style s = head_lines s ++ (dim_lines 0 s.dims ++ attr_lines style None s.gatts)
 
-abbrev pub list_text : Header → List ℕ
-list_text h = schema_lines h.schema ++ var_texts h.schema.dims h.places 0 h.schema.vars
+abbrev pub list_text : FloatStyle → Header → List ℕ
+list_text style h = schema_lines style h.schema ++ var_texts style h.schema.dims h.places 0 h.schema.vars
 
 -- ---- faults
 

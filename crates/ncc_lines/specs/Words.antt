@@ -3,6 +3,10 @@ use Rattle.std.specs.Prelude.{ℕ, ℤ, Bool, ◌+◌, ◌/◌, ◌%◌, List, [
 use Rattle.std.specs.Fmt.{signed_decimal}
 use Rattle.std.specs.Int.{w32, w64, to_be_bytes}
 use Rattle.std.specs.List.{flat_map}
+use Rattle.std.specs.Float.Ieee.{binary32, binary64}
+use Rattle.ncc_decimal.specs.Printed.{float_text}
+use Rattle.ncc_lines.specs.declared.style.FloatStyle.{FloatStyle}
+use Rattle.ncc_lines.specs.declared.style.FloatStyle.TheVariants.{Bits, Decimal}
 use Rattle.ncc_values.specs.declared.raw.Char.{Char}
 use Rattle.ncc_values.specs.declared.raw.F32Bits.{F32Bits}
 use Rattle.ncc_values.specs.declared.raw.F64Bits.{F64Bits}
@@ -41,11 +45,14 @@ unsigned_word n = codes " " ++ decimal n
 abbrev pub bits_word : (bytes : List ℕ) → List ℕ
 bits_word bytes = codes " 0x" ++ flat_map byte_digits bytes
 
-abbrev pub float_word : F32Bits → List ℕ
-float_word x = bits_word (to_be_bytes w32 x.0)
+-- a float: its bits, or the shortest decimal that reads back
+abbrev pub float_word : FloatStyle → F32Bits → List ℕ
+float_word Bits x = bits_word (to_be_bytes w32 x.0)
+float_word Decimal x = codes " " ++ float_text binary32 x.0
 
-abbrev pub double_word : F64Bits → List ℕ
-double_word x = bits_word (to_be_bytes w64 x.0)
+abbrev pub double_word : FloatStyle → F64Bits → List ℕ
+double_word Bits x = bits_word (to_be_bytes w64 x.0)
+double_word Decimal x = codes " " ++ float_text binary64 x.0
 
 abbrev pub char_text : Char → List ℕ
 char_text c = escaped c.0
@@ -55,15 +62,15 @@ chars_word [] = []
 chars_word (c ∷ chars) = codes " " ++ flat_map char_text (c ∷ chars)
 
 -- what values add to a line
-abbrev pub values_text : Values → List ℕ
-values_text (Bytes items) = flat_map signed_word items
-values_text (Chars items) = chars_word items
-values_text (Shorts items) = flat_map signed_word items
-values_text (Ints items) = flat_map signed_word items
-values_text (Floats items) = flat_map float_word items
-values_text (Doubles items) = flat_map double_word items
-values_text (UBytes items) = flat_map unsigned_word items
-values_text (UShorts items) = flat_map unsigned_word items
-values_text (UInts items) = flat_map unsigned_word items
-values_text (Int64s items) = flat_map signed_word items
-values_text (UInt64s items) = flat_map unsigned_word items
+abbrev pub values_text : FloatStyle → Values → List ℕ
+values_text style (Bytes items) = flat_map signed_word items
+values_text style (Chars items) = chars_word items
+values_text style (Shorts items) = flat_map signed_word items
+values_text style (Ints items) = flat_map signed_word items
+values_text style (Floats items) = flat_map (float_word style) items
+values_text style (Doubles items) = flat_map (double_word style) items
+values_text style (UBytes items) = flat_map unsigned_word items
+values_text style (UShorts items) = flat_map unsigned_word items
+values_text style (UInts items) = flat_map unsigned_word items
+values_text style (Int64s items) = flat_map signed_word items
+values_text style (UInt64s items) = flat_map unsigned_word items

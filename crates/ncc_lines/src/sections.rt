@@ -10,6 +10,7 @@ use crate::heads::{
     dim_name, offset_of, push_attr_start, push_attr_type, push_var_start, push_var_type,
 };
 use crate::page::{send, send_name, turn_page};
+use crate::style::FloatStyle;
 use crate::texts::{push_dim_end, push_dim_start, push_head};
 use crate::values::sending::send_values;
 use ncc_header::{Attr, Dim, Header, Schema, Sink, Var, VarPlace};
@@ -59,15 +60,16 @@ fn send_attr_head<W: Sink>(
 fn send_attr<W: Sink>(
     owner: Option<usize>,
     attr: &Attr,
+    style: FloatStyle,
     page: &mut Vec<u8>,
     sink: &mut W,
 ) -> Result<(), Halt>
     ensures sent { Sends (W.put sink.old) (W.put sink.new)
-        (page.old.items ++ attr_line owner attr.now) page.new.items result }
+        (page.old.items ++ attr_line style owner attr.now) page.new.items result }
     ensures count { Blames (W.failures sink.old) (W.failures sink.new) result }
 {
     send_attr_head(owner, attr, page, sink)?;
-    send_values(&attr.values, page, sink)?;
+    send_values(&attr.values, style, page, sink)?;
     send(b"\n", page, sink)
 }
 
@@ -75,15 +77,16 @@ fn send_attr<W: Sink>(
 fn send_attrs<W: Sink>(
     owner: Option<usize>,
     attrs: &[Attr],
+    style: FloatStyle,
     page: &mut Vec<u8>,
     sink: &mut W,
 ) -> Result<(), Halt>
     ensures sent { Sends (W.put sink.old) (W.put sink.new)
-        (page.old.items ++ attr_lines owner attrs.now) page.new.items result }
+        (page.old.items ++ attr_lines style owner attrs.now) page.new.items result }
     ensures count { Blames (W.failures sink.old) (W.failures sink.new) result }
 {
     for attr in attrs {
-        send_attr(owner, attr, page, sink)?;
+        send_attr(owner, attr, style, page, sink)?;
     }
     Ok(())
 }
@@ -163,15 +166,16 @@ fn send_var<W: Sink>(
     number: usize,
     begin: u64,
     var: &Var,
+    style: FloatStyle,
     page: &mut Vec<u8>,
     sink: &mut W,
 ) -> Result<(), Halt>
     ensures sent { Sends (W.put sink.old) (W.put sink.new)
-        (page.old.items ++ var_text dims.now number begin var.now) page.new.items result }
+        (page.old.items ++ var_text style dims.now number begin var.now) page.new.items result }
     ensures count { Blames (W.failures sink.old) (W.failures sink.new) result }
 {
     send_var_line(dims, number, begin, var, page, sink)?;
-    send_attrs(Some(number), var.attrs.as_slice(), page, sink)
+    send_attrs(Some(number), var.attrs.as_slice(), style, page, sink)
 }
 
 /// Sends the lines of each variable.
@@ -179,38 +183,49 @@ fn send_vars<W: Sink>(
     dims: &[Dim],
     places: &[VarPlace],
     vars: &[Var],
+    style: FloatStyle,
     page: &mut Vec<u8>,
     sink: &mut W,
 ) -> Result<(), Halt>
     ensures sent { Sends (W.put sink.old) (W.put sink.new)
-        (page.old.items ++ var_texts dims.now places.now 0 vars.now) page.new.items result }
+        (page.old.items ++ var_texts style dims.now places.now 0 vars.now) page.new.items result }
     ensures count { Blames (W.failures sink.old) (W.failures sink.new) result }
 {
     for (number, var) in vars.iter().enumerate() {
-        send_var(dims, number, offset_of(places, number), var, page, sink)?;
+        send_var(dims, number, offset_of(places, number), var, style, page, sink)?;
     }
     Ok(())
 }
 
 /// Sends the lines above those of variables.
-fn send_schema<W: Sink>(schema: &Schema, page: &mut Vec<u8>, sink: &mut W) -> Result<(), Halt>
+fn send_schema<W: Sink>(
+    schema: &Schema,
+    style: FloatStyle,
+    page: &mut Vec<u8>,
+    sink: &mut W,
+) -> Result<(), Halt>
     ensures sent { Sends (W.put sink.old) (W.put sink.new)
-        (page.old.items ++ schema_lines schema.now) page.new.items result }
+        (page.old.items ++ schema_lines style schema.now) page.new.items result }
     ensures count { Blames (W.failures sink.old) (W.failures sink.new) result }
 {
     push_head(page, schema)?;
     send_dims(schema.dims.as_slice(), page, sink)?;
-    send_attrs(None, schema.gatts.as_slice(), page, sink)
+    send_attrs(None, schema.gatts.as_slice(), style, page, sink)
 }
 
 /// Sends all lines of a header; the last of them are left on the page.
-pub fn send_list<W: Sink>(header: &Header, page: &mut Vec<u8>, sink: &mut W) -> Result<(), Halt>
+pub fn send_list<W: Sink>(
+    header: &Header,
+    style: FloatStyle,
+    page: &mut Vec<u8>,
+    sink: &mut W,
+) -> Result<(), Halt>
     ensures sent { Sends (W.put sink.old) (W.put sink.new)
-        (page.old.items ++ list_text header.now) page.new.items result }
+        (page.old.items ++ list_text style header.now) page.new.items result }
     ensures count { Blames (W.failures sink.old) (W.failures sink.new) result }
 {
     let dims = header.schema.dims.as_slice();
     let vars = header.schema.vars.as_slice();
-    send_schema(&header.schema, page, sink)?;
-    send_vars(dims, header.places.as_slice(), vars, page, sink)
+    send_schema(&header.schema, style, page, sink)?;
+    send_vars(dims, header.places.as_slice(), vars, style, page, sink)
 }

@@ -7,19 +7,26 @@ ghost use Rattle.ncc_lines.specs.Sends.{SendsAll, Blames};
 use crate::halt::Halt;
 use crate::page::send_page;
 use crate::sections::send_list;
+use crate::style::FloatStyle;
 use crate::texts::push_fault;
 use crate::verdict::{push_file_fault, send_verdict};
 use ncc_check::{FileFault, Report};
 use ncc_header::{Fault, Header, Sink, write_all};
 use std::alloc::Global;
 
-/// Sends all lines of a header, by one page that is used again. After an `Err` a front of them is sent.
-pub fn send_header<W: Sink>(alloc: Global, header: &Header, sink: &mut W) -> Result<(), Halt>
-    ensures sent { SendsAll (W.put sink.old) (W.put sink.new) (list_text header.now) result }
+/// Sends all lines of a header, with its floats in this style, by one page that is used again. After an `Err` a front
+/// of them is sent.
+pub fn send_header<W: Sink>(
+    alloc: Global,
+    header: &Header,
+    style: FloatStyle,
+    sink: &mut W,
+) -> Result<(), Halt>
+    ensures sent { SendsAll (W.put sink.old) (W.put sink.new) (list_text style header.now) result }
     ensures count { Blames (W.failures sink.old) (W.failures sink.new) result }
 {
     let mut page = Vec::new(alloc);
-    send_list(header, &mut page, sink)?;
+    send_list(header, style, &mut page, sink)?;
     send_page(&mut page, sink)
 }
 

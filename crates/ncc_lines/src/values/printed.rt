@@ -2,34 +2,42 @@
 
 ghost use Rattle.std.specs.Prelude.{◌≡◌, ◌≤◌, ◌++◌, length, map, codes, OnOk};
 ghost use Rattle.std.specs.List.{flat_map};
+ghost use Rattle.ncc_decimal.specs.Texts.{text_of};
 ghost use Rattle.ncc_lines.specs.Words.{bits_word};
 
 use crate::escape::{push_bits, push_escaped, push_name};
+use crate::style::FloatStyle;
 use itoa::{Buffer, Integer};
+use ncc_decimal::{Text, text32, text64};
 use ncc_values::{Char, F32Bits, F64Bits};
 use std::alloc::AllocError;
 
-/// How many values are printed at once: a number has at most 21 bytes, a character at most 4.
+/// How many values are printed at once: a number has at most 25 bytes, a character at most 4.
 pub const PIECE: usize = 128;
 
 /// A value of an attribute.
 pub trait Printed: Copy {
     ghost use Rattle.std.specs.Prelude.{ℕ, List};
+    ghost use Rattle.ncc_lines.specs.declared.style.FloatStyle.{FloatStyle};
 
     /// What it adds to a line: a number begins with a space.
-    ghost text: { Self → List ℕ };
+    ghost text: { FloatStyle → Self → List ℕ };
 
     /// Adds its text.
-    fn print(self, out: &mut Vec<u8>) -> Result<(), AllocError>
-        ensures { OnOk result (out.new.items ≡ out.old.items ++ text self) };
+    fn print(self, style: FloatStyle, out: &mut Vec<u8>) -> Result<(), AllocError>
+        ensures { OnOk result (out.new.items ≡ out.old.items ++ text style self) };
 
     /// Adds the texts of a few values, one after the other.
-    fn print_all(values: &[Self], out: &mut Vec<u8>) -> Result<(), AllocError>
+    fn print_all(
+        values: &[Self],
+        style: FloatStyle,
+        out: &mut Vec<u8>,
+    ) -> Result<(), AllocError>
         requires { length values.now ≤ PIECE }
-        ensures { OnOk result (out.new.items ≡ out.old.items ++ flat_map text values.now) }
+        ensures { OnOk result (out.new.items ≡ out.old.items ++ flat_map (text style) values.now) }
     {
         for value in values {
-            value.print(out)?;
+            value.print(style, out)?;
         }
         Ok(())
     }
@@ -45,7 +53,7 @@ fn copy_chars(chars: &[Char], bytes: &mut [u8])
     }
 }
 
-/// Adds an integer behind a space.
+/// Adds a space and an integer.
 fn push_integer<I: Integer>(out: &mut Vec<u8>, n: I) -> Result<(), AllocError>
     ensures { OnOk result (out.new.items ≡ out.old.items ++ (codes " " ++ I.text n)) }
 {
@@ -55,24 +63,37 @@ fn push_integer<I: Integer>(out: &mut Vec<u8>, n: I) -> Result<(), AllocError>
     Ok(())
 }
 
-/// Adds the bits of a float behind a space.
-fn push_float(out: &mut Vec<u8>, bytes: &[u8]) -> Result<(), AllocError>
+/// Adds a space and the bits of a float.
+fn push_bits_word(out: &mut Vec<u8>, bytes: &[u8]) -> Result<(), AllocError>
     ensures { OnOk result (out.new.items ≡ out.old.items ++ bits_word bytes.now) }
 {
     out.extend_from_slice(b" 0x")?;
     push_bits(out, bytes)
 }
 
+/// Adds a space and the decimal of a float.
+fn push_decimal_word(out: &mut Vec<u8>, decimal: Text) -> Result<(), AllocError>
+    ensures { OnOk result (out.new.items ≡ out.old.items ++ (codes " " ++ text_of decimal)) }
+{
+    out.extend_from_slice(b" ")?;
+    out.extend_from_slice(decimal.as_slice())?;
+    Ok(())
+}
+
 impl Printed for Char {
     ghost use Rattle.ncc_lines.specs.Words.{char_text};
 
-    ghost text = { char_text };
+    ghost text = { λ _. char_text };
 
-    fn print(self, out: &mut Vec<u8>) -> Result<(), AllocError> {
+    fn print(self, _style: FloatStyle, out: &mut Vec<u8>) -> Result<(), AllocError> {
         push_escaped(out, self.0)
     }
 
-    fn print_all(values: &[Char], out: &mut Vec<u8>) -> Result<(), AllocError> {
+    fn print_all(
+        values: &[Char],
+        _style: FloatStyle,
+        out: &mut Vec<u8>,
+    ) -> Result<(), AllocError> {
         let mut room = [0; PIECE];
         let bytes = &mut room[..values.len()];
         copy_chars(values, bytes);
@@ -85,8 +106,11 @@ impl Printed for F32Bits {
 
     ghost text = { float_word };
 
-    fn print(self, out: &mut Vec<u8>) -> Result<(), AllocError> {
-        push_float(out, &self.0.to_be_bytes())
+    fn print(self, style: FloatStyle, out: &mut Vec<u8>) -> Result<(), AllocError> {
+        match style {
+            FloatStyle::Bits => push_bits_word(out, &self.0.to_be_bytes()),
+            FloatStyle::Decimal => push_decimal_word(out, text32(self.0)),
+        }
     }
 }
 
@@ -95,17 +119,20 @@ impl Printed for F64Bits {
 
     ghost text = { double_word };
 
-    fn print(self, out: &mut Vec<u8>) -> Result<(), AllocError> {
-        push_float(out, &self.0.to_be_bytes())
+    fn print(self, style: FloatStyle, out: &mut Vec<u8>) -> Result<(), AllocError> {
+        match style {
+            FloatStyle::Bits => push_bits_word(out, &self.0.to_be_bytes()),
+            FloatStyle::Decimal => push_decimal_word(out, text64(self.0)),
+        }
     }
 }
 
 impl Printed for i8 {
     ghost use Rattle.ncc_lines.specs.Words.{signed_word};
 
-    ghost text = { signed_word };
+    ghost text = { λ _. signed_word };
 
-    fn print(self, out: &mut Vec<u8>) -> Result<(), AllocError> {
+    fn print(self, _style: FloatStyle, out: &mut Vec<u8>) -> Result<(), AllocError> {
         push_integer(out, self)
     }
 }
@@ -113,9 +140,9 @@ impl Printed for i8 {
 impl Printed for i16 {
     ghost use Rattle.ncc_lines.specs.Words.{signed_word};
 
-    ghost text = { signed_word };
+    ghost text = { λ _. signed_word };
 
-    fn print(self, out: &mut Vec<u8>) -> Result<(), AllocError> {
+    fn print(self, _style: FloatStyle, out: &mut Vec<u8>) -> Result<(), AllocError> {
         push_integer(out, self)
     }
 }
@@ -123,9 +150,9 @@ impl Printed for i16 {
 impl Printed for i32 {
     ghost use Rattle.ncc_lines.specs.Words.{signed_word};
 
-    ghost text = { signed_word };
+    ghost text = { λ _. signed_word };
 
-    fn print(self, out: &mut Vec<u8>) -> Result<(), AllocError> {
+    fn print(self, _style: FloatStyle, out: &mut Vec<u8>) -> Result<(), AllocError> {
         push_integer(out, self)
     }
 }
@@ -133,9 +160,9 @@ impl Printed for i32 {
 impl Printed for i64 {
     ghost use Rattle.ncc_lines.specs.Words.{signed_word};
 
-    ghost text = { signed_word };
+    ghost text = { λ _. signed_word };
 
-    fn print(self, out: &mut Vec<u8>) -> Result<(), AllocError> {
+    fn print(self, _style: FloatStyle, out: &mut Vec<u8>) -> Result<(), AllocError> {
         push_integer(out, self)
     }
 }
@@ -143,9 +170,9 @@ impl Printed for i64 {
 impl Printed for u8 {
     ghost use Rattle.ncc_lines.specs.Words.{unsigned_word};
 
-    ghost text = { unsigned_word };
+    ghost text = { λ _. unsigned_word };
 
-    fn print(self, out: &mut Vec<u8>) -> Result<(), AllocError> {
+    fn print(self, _style: FloatStyle, out: &mut Vec<u8>) -> Result<(), AllocError> {
         push_integer(out, self)
     }
 }
@@ -153,9 +180,9 @@ impl Printed for u8 {
 impl Printed for u16 {
     ghost use Rattle.ncc_lines.specs.Words.{unsigned_word};
 
-    ghost text = { unsigned_word };
+    ghost text = { λ _. unsigned_word };
 
-    fn print(self, out: &mut Vec<u8>) -> Result<(), AllocError> {
+    fn print(self, _style: FloatStyle, out: &mut Vec<u8>) -> Result<(), AllocError> {
         push_integer(out, self)
     }
 }
@@ -163,9 +190,9 @@ impl Printed for u16 {
 impl Printed for u32 {
     ghost use Rattle.ncc_lines.specs.Words.{unsigned_word};
 
-    ghost text = { unsigned_word };
+    ghost text = { λ _. unsigned_word };
 
-    fn print(self, out: &mut Vec<u8>) -> Result<(), AllocError> {
+    fn print(self, _style: FloatStyle, out: &mut Vec<u8>) -> Result<(), AllocError> {
         push_integer(out, self)
     }
 }
@@ -173,9 +200,9 @@ impl Printed for u32 {
 impl Printed for u64 {
     ghost use Rattle.ncc_lines.specs.Words.{unsigned_word};
 
-    ghost text = { unsigned_word };
+    ghost text = { λ _. unsigned_word };
 
-    fn print(self, out: &mut Vec<u8>) -> Result<(), AllocError> {
+    fn print(self, _style: FloatStyle, out: &mut Vec<u8>) -> Result<(), AllocError> {
         push_integer(out, self)
     }
 }

@@ -9,7 +9,7 @@ pub loop-done-preserved : goal.loop-done-preserved
 loop-done-preserved g c =
     let s = c.args.slab.now in
     let values = c.args.values.now in
-    let text = g.T.Cell.text in
+    let text = (g.T.Cell.text c.args.style) in
     let done = c.loop-done.done in
     let n = c.in_ok-done.field-0 in
     let rest : first_rows (slab_row s (c.args.first + done) (map text c.split_at.result.1.now)) n ≡ first_rows (slab_row s (c.args.first + done) (map text (drop done values))) n =

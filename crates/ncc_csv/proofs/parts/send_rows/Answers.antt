@@ -30,8 +30,8 @@ returns-in_err-done-clause-sent g c = λ told number begins.
     let whole : done + left ≡ selected_count s =
     omega (arith, at.within, c.left-all.ensures, ap length at.left, length-drop done all, ap length begins.left_is, c.places_are_counted.ensures record_size x s) in
     let next = c.in_err-done.ensures.sent told record_size x (at.type_is ∙ begins.type_is) (at.left ∙ ap (λ (l : List ℕ). drop done l) begins.left_is) in
-    fails _ _ _ _ c.from_residual.ensures.0 (front_behind _ _ _ _ _ _ (rows_in_all file record_size x s done left whole) (at.sent told number begins)
-    (subst (λ (b : List ℕ). PutsFront (g.W.Sink.put c.loop-done.sink) (g.W.Sink.put c.send_next.new.sink) (part_rows b record_size x s done left)) at.unmoved.same next))
+    fails _ _ _ _ c.from_residual.ensures.0 (front_behind _ _ _ _ _ _ (rows_in_all c.args.style file record_size x s done left whole) (at.sent told number begins)
+    (subst (λ (b : List ℕ). PutsFront (g.W.Sink.put c.loop-done.sink) (g.W.Sink.put c.send_next.new.sink) (part_rows c.args.style b record_size x s done left)) at.unmoved.same next))
 
 pub loop-done-preserved : goal.loop-done-preserved
 loop-done-preserved g c =
@@ -51,9 +51,9 @@ loop-done-preserved g c =
           let record_size = record_size_of_file (placed_of c.args.file.now) in
           let x = var_at (vars_of (placed_of c.args.file.now)) number in
           let next = part.sent told record_size x (at.type_is ∙ begins.type_is) (at.left ∙ ap (λ (l : List ℕ). drop done l) begins.left_is) in
-          subst (λ (t : List ℕ). Puts (g.W.Sink.put c.args.sink.now) (g.W.Sink.put c.send_next.new.sink) t) (sym (rows_so_far file record_size x s done n))
-          (puts_both _ _ _ (part_rows file record_size x s 0 done) (part_rows file record_size x s done n) (at.sent told number begins)
-          (subst (λ (b : List ℕ). Puts (g.W.Sink.put c.loop-done.sink) (g.W.Sink.put c.send_next.new.sink) (part_rows b record_size x s done n)) at.unmoved.same next));
+          subst (λ (t : List ℕ). Puts (g.W.Sink.put c.args.sink.now) (g.W.Sink.put c.send_next.new.sink) t) (sym (rows_so_far c.args.style file record_size x s done n))
+          (puts_both _ _ _ (part_rows c.args.style file record_size x s 0 done) (part_rows c.args.style file record_size x s done n) (at.sent told number begins)
+          (subst (λ (b : List ℕ). Puts (g.W.Sink.put c.loop-done.sink) (g.W.Sink.put c.send_next.new.sink) (part_rows c.args.style b record_size x s done n)) at.unmoved.same next));
       schema = part.schema ∙ at.schema;
       placed = part.placed ∙ at.placed;
       reopen = part.reopen ∙ at.reopen;

@@ -18,7 +18,7 @@ invariant-loop-done g l = record {
   type_is : parts_type l.parts ≡ parts_type l.fn.parts;
   long : parts_length l.parts ≡ parts_length l.fn.parts;
   sent : IsTrue g.S.Store.tells_bytes → (number : ℕ) → BeginsParts (placed_of l.fn.file) number l.slab l.fn.parts
-      → Puts (g.W.Sink.put l.fn.sink) (g.W.Sink.put l.sink) (part_rows (g.S.Store.bytes (store_of l.fn.file)) (record_size_of_file (placed_of l.fn.file)) (var_at (vars_of (placed_of l.fn.file)) number) l.slab 0 l.done);
+      → Puts (g.W.Sink.put l.fn.sink) (g.W.Sink.put l.sink) (part_rows l.style (g.S.Store.bytes (store_of l.fn.file)) (record_size_of_file (placed_of l.fn.file)) (var_at (vars_of (placed_of l.fn.file)) number) l.slab 0 l.done);
   schema : schema_of l.file ≡ schema_of l.fn.file;
   placed : placed_of l.file ≡ placed_of l.fn.file;
   reopen : must_reopen l.file ≡ must_reopen l.fn.file;

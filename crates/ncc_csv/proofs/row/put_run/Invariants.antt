@@ -5,4 +5,4 @@ use Rattle.ncc_csv.specs.Runs.{run_row, first_rows}
 use Rattle.ncc_csv.proofs.row.put_run.Given as goal
 
 abbrev pub invariant-loop-k : goal.invariant-loop-k
-invariant-loop-k g l = Adds g.W.Write.contents l.fn.w l.w (first_rows (run_row (map word_text l.heads) l.start l.stride (map g.T.Cell.text l.values)) l.k)
+invariant-loop-k g l = Adds g.W.Write.contents l.fn.w l.w (first_rows (run_row (map word_text l.heads) l.start l.stride (map (g.T.Cell.text l.style) l.values)) l.k)

@@ -9,7 +9,7 @@ pub returns-in_err-send_block-clause-sent : goal.returns-in_err-send_block-claus
 returns-in_err-send_block-clause-sent g c =
     let s = c.args.slab.now in
     let values = c.args.values.now in
-    let text = g.T.Cell.text in
+    let text = (g.T.Cell.text c.args.style) in
     let done = c.loop-done.done in
     let piece = c.split_at-in-loop-done.result.0.now in
     let k = c.min.result in
@@ -24,7 +24,7 @@ pub loop-done-preserved : goal.loop-done-preserved
 loop-done-preserved g c =
     let s = c.args.slab.now in
     let values = c.args.values.now in
-    let text = g.T.Cell.text in
+    let text = (g.T.Cell.text c.args.style) in
     let done = c.loop-done.done in
     let piece = c.split_at-in-loop-done.result.0.now in
     let k = c.min.result in

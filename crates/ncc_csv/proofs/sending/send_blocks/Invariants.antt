@@ -7,7 +7,7 @@ abbrev pub invariant-loop-done : goal.invariant-loop-done
 invariant-loop-done g l = record {
   within : l.done ≤ length l.values;
   empty : l.page.items ≡ [];
-  sent : Puts (g.W.Sink.put l.fn.sink) (g.W.Sink.put l.sink) (first_rows (slab_row l.slab l.first (map g.T.Cell.text l.values)) l.done);
+  sent : Puts (g.W.Sink.put l.fn.sink) (g.W.Sink.put l.sink) (first_rows (slab_row l.slab l.first (map (g.T.Cell.text l.style) l.values)) l.done);
   count : g.W.Sink.failures l.sink ≡ g.W.Sink.failures l.fn.sink;
 }
 

@@ -23,7 +23,7 @@ pub returns-in_err-send_names-clause-sent : goal.returns-in_err-send_names-claus
 returns-in_err-send_names-clause-sent g c = λ told.
     let schema = schema_of c.args.file.now in
     let x = get_or schema.vars c.args.var no_var in
-    let rows = rows_text (g.S.Store.bytes (store_of c.args.file.now)) (record_size_of_file (placed_of c.args.file.now)) (var_at (vars_of (placed_of c.args.file.now)) c.args.var) (indices_of c.args.slab.now) in
+    let rows = rows_text c.args.style (g.S.Store.bytes (store_of c.args.file.now)) (record_size_of_file (placed_of c.args.file.now)) (var_at (vars_of (placed_of c.args.file.now)) c.args.var) (indices_of c.args.slab.now) in
     let names = names_in_schema c.as_slice.result.now c.var_of.result.now c.schema-schema.result.now schema c.args.var c.as_slice.ensures c.var_of.ensures c.schema-schema.ensures in
     fails _ _ _ _ c.from_residual.ensures.0 (front_of_more _ _ _ (names_text schema.dims x) rows refl
     (subst (λ (t : List ℕ). PutsFront (g.W.Sink.put c.args.sink.now) (g.W.Sink.put c.send_names.new.sink) t) names c.in_err-send_names.ensures.sent))
@@ -32,7 +32,7 @@ pub returns-clause-sent : goal.returns-clause-sent
 returns-clause-sent g c = λ told.
     let schema = schema_of c.args.file.now in
     let x = get_or schema.vars c.args.var no_var in
-    let rows = rows_text (g.S.Store.bytes (store_of c.args.file.now)) (record_size_of_file (placed_of c.args.file.now)) (var_at (vars_of (placed_of c.args.file.now)) c.args.var) (indices_of c.args.slab.now) in
+    let rows = rows_text c.args.style (g.S.Store.bytes (store_of c.args.file.now)) (record_size_of_file (placed_of c.args.file.now)) (var_at (vars_of (placed_of c.args.file.now)) c.args.var) (indices_of c.args.slab.now) in
     let names = names_in_schema c.as_slice.result.now c.var_of.result.now c.schema-schema.result.now schema c.args.var c.as_slice.ensures c.var_of.ensures c.schema-schema.ensures in
     sends_behind _ _ _ (names_text schema.dims x) rows _
     (subst (λ (t : List ℕ). Puts (g.W.Sink.put c.args.sink.now) (g.W.Sink.put c.send_names.new.sink) t) names c.in_ok-send_names.ensures.sent)

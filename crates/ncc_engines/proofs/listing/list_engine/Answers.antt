@@ -4,11 +4,11 @@ use Rattle.ncc_engines.proofs.listing.list_engine.Goals as goal
 pub returns-in-Ok-clause-lists : goal.returns-in-Ok-clause-lists
 returns-in-Ok-clause-lists g c =
     let laws : Laws = record { apart = c.header_or_stop.ensures.apart; one_header = c.header_or_stop.ensures.one_header; one_stop = c.header_or_stop.ensures.one_stop } in
-    sent_list laws (g.R.Source.left c.args.source.now) c.args.limit (g.W.Sink.put c.args.sink.now) (g.W.Sink.put c.send_header.new.sink) c.in-Ok.header c.send_header.result c.answered.result
+    sent_list laws c.args.style (g.R.Source.left c.args.source.now) c.args.limit (g.W.Sink.put c.args.sink.now) (g.W.Sink.put c.send_header.new.sink) c.in-Ok.header c.send_header.result c.answered.result
     c.in-Ok.ensures.answers c.send_header.ensures.sent c.answered.ensures
 
 pub returns-in-Err-Fault-clause-lists : goal.returns-in-Err-Fault-clause-lists
 returns-in-Err-Fault-clause-lists g c =
     let laws : Laws = record { apart = c.header_or_stop.ensures.apart; one_header = c.header_or_stop.ensures.one_header; one_stop = c.header_or_stop.ensures.one_stop } in
-    sent_fault laws (g.R.Source.left c.args.source.now) c.args.limit (g.W.Sink.put c.args.sink.now) (g.W.Sink.put c.send_fault.new.sink) c.in-Err-Fault.fault c.in-Err-Fault.field-0 c.send_fault.result c.answered-in-Err-Fault.result
+    sent_fault laws c.args.style (g.R.Source.left c.args.source.now) c.args.limit (g.W.Sink.put c.args.sink.now) (g.W.Sink.put c.send_fault.new.sink) c.in-Err-Fault.fault c.in-Err-Fault.field-0 c.send_fault.result c.answered-in-Err-Fault.result
     c.in-Err-Fault.field-0-is c.in-Err-Fault.ensures.answers c.send_fault.ensures.sent c.answered-in-Err-Fault.ensures

@@ -10,18 +10,18 @@ returns-in_err-send_dims-clause-sent g c =
     let s = c.args.schema.now in
     let a = head_lines s in
     let b = dim_lines 0 c.as_slice.result.now in
-    let e = attr_lines None s.gatts in
-    let parts : schema_lines s ≡ a ++ (b ++ e) = ap (λ (z : List Dim). a ++ (dim_lines 0 z ++ attr_lines None s.gatts)) (sym c.as_slice.ensures) in
+    let e = attr_lines c.args.style None s.gatts in
+    let parts : schema_lines c.args.style s ≡ a ++ (b ++ e) = ap (λ (z : List Dim). a ++ (dim_lines 0 z ++ attr_lines c.args.style None s.gatts)) (sym c.as_slice.ensures) in
     let first = added (g.W.Sink.put c.args.sink.now) c.args.page.now.items c.push_head.new.out.items a c.in_ok-push_head.ensures in
-    fails _ _ _ _ _ c.from_residual-in_err-send_dims.ensures.0 (second_fails (g.W.Sink.put c.args.sink.now) _ _ c.args.page.now.items c.push_head.new.out.items (schema_lines s) a b e parts first c.in_err-send_dims.ensures.sent)
+    fails _ _ _ _ _ c.from_residual-in_err-send_dims.ensures.0 (second_fails (g.W.Sink.put c.args.sink.now) _ _ c.args.page.now.items c.push_head.new.out.items (schema_lines c.args.style s) a b e parts first c.in_err-send_dims.ensures.sent)
 
 pub returns-clause-sent : goal.returns-clause-sent
 returns-clause-sent g c =
     let s = c.args.schema.now in
     let a = head_lines s in
     let b = dim_lines 0 c.as_slice.result.now in
-    let e = attr_lines None c.as_slice-2.result.now in
-    let parts : schema_lines s ≡ a ++ (b ++ e) = ap (λ (z : List Dim). a ++ (dim_lines 0 z ++ attr_lines None s.gatts)) (sym c.as_slice.ensures)
-    ∙ ap (λ (z : List Attr). a ++ (b ++ attr_lines None z)) (sym c.as_slice-2.ensures) in
+    let e = attr_lines c.args.style None c.as_slice-2.result.now in
+    let parts : schema_lines c.args.style s ≡ a ++ (b ++ e) = ap (λ (z : List Dim). a ++ (dim_lines 0 z ++ attr_lines c.args.style None s.gatts)) (sym c.as_slice.ensures)
+    ∙ ap (λ (z : List Attr). a ++ (b ++ attr_lines c.args.style None z)) (sym c.as_slice-2.ensures) in
     let first = added (g.W.Sink.put c.args.sink.now) c.args.page.now.items c.push_head.new.out.items a c.in_ok-push_head.ensures in
-    third_sends (g.W.Sink.put c.args.sink.now) _ _ _ c.args.page.now.items c.push_head.new.out.items c.send_dims.new.page.items _ (schema_lines s) a b e _ parts first c.in_ok-send_dims.ensures.sent c.send_attrs.ensures.sent
+    third_sends (g.W.Sink.put c.args.sink.now) _ _ _ c.args.page.now.items c.push_head.new.out.items c.send_dims.new.page.items _ (schema_lines c.args.style s) a b e _ parts first c.in_ok-send_dims.ensures.sent c.send_attrs.ensures.sent

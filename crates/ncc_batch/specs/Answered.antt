@@ -1,0 +1,72 @@
+-- What several files come to, one after the other.
+use Rattle.std.specs.Prelude.{◌≡◌, ◌⊎◌, ℕ, ◌+◌, ◌≤◌, List, [], ◌∷◌, ◌++◌, Option, Some, None, Result, Ok, Err}
+use Rattle.ncc_values.specs.Failures.{last_count}
+use Rattle.ncc_schema.specs.Device.{Puts}
+use Rattle.ncc_schema.specs.declared.failed.Failed.{Failed}
+use Rattle.ncc_engines.specs.Answers.{Texts}
+use Rattle.ncc_engines.specs.Checking.{IsCheckText}
+use Rattle.ncc_engines.specs.Listing.{IsListText}
+use Rattle.ncc_engines.specs.declared.answer.Answer.{Answer}
+use Rattle.ncc_engines.specs.declared.answer.Answer.TheVariants.{Passed, Refused, Device, Memory}
+use Rattle.ncc_batch.specs.Shown.{shown, worst, devices}
+use Rattle.ncc_batch.specs.declared.form.Form.{Form}
+use Rattle.ncc_batch.specs.declared.work.Work.{Work}
+use Rattle.ncc_batch.specs.declared.work.Work.TheVariants.{Check, List as Listing}
+
+-- ---- one file
+
+-- which answers and texts are right of these bytes
+abbrev pub TextsOf : Work → (bytes : List ℕ) → Texts
+TextsOf (Check limit strict) bytes = IsCheckText bytes limit strict
+TextsOf (Listing limit style) bytes = IsListText bytes limit style
+
+-- an answer and its text; of a store that failed, or without memory, it is empty
+abbrev pub IsTextIn : Work → (bytes : List ℕ) → Answer → (text : List ℕ) → Type 0
+IsTextIn work b Passed text = TextsOf work b Passed text
+IsTextIn work b Refused text = TextsOf work b Refused text
+IsTextIn work b Device text = text ≡ []
+IsTextIn work b Memory text = text ≡ []
+
+-- the same by the bytes of a file, where it can be opened
+abbrev pub IsTextAt : Work → (bytes : Option (List ℕ)) → Answer → (text : List ℕ) → Type 0
+IsTextAt work (Some b) a text = IsTextIn work b a text
+IsTextAt work None Passed text = ⊥
+IsTextAt work None Refused text = ⊥
+IsTextAt work None Device text = text ≡ []
+IsTextAt work None Memory text = text ≡ []
+
+-- and what is shown of it
+abbrev pub IsAnswered : Work → Form → (path : List ℕ) → (bytes : Option (List ℕ)) → Answer → (out : List ℕ) → Type 0
+IsAnswered work form path bytes a out = (text : List ℕ) × IsTextAt work bytes a text × (out ≡ shown form path a text)
+
+-- it went out, and this is the answer; or the output failed after a front of it
+abbrev pub SendsOne : Work → Form → (path : List ℕ) → (bytes : Option (List ℕ)) → (before after : Option (List ℕ))
+    → Result Answer Failed → Type 0
+SendsOne work form path bytes before after (Ok a) =
+    (out : List ℕ) × IsAnswered work form path bytes a out × Puts before after out
+SendsOne work form path bytes before after (Err e) = (a : Answer) × (out : List ℕ) × (rest : List ℕ)
+    × IsAnswered work form path bytes a (out ++ rest) × Puts before after out
+
+-- ---- all files
+
+-- an answer for each path, in order, and all that is shown
+abbrev pub AreAnswered : (file : List ℕ → Option (List ℕ)) → Work → Form → (paths : List (List ℕ)) → (answers : List Answer)
+    → (out : List ℕ) → Type 0
+AreAnswered file work form [] [] out = out ≡ []
+AreAnswered file work form [] (a ∷ answers) out = ⊥
+AreAnswered file work form (p ∷ paths) [] out = ⊥
+AreAnswered file work form (p ∷ paths) (a ∷ answers) out = (one : List ℕ) × (rest : List ℕ) × (out ≡ one ++ rest)
+    × IsAnswered work form p (file p) a one × AreAnswered file work form paths answers rest
+
+-- each answer that a device failed goes with a failure that was counted, or the count stands at its end
+abbrev pub AreCounted : (answers : List Answer) → (old new : ℕ) → Type 0
+AreCounted answers old new = (old + devices answers ≤ new) ⊎ (new ≡ last_count)
+
+-- all of it went out, and the answer is the worst; or the output failed after a front of it
+abbrev pub IsBatch : (file : List ℕ → Option (List ℕ)) → Work → Form → (paths : List (List ℕ)) → (old new : ℕ)
+    → (before after : Option (List ℕ)) → Result Answer Failed → Type 0
+IsBatch file work form paths old new before after (Ok answer) = (answers : List Answer) × (out : List ℕ)
+    × AreAnswered file work form paths answers out × (answer ≡ worst answers)
+    × AreCounted answers old new × Puts before after out
+IsBatch file work form paths old new before after (Err e) = (answers : List Answer) × (out : List ℕ) × (rest : List ℕ)
+    × AreAnswered file work form paths answers (out ++ rest) × Puts before after out

@@ -1,0 +1,61 @@
+//! Files one after the other.
+
+ghost use Rattle.std.specs.Prelude.{◌≡◌, ◌≤◌, IsTrue, IfOk};
+ghost use Rattle.ncc_values.specs.Failures.{Rose, Counts};
+ghost use Rattle.ncc_engines.specs.declared.answer.Answer.{Answer as GivenAnswer};
+ghost use Rattle.ncc_batch.specs.Answered.{IsBatch, SendsOne};
+
+use crate::form::Form;
+use crate::sending::send_shown;
+use crate::shelf::Shelf;
+use crate::status::worse;
+use crate::texts::text_at;
+use crate::work::Work;
+use ncc_engines::Answer;
+use ncc_header::{Failed, Sink};
+use ncc_values::Seq;
+use std::alloc::Global;
+
+/// Shows what is asked of the file of a path. Its text is in memory before any of it is sent.
+fn answer_one<F: Shelf, W: Sink>(
+    alloc: Global,
+    shelf: &mut F,
+    path: &[u8],
+    work: Work,
+    form: Form,
+    sink: &mut W,
+) -> Result<Answer, Failed>
+    ensures sends { IsTrue F.tells
+        → SendsOne work form path.now (F.file shelf.old path.now) (W.put sink.old) (W.put sink.new) result }
+    ensures file { F.file shelf.new ≡ F.file shelf.old }
+    ensures device { IfOk result (λ a. a ≡ Answer.Device → Rose (F.failures shelf.old) (F.failures shelf.new)) }
+    ensures grows { F.failures shelf.old ≤ F.failures shelf.new }
+    ensures count { Counts (W.failures sink.old) (W.failures sink.new) result }
+{
+    let (answer, text) = text_at(alloc, shelf, path, work);
+    shelf.tell(path, answer);
+    send_shown(form, path, answer, &text, sink)?;
+    Ok(answer)
+}
+
+/// Shows what is asked of the files of all these paths, in order, and gives the worst answer. A file that can't be
+/// opened or fails, or for which there is no memory, stops none of the others; an output that fails does.
+pub fn answer_all<F: Shelf, W: Sink>(
+    alloc: Global,
+    shelf: &mut F,
+    paths: &[Seq<u8>],
+    work: Work,
+    form: Form,
+    sink: &mut W,
+) -> Result<Answer, Failed>
+    ensures batch { IsTrue F.tells → IsBatch (F.file shelf.old) work form paths.now
+        (F.failures shelf.old) (F.failures shelf.new) (W.put sink.old) (W.put sink.new) result }
+    ensures count { Counts (W.failures sink.old) (W.failures sink.new) result }
+{
+    let mut answer = Answer::Passed;
+    for path in paths {
+        let next = answer_one(alloc, shelf, path.as_slice(), work, form, sink)?;
+        answer = worse(answer, next);
+    }
+    Ok(answer)
+}

@@ -1,0 +1,18 @@
+//! Several files in one call.
+#![tactic(auto)]
+
+mod batch;
+mod form;
+mod names;
+mod sending;
+mod shelf;
+mod status;
+mod texts;
+mod work;
+
+pub use batch::answer_all;
+pub use form::Form;
+pub use names::{FileNames, names_in};
+pub use shelf::Shelf;
+pub use status::status;
+pub use work::Work;

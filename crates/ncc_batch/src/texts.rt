@@ -1,0 +1,73 @@
+//! The answer of a file, and its text in memory.
+
+ghost use Rattle.std.specs.Prelude.{◌≡◌, ◌≤◌, ◌×◌, ℕ, List, IsTrue};
+ghost use Rattle.ncc_values.specs.Failures.{Rose};
+ghost use Rattle.ncc_schema.specs.Device.{Puts};
+ghost use Rattle.ncc_engines.specs.Answers.{Writes};
+ghost use Rattle.ncc_batch.specs.Answered.{TextsOf, IsTextIn, IsTextAt};
+
+use crate::shelf::Shelf;
+use crate::work::Work;
+use ncc_engines::{Answer, check_engine, list_store_engine};
+use ncc_header::{Sink, WriteSink};
+use ncc_store::Store;
+use std::alloc::Global;
+
+/// Writes the text of what is asked of a store's file.
+fn write_text<S: Store, W: Sink>(
+    alloc: Global,
+    store: &mut S,
+    work: Work,
+    sink: &mut W,
+) -> Answer
+    ensures told { IsTrue S.tells_bytes → (out : List ℕ) × Puts (W.put sink.old) (W.put sink.new) out
+        × Writes (TextsOf work (S.bytes store.old)) result out }
+    ensures quiet { (result ≡ Answer.Device → ⊥)
+        → (S.failures store.new ≡ S.failures store.old) × (W.failures sink.new ≡ W.failures sink.old) }
+    ensures device { result ≡ Answer.Device
+        → Rose (S.failures store.old) (S.failures store.new) ⊎ Rose (W.failures sink.old) (W.failures sink.new) }
+{
+    match work {
+        Work::Check { limit, strict } => check_engine(alloc, store, limit, strict, sink),
+        Work::List { limit, style } => list_store_engine(alloc, store, limit, style, sink),
+    }
+}
+
+/// What is asked of a store's file, and its text, which is empty where the store failed or there was no memory.
+fn text_in<S: Store>(alloc: Global, store: &mut S, work: Work) -> (Answer, Vec<u8>)
+    ensures told { IsTrue S.tells_bytes → IsTextIn work (S.bytes store.old) result.0 result.1.items }
+    ensures device { result.0 ≡ Answer.Device → Rose (S.failures store.old) (S.failures store.new) }
+    ensures quiet { (result.0 ≡ Answer.Device → ⊥) → (result.0 ≡ Answer.Memory → ⊥)
+        → S.failures store.new ≡ S.failures store.old }
+{
+    let mut sink = WriteSink::new(Vec::new(alloc));
+    let answer = write_text(alloc, store, work, &mut sink);
+    if sink.failures() > 0 || answer == Answer::Memory {
+        return (Answer::Memory, Vec::new(alloc));
+    }
+    if answer == Answer::Device {
+        return (Answer::Device, Vec::new(alloc));
+    }
+    (answer, sink.into_inner())
+}
+
+/// What is asked of the file of a path, and its text, which is empty where the file failed or there was no memory.
+pub(crate) fn text_at<F: Shelf>(
+    alloc: Global,
+    shelf: &mut F,
+    path: &[u8],
+    work: Work,
+) -> (Answer, Vec<u8>)
+    ensures told { IsTrue F.tells → IsTextAt work (F.file shelf.old path.now) result.0 result.1.items }
+    ensures file { F.file shelf.new ≡ F.file shelf.old }
+    ensures device { result.0 ≡ Answer.Device → Rose (F.failures shelf.old) (F.failures shelf.new) }
+    ensures grows { F.failures shelf.old ≤ F.failures shelf.new }
+{
+    let Some(opened) = shelf.open(path) else {
+        return (Answer::Device, Vec::new(alloc));
+    };
+    let mut file = opened;
+    let (answer, text) = text_in(alloc, &mut file, work);
+    shelf.close(file, answer == Answer::Device);
+    (answer, text)
+}

@@ -1,0 +1,65 @@
+//! Why a file can't be opened, read or written, in words.
+
+use std::io::{ErrorKind, Write};
+
+/// Why the system refused something.
+#[derive(Clone, Copy, Debug, PartialEq, Eq)]
+pub enum Reason {
+    Missing,
+    Folder,
+    Special,
+    Denied,
+    Exists,
+    Full,
+    ReadOnly,
+    /// Nobody reads the output any more.
+    Closed,
+    Other,
+}
+
+/// What failed, and why.
+#[derive(Clone, Copy)]
+pub struct Trouble<'a> {
+    pub name: &'a [u8],
+    pub reason: Reason,
+}
+
+/// The reason of an error of the system.
+pub fn reason_of(kind: ErrorKind) -> Reason {
+    match kind {
+        ErrorKind::NotFound => Reason::Missing,
+        ErrorKind::NotADirectory => Reason::Missing,
+        ErrorKind::IsADirectory => Reason::Folder,
+        ErrorKind::PermissionDenied => Reason::Denied,
+        ErrorKind::AlreadyExists => Reason::Exists,
+        ErrorKind::StorageFull => Reason::Full,
+        ErrorKind::QuotaExceeded => Reason::Full,
+        ErrorKind::ReadOnlyFilesystem => Reason::ReadOnly,
+        ErrorKind::BrokenPipe => Reason::Closed,
+        _ => Reason::Other,
+    }
+}
+
+/// A reason in words.
+fn words(reason: Reason) -> &'static str {
+    match reason {
+        Reason::Missing => "no such file",
+        Reason::Folder => "is a folder",
+        Reason::Special => "is a pipe or device, not a file",
+        Reason::Denied => "permission denied",
+        Reason::Exists => "exists already",
+        Reason::Full => "no space left",
+        Reason::ReadOnly => "read-only file system",
+        Reason::Closed => "nobody reads it",
+        Reason::Other => "can't be read or written",
+    }
+}
+
+/// Says on `err` why something failed, as far as that can be written.
+pub fn tell_trouble<E: Write>(trouble: Trouble<'_>, err: &mut E) {
+    let _ = err.write_all(b"ncc: ");
+    let _ = err.write_all(trouble.name);
+    let _ = err.write_all(b": ");
+    let _ = err.write_all(words(trouble.reason).as_bytes());
+    let _ = err.write_all(b"\n");
+}

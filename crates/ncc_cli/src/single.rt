@@ -1,0 +1,140 @@
+//! The commands over one file of the system.
+
+use crate::finishing::{Ended, flushed};
+use crate::limited::{extended, listed, selected};
+use crate::paths::{open_file, open_store};
+use crate::reasons::{Reason, Trouble};
+use ncc_csv::Pick;
+use ncc_engines::{Answer, check_engine};
+use ncc_header::{ReadSource, WriteSink};
+use ncc_lines::{FloatStyle, Progress};
+use std::alloc::Global;
+use std::fs::File;
+use std::io::{BufReader, BufWriter, Read, Write};
+use std::rt::{Clock, Files};
+
+/// A file that can't be opened.
+fn unopened(name: &[u8], reason: Reason) -> Ended<'_> {
+    Ended {
+        answer: Answer::Device,
+        trouble: Some(Trouble { name, reason }),
+    }
+}
+
+/// An answer of a file that was open.
+fn ended(name: &[u8], answer: Answer) -> Ended<'_> {
+    let reason = Reason::Other;
+    Ended {
+        answer,
+        trouble: Some(Trouble { name, reason }),
+    }
+}
+
+/// Lists the header at the front of a reader.
+fn list_reader<I: Read, O: Write>(
+    alloc: Global,
+    input: I,
+    style: FloatStyle,
+    out: &mut O,
+) -> Answer {
+    let Ok(reader) = BufReader::new(alloc, input) else {
+        return Answer::Memory;
+    };
+    let Ok(writer) = BufWriter::new(alloc, out) else {
+        return Answer::Memory;
+    };
+    let mut source = ReadSource::new(reader);
+    let mut sink = WriteSink::new(writer);
+    let answer = listed(alloc, &mut source, style, &mut sink);
+    let mut writer = sink.into_inner();
+    flushed(&mut writer, answer)
+}
+
+/// Lists the header of a file, or of standard input.
+pub fn list<'a, R: Files<File = File> + AllocGlobal, I: Read, O: Write>(
+    rt: &R,
+    name: &'a [u8],
+    style: FloatStyle,
+    input: &mut I,
+    out: &mut O,
+) -> Ended<'a> {
+    if name == b"-".as_slice() {
+        return ended(name, list_reader(rt.alloc(), input, style, out));
+    }
+    match open_file(rt, name) {
+        Ok(file) => ended(name, list_reader(rt.alloc(), file, style, out)),
+        Err(reason) => unopened(name, reason),
+    }
+}
+
+/// Checks a file.
+pub fn check<'a, R: Files<File = File> + AllocGlobal, O: Write>(
+    rt: &R,
+    name: &'a [u8],
+    limit: u64,
+    strict: bool,
+    out: &mut O,
+) -> Ended<'a> {
+    let mut store = match open_store(rt, name, false) {
+        Ok(store) => store,
+        Err(reason) => return unopened(name, reason),
+    };
+    let Ok(writer) = BufWriter::new(rt.alloc(), out) else {
+        return ended(name, Answer::Memory);
+    };
+    let mut sink = WriteSink::new(writer);
+    let answer = check_engine(rt.alloc(), &mut store, limit, strict, &mut sink);
+    let mut writer = sink.into_inner();
+    ended(name, flushed(&mut writer, answer))
+}
+
+/// Prints what is picked of a variable of a file.
+pub fn select<'a, R: Files<File = File> + AllocGlobal, O: Write, P: Progress>(
+    rt: &R,
+    name: &'a [u8],
+    variable: &[u8],
+    pick: Pick,
+    style: FloatStyle,
+    out: &mut O,
+    progress: &mut P,
+) -> Ended<'a> {
+    let store = match open_store(rt, name, false) {
+        Ok(store) => store,
+        Err(reason) => return unopened(name, reason),
+    };
+    let Ok(writer) = BufWriter::new(rt.alloc(), out) else {
+        return ended(name, Answer::Memory);
+    };
+    let mut sink = WriteSink::new(writer);
+    let (_, answer) = selected(
+        rt.alloc(),
+        store,
+        variable,
+        pick,
+        style,
+        &mut sink,
+        progress,
+    );
+    let mut writer = sink.into_inner();
+    ended(name, flushed(&mut writer, answer))
+}
+
+/// Adds records of fill values to a file.
+pub fn extend<'a, R: Files<File = File> + AllocGlobal, O: Write>(
+    rt: &R,
+    name: &'a [u8],
+    more: u64,
+    out: &mut O,
+) -> Ended<'a> {
+    let store = match open_store(rt, name, more > 0) {
+        Ok(store) => store,
+        Err(reason) => return unopened(name, reason),
+    };
+    let Ok(writer) = BufWriter::new(rt.alloc(), out) else {
+        return ended(name, Answer::Memory);
+    };
+    let mut sink = WriteSink::new(writer);
+    let (_, answer) = extended(rt.alloc(), store, more, &mut sink);
+    let mut writer = sink.into_inner();
+    ended(name, flushed(&mut writer, answer))
+}
