@@ -1,5 +1,5 @@
 -- What is shown of a file, where several are asked for in one call.
-use Rattle.std.specs.Prelude.{ℕ, suc, zero, Bool, true, false, ◌==◌, List, [], ◌∷◌, ◌++◌, if◌then◌else◌, codes, decimal, nat_le}
+use Rattle.std.specs.Prelude.{ℕ, suc, zero, Bool, true, false, ◌==◌, List, [], ◌∷◌, ◌++◌, if◌then◌else◌, codes, nat_le}
 use Rattle.ncc_engines.specs.declared.answer.Answer.{Answer}
 use Rattle.ncc_engines.specs.declared.answer.Answer.TheVariants.{Passed, Refused, Device, Memory}
 use Rattle.ncc_batch.specs.declared.form.Form.{Form}
@@ -14,13 +14,24 @@ status_of Refused = 1
 status_of Device = 3
 status_of Memory = 3
 
+-- its digit
+abbrev pub status_text : Answer → List ℕ
+status_text Passed = codes "0"
+status_text Refused = codes "1"
+status_text Device = codes "3"
+status_text Memory = codes "3"
+
 -- the first of two answers, unless the other has a greater status
 abbrev pub worse : Answer → Answer → Answer
 worse a b = if nat_le (status_of b) (status_of a) then a else b
 
+abbrev pub worst_from : Answer → List Answer → Answer
+worst_from a [] = a
+worst_from a (b ∷ answers) = worst_from (worse a b) answers
+
+-- the first of those with the greatest status
 abbrev pub worst : List Answer → Answer
-worst [] = Passed
-worst (a ∷ answers) = worse a (worst answers)
+worst answers = worst_from Passed answers
 
 -- how many answers are that a device failed
 abbrev pub devices : List Answer → ℕ
@@ -60,7 +71,7 @@ words_of Memory text = codes "error memory"
 
 -- the status, the words and the path, with tabs between them
 abbrev pub brief_line : Answer → (text path : List ℕ) → List ℕ
-brief_line a text path = (decimal (status_of a) ++ (codes "\t" ++ words_of a text)) ++ (codes "\t" ++ (path ++ codes "\n"))
+brief_line a text path = (status_text a ++ (codes "\t" ++ words_of a text)) ++ (codes "\t" ++ (path ++ codes "\n"))
 
 -- the lines of a text, each with the path before it; or one line in brief
 abbrev pub shown : Form → (path : List ℕ) → Answer → (text : List ℕ) → List ℕ

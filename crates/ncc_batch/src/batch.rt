@@ -8,7 +8,7 @@ ghost use Rattle.ncc_batch.specs.Answered.{IsBatch, SendsOne};
 use crate::form::Form;
 use crate::sending::send_shown;
 use crate::shelf::Shelf;
-use crate::status::worse;
+use crate::statuses::worse;
 use crate::texts::text_at;
 use crate::work::Work;
 use ncc_engines::Answer;

@@ -6,7 +6,7 @@ mod form;
 mod names;
 mod sending;
 mod shelf;
-mod status;
+mod statuses;
 mod texts;
 mod work;
 
@@ -14,5 +14,5 @@ pub use batch::answer_all;
 pub use form::Form;
 pub use names::{FileNames, names_in};
 pub use shelf::Shelf;
-pub use status::status;
+pub use statuses::status;
 pub use work::Work;

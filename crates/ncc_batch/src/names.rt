@@ -1,6 +1,6 @@
 //! Lists of the names of files.
 
-ghost use Rattle.std.specs.Prelude.{◌≡◌, ◌<◌, ◌≤◌, ◌++◌, length, take, drop, IfOk};
+ghost use Rattle.std.specs.Prelude.{◌≡◌, ◌<◌, ◌≤◌, ◌+◌, ◌∷◌, length, take, drop, IfOk};
 ghost use Rattle.ncc_batch.specs.Names.{AreNames, IsName};
 
 use ncc_values::Seq;
@@ -20,7 +20,10 @@ fn name_length(list: &[u8]) -> usize
     ensures ends { result < length list.now → drop result list.now ≡ 0 ∷ drop (result + 1) list.now }
 {
     let mut i = 0;
-    while i < list.len() && list[i] != 0 {
+    while i < list.len() {
+        if list[i] == 0 {
+            return i;
+        }
         i += 1;
     }
     i

@@ -1,9 +1,9 @@
 //! Sending what is shown of a file.
 
-ghost use Rattle.std.specs.Prelude.{◌≡◌, ◌<◌, ◌++◌, ℕ, List, length, codes, decimal, IfOk, IfErr};
+ghost use Rattle.std.specs.Prelude.{◌≡◌, ◌<◌, ◌++◌, ℕ, List, length, codes, IfOk, IfErr};
 ghost use Rattle.ncc_values.specs.Failures.{Counts};
 ghost use Rattle.ncc_schema.specs.Device.{Puts, WritesAll};
-ghost use Rattle.ncc_batch.specs.Shown.{labelled, first_line, line_length as the_length, status_of, words_of, brief_line, shown};
+ghost use Rattle.ncc_batch.specs.Shown.{labelled, first_line, line_length as the_length, status_text, words_of, brief_line, shown};
 
 use crate::form::Form;
 use ncc_engines::Answer;
@@ -15,10 +15,10 @@ fn line_length(text: &[u8]) -> usize
 {
     let mut i = 0;
     while i < text.len() {
-        i += 1;
-        if text[i - 1] == b'\n' {
-            return i;
+        if text[i] == b'\n' {
+            return i + 1;
         }
+        i += 1;
     }
     i
 }
@@ -70,10 +70,13 @@ fn line_of(text: &[u8]) -> &[u8]
     ensures { result.now ≡ first_line text.now }
 {
     let mut i = 0;
-    while i < text.len() && text[i] != b'\n' {
+    while i < text.len() {
+        if text[i] == b'\n' {
+            return text.split_at(i).0;
+        }
         i += 1;
     }
-    text.split_at(i).0
+    text
 }
 
 /// An answer in a few words.
@@ -90,7 +93,7 @@ fn words(answer: Answer, text: &[u8]) -> &[u8]
 
 /// The digit of a status.
 fn digit(answer: Answer) -> &'static [u8]
-    ensures { result.now ≡ decimal (status_of answer) }
+    ensures { result.now ≡ status_text answer }
 {
     match answer {
         Answer::Passed => b"0",
@@ -103,7 +106,7 @@ fn digit(answer: Answer) -> &'static [u8]
 /// Sends what stands before a path in brief.
 fn send_answer<W: Sink>(answer: Answer, text: &[u8], sink: &mut W) -> Result<(), Failed>
     ensures bytes { WritesAll (W.put sink.old) (W.put sink.new) result
-        (decimal (status_of answer) ++ (codes "\t" ++ words_of answer text.now)) }
+        (status_text answer ++ (codes "\t" ++ words_of answer text.now)) }
     ensures count { Counts (W.failures sink.old) (W.failures sink.new) result }
 {
     write_all(sink, digit(answer))?;

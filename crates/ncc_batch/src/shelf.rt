@@ -1,6 +1,6 @@
 //! Where files are opened by their paths.
 
-ghost use Rattle.std.specs.Prelude.{◌≡◌, ◌<◌, ◌≤◌, ℕ, Bool, true, false, List, Option, IsTrue, IfSome, IfNone, option_map};
+ghost use Rattle.std.specs.Prelude.{◌≡◌, ◌<◌, ◌≤◌, ℕ, Bool, true, false, List, Option, Some, IsTrue, IfSome, IfNone};
 ghost use Rattle.ncc_values.specs.Failures.{last_count, Rose};
 
 use ncc_engines::Answer;
@@ -22,7 +22,7 @@ pub trait Shelf {
 
     /// Opens the file of this path, for reading; none where that can't be.
     fn open(&mut self, path: &[u8]) -> Option<Self::File>
-        ensures told { IsTrue tells → option_map Self.File.bytes result ≡ file self.old path.now }
+        ensures told { IsTrue tells → IfSome result (λ f. file self.old path.now ≡ Some (Self.File.bytes f)) }
         ensures tells { IsTrue tells → IsTrue Self.File.tells_bytes }
         ensures file { file self.new ≡ file self.old }
         ensures fresh { IfSome result (λ f. Self.File.failures f ≡ 0) }

@@ -1,6 +1,6 @@
 //! The answer of a file, and its text in memory.
 
-ghost use Rattle.std.specs.Prelude.{◌≡◌, ◌≤◌, ◌×◌, ℕ, List, IsTrue};
+ghost use Rattle.std.specs.Prelude.{◌≡◌, ◌⊎◌, ◌≤◌, ℕ, List, IsTrue};
 ghost use Rattle.ncc_values.specs.Failures.{Rose};
 ghost use Rattle.ncc_schema.specs.Device.{Puts};
 ghost use Rattle.ncc_engines.specs.Answers.{Writes};

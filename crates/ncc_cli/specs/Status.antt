@@ -9,7 +9,7 @@ use Rattle.ncc_engines.specs.declared.answer.Answer.TheVariants.{Passed, Refused
 
 -- the words of a selection aren't taken
 abbrev pub status_of_words : WordFault → ℕ
-status_of_words words.NoList = 2
+status_of_words (words.NoList option) = 2
 status_of_words words.Memory = 3
 
 -- help is no fault, and the command line's faults are 2; either may fail to be written

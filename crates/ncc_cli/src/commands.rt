@@ -128,9 +128,9 @@ fn file_argument<'a>(alloc: Global) -> Arg<'a> {
 fn files_argument<'a>(alloc: Global) -> Result<Arg<'a>, AllocError> {
     Arg::new(alloc, "FILE")
         .help("netCDF classic files")
-        .required_unless_present("files-from0")?
         .num_args(1..)
         .action(ArgAction::Append)
+        .required_unless_present("files-from0")
 }
 
 /// A list of names of files.

@@ -81,7 +81,7 @@ pub fn flushed<W: Write + Drop>(writer: &mut BufWriter<W>, answer: Answer) -> An
 }
 
 /// Writes a text whole.
-fn shown<O: Write>(alloc: Global, text: &str, out: &mut O) -> Answer
+pub fn shown<O: Write>(alloc: Global, text: &str, out: &mut O) -> Answer
     ensures { result ≢ Answer.Refused }
 {
     let Ok(mut writer) = BufWriter::new(alloc, out) else {

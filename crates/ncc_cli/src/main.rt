@@ -4,39 +4,44 @@
 mod commands;
 mod converting;
 mod converting_files;
+mod faults;
 mod finishing;
+mod folder;
 mod limited;
+mod many;
+mod paths;
 mod picking;
 mod progress;
+mod reasons;
 mod run;
+mod single;
 mod target;
+mod watched;
+mod words;
 #[cfg(test)]
 mod tests;
 
 use ncc_engines::Answer;
 use progress::Terminals;
-use std::io::{ErrorKind, IsTerminal};
+use std::io::IsTerminal;
 use std::process::ExitCode;
-use std::{env, io};
-
-/// The command line: the program's name, and then its arguments.
-fn command_line(rt: &HostRuntime) -> io::Result<Vec<String>> {
-    Ok(env::args(rt)?.collect(rt.alloc())?)
-}
+use words::read_words;
 
 fn main(rt: HostRuntime) -> ExitCode {
-    let status = match command_line(&rt) {
-        Ok(line) => {
-            let terminals = Terminals {
-                out: rt.stdout().is_terminal(),
-                err: rt.stderr().is_terminal(),
-            };
-            run::run(&rt, &line, &mut rt.stdout(), &mut rt.stderr(), terminals)
-        }
-        Err(error) if error.kind() == ErrorKind::OutOfMemory => {
-            finishing::finish(Answer::Memory, &mut rt.stderr())
-        }
-        Err(_) => finishing::finish(Answer::Device, &mut rt.stderr()),
+    let Ok(line) = read_words(&rt, rt.alloc()) else {
+        return ExitCode::from(finishing::finish(Answer::Memory, &mut rt.stderr()));
     };
+    let terminals = Terminals {
+        out: rt.stdout().is_terminal(),
+        err: rt.stderr().is_terminal(),
+    };
+    let status = run::run(
+        &rt,
+        &line,
+        &mut rt.stdin(),
+        &mut rt.stdout(),
+        &mut rt.stderr(),
+        terminals,
+    );
     ExitCode::from(status)
 }

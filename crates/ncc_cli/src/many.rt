@@ -1,19 +1,19 @@
 //! One file, or several in one call.
 
-use crate::finishing::{Ended, flushed};
+use crate::finishing::flushed;
 use crate::folder::{Folder, Telling};
-use crate::paths::{open_file, open_store};
-use crate::progress::{ProgressLine, Terminals};
-use crate::reasons::{Reason, Trouble, reason_of};
+use crate::paths::open_file;
+use crate::progress::{ProgressLine, Shown};
+use crate::reasons::{Trouble, reason_of};
 use crate::words::Words;
 use clap::ArgMatches;
 use ncc_batch::{FileNames, Form, Work, answer_all, names_in};
 use ncc_engines::Answer;
 use ncc_header::WriteSink;
 use ncc_values::Seq;
-use std::alloc::{AllocError, Global};
+use std::alloc::{AllocError, AllocFailed, Global};
 use std::fs::File;
-use std::io::{BufWriter, Read, Write};
+use std::io::{BufWriter, ErrorKind, Read, Write};
 use std::rt::{Clock, Files};
 
 /// Why there are no names of files.
@@ -25,6 +25,12 @@ pub enum NoNames<'a> {
 
 impl<'a> From<AllocError> for NoNames<'a> {
     fn from(_e: AllocError) -> NoNames<'a> {
+        NoNames::Memory
+    }
+}
+
+impl<'a, T: Drop> From<AllocFailed<T>> for NoNames<'a> {
+    fn from(_e: AllocFailed<T>) -> NoNames<'a> {
         NoNames::Memory
     }
 }
@@ -79,15 +85,14 @@ pub fn names_given<'a, R: Files<File = File> + AllocGlobal, I: Read>(
 }
 
 /// Shows what is asked of these files, one after the other.
-pub fn answer_many<'a, R: Files<File = File> + Clock + AllocGlobal, O: Write, E: Write>(
+pub fn answer_many<R: Files<File = File> + Clock + AllocGlobal, O: Write, E: Write>(
     rt: &R,
     names: &FileNames,
     work: Work,
     form: Form,
-    reasons: bool,
+    shown: Shown,
     out: &mut O,
     err: &mut E,
-    terminals: Terminals,
 ) -> Answer {
     let Ok(writer) = BufWriter::new(rt.alloc(), out) else {
         return Answer::Memory;
@@ -96,14 +101,14 @@ pub fn answer_many<'a, R: Files<File = File> + Clock + AllocGlobal, O: Write, E:
     let all = names.names.len() as u64;
     let telling = Telling {
         failures: form == Form::Lines,
-        reasons,
+        reasons: shown.reasons,
     };
     let cut = if names.is_cut {
         all.checked_sub(1)
     } else {
         None
     };
-    let line = ProgressLine::new(rt, err, terminals.err && !terminals.out);
+    let line = ProgressLine::new(rt, err, shown.progress);
     let mut folder = Folder::new(rt, line, telling, all, cut);
     let answered = answer_all(rt.alloc(), &mut folder, names.names.as_slice(), work, form, &mut sink);
     folder.end();

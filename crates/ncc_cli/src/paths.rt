@@ -11,6 +11,7 @@ use std::{fs, str};
 const DESCRIPTORS: &[u8] = b"/proc/self/fd/";
 
 /// What the system opens: a name, or that of a descriptor which a name that isn't UTF-8 was opened as.
+#[derive(Clone, Copy)]
 struct Path<'a> {
     text: &'a str,
     descriptor: Option<i32>,

@@ -16,8 +16,25 @@ use std::io::Write;
 #[derive(Clone, Copy, Debug, PartialEq, Eq)]
 pub enum WordFault {
     /// A list isn't digits with single commas between its numbers, or a number is past 2^64 - 1.
-    NoList,
+    NoList(ListOption),
     Memory,
+}
+
+/// An option that takes a list.
+#[derive(Clone, Copy, Debug, PartialEq, Eq)]
+pub enum ListOption {
+    Start,
+    Count,
+    Stride,
+}
+
+/// The name of an option.
+fn option_name(option: ListOption) -> &'static str {
+    match option {
+        ListOption::Start => "start",
+        ListOption::Count => "count",
+        ListOption::Stride => "stride",
+    }
 }
 
 impl From<AllocError> for WordFault {
@@ -32,33 +49,46 @@ impl From<AllocError> for WordFault {
 fn list_given(
     alloc: Global,
     words: &ArgMatches,
-    name: &str,
+    option: ListOption,
 ) -> Result<Option<Seq<u64>>, WordFault> {
-    let Some(text) = words.get_str(name) else {
+    let Some(text) = words.get_str(option_name(option)) else {
         return Ok(None);
     };
     match parse_list(alloc, text)? {
         Some(numbers) => Ok(Some(numbers)),
-        None => Err(WordFault::NoList),
+        None => Err(WordFault::NoList(option)),
     }
 }
 
 /// What the words give of a selection.
 pub fn pick_given(alloc: Global, words: &ArgMatches) -> Result<Pick, WordFault> {
     Ok(Pick {
-        start: list_given(alloc, words, "start")?,
-        count: list_given(alloc, words, "count")?,
-        stride: list_given(alloc, words, "stride")?,
+        start: list_given(alloc, words, ListOption::Start)?,
+        count: list_given(alloc, words, ListOption::Count)?,
+        stride: list_given(alloc, words, ListOption::Stride)?,
     })
 }
 
-/// Says on `err` that the words aren't taken, as far as that can be written, and gives the status.
-pub fn refuse_words<E: Write>(fault: WordFault, err: &mut E) -> u8
+/// Says on `err` which list isn't taken.
+fn tell_list<E: Write>(option: ListOption, words: &ArgMatches, err: &mut E) {
+    let _ = err.write_all(b"ncc: --");
+    let _ = err.write_all(option_name(option).as_bytes());
+    let _ = err.write_all(b": '");
+    let _ = err.write_all(words.get_str(option_name(option)).unwrap_or("").as_bytes());
+    let _ = err.write_all(b"' is no list of numbers\n");
+}
+
+/// Says on `err` that the words aren't taken, and with `told` which, as far as that can be written, and gives the
+/// status.
+pub fn refuse_words<E: Write>(fault: WordFault, words: &ArgMatches, told: bool, err: &mut E) -> u8
     ensures { result ≡ status_of_words fault }
 {
     match fault {
-        WordFault::NoList => {
+        WordFault::NoList(option) => {
             let _ = err.write_all(b"error usage\n");
+            if told {
+                tell_list(option, words, err);
+            }
             USAGE
         }
         WordFault::Memory => finish(Answer::Memory, err),

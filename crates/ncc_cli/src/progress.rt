@@ -20,6 +20,15 @@ pub struct Terminals {
     pub err: bool,
 }
 
+/// What is shown on the error output besides what every run says.
+#[derive(Clone, Copy)]
+pub struct Shown {
+    /// How far long work is.
+    pub progress: bool,
+    /// Why something failed.
+    pub reasons: bool,
+}
+
 /// What is done of what there is in all, on a line of a terminal that is written anew from time to time and goes in
 /// the end. What can't be written or timed is left out.
 #[derive(Drop)]

@@ -8,7 +8,7 @@ use crate::faults::{FAULTS, asks_for_faults};
 use crate::finishing::{Ended, USAGE, end, explain, finish, shown};
 use crate::many::{NoNames, answer_many, names_given};
 use crate::picking::{pick_given, refuse_words};
-use crate::progress::{ProgressLine, Terminals};
+use crate::progress::{ProgressLine, Shown, Terminals};
 use crate::reasons::{Reason, Trouble};
 use crate::single::{check, extend, list, select};
 use crate::watched::Watched;
@@ -65,12 +65,168 @@ fn csv<'a, R: Files<File = File> + Clock + AllocGlobal, O: Write, E: Write>(
     pick: Pick,
     out: &mut O,
     err: &mut E,
-    terminals: Terminals,
+    shown: Shown,
 ) -> Ended<'a> {
     let name = line.bytes_of(words.get_str("FILE").unwrap_or(""));
     let variable = line.bytes_of(words.get_str("VAR").unwrap_or(""));
-    let mut progress = ProgressLine::new(rt, err, terminals.err && !terminals.out);
+    let mut progress = ProgressLine::new(rt, err, shown.progress);
     let ended = select(rt, name, variable, pick, style_given(words), out, &mut progress);
     progress.end();
     ended
+}
+
+/// Checks or lists the files that the words name, or a list.
+fn answer_files<'a, R: Files<File = File> + Clock + AllocGlobal, I: Read, O: Write, E: Write>(
+    rt: &R,
+    names: &'a FileNames,
+    work: Work,
+    form: Form,
+    input: &mut I,
+    out: &mut O,
+    err: &mut E,
+    shown: Shown,
+) -> Ended<'a> {
+    let Some(name) = only_file(names, form) else {
+        let answer = answer_many(rt, names, work, form, shown, out, err);
+        return plain(answer);
+    };
+    if names.is_cut {
+        return cut_off(name);
+    }
+    match work {
+        Work::Check { limit, strict } => check(rt, name, limit, strict, out),
+        Work::List { limit: _, style } => list(rt, name, style, input, out),
+    }
+}
+
+/// What is asked of files by `check` or `list`.
+fn work_given(command: &str, words: &ArgMatches) -> Work {
+    if command == "check" {
+        return Work::Check {
+            limit: words.get_one("max-header").unwrap_or(LIMIT),
+            strict: words.get_flag("strict"),
+        };
+    }
+    Work::List {
+        limit: LIMIT,
+        style: style_given(words),
+    }
+}
+
+/// How files are shown by `check` or `list`.
+fn form_given(command: &str, words: &ArgMatches) -> Form {
+    if command == "check" && words.get_flag("brief") {
+        Form::Brief
+    } else {
+        Form::Lines
+    }
+}
+
+/// Converts the file that the words name.
+fn convert_given<'a, R: Files<File = File> + Clock + AllocGlobal, O: Write, E: Write>(
+    rt: &R,
+    line: &'a Words,
+    words: &'a ArgMatches<'a>,
+    out: &mut O,
+    err: &mut E,
+    shown: Shown,
+) -> Ended<'a> {
+    let version = version_of(words.get_str("to").unwrap_or(""));
+    let from = line.bytes_of(words.get_str("IN").unwrap_or(""));
+    let to = line.bytes_of(words.get_str("OUT").unwrap_or(""));
+    let mut progress = ProgressLine::new(rt, err, shown.progress);
+    convert(rt, from, version, to, out, &mut progress)
+}
+
+/// Runs `check` or `list`, and gives the status.
+fn run_files<R: Files<File = File> + Clock + AllocGlobal, I: Read, O: Write, E: Write>(
+    rt: &R,
+    line: &Words,
+    command: &str,
+    words: &ArgMatches,
+    input: &mut I,
+    out: &mut Watched<O>,
+    err: &mut E,
+    shown: Shown,
+) -> u8
+    ensures { result ≤ 3 }
+{
+    let names = match names_given(rt, line, words, input) {
+        Ok(names) => names,
+        Err(NoNames::Memory) => return finish(Answer::Memory, err),
+        Err(NoNames::Failed(trouble)) => {
+            let ended = Ended {
+                answer: Answer::Device,
+                trouble: Some(trouble),
+            };
+            return end(ended, None, shown.reasons, err);
+        }
+    };
+    let work = work_given(command, words);
+    let form = form_given(command, words);
+    let ended = answer_files(rt, &names, work, form, input, out, err, shown);
+    end(ended, out.reason(), shown.reasons, err)
+}
+
+/// Runs the command of these words, and gives the status.
+fn run_command<R: Files<File = File> + Clock + AllocGlobal, I: Read, O: Write, E: Write>(
+    rt: &R,
+    line: &Words,
+    command: &str,
+    words: &ArgMatches,
+    input: &mut I,
+    out: &mut Watched<O>,
+    err: &mut E,
+    terminals: Terminals,
+) -> u8
+    ensures { result ≤ 3 }
+{
+    let shown = Shown {
+        progress: terminals.err && (!terminals.out || command == "convert"),
+        reasons: terminals.err || words.get_flag("verbose"),
+    };
+    let ended = match command {
+        "convert" => convert_given(rt, line, words, out, err, shown),
+        "csv" => match pick_given(rt.alloc(), words) {
+            Ok(pick) => csv(rt, line, words, pick, out, err, shown),
+            Err(fault) => return refuse_words(fault, words, shown.reasons, err),
+        },
+        "extend" => {
+            let name = line.bytes_of(words.get_str("FILE").unwrap_or(""));
+            extend(rt, name, words.get_one("N").unwrap_or(0), out)
+        }
+        _ => return run_files(rt, line, command, words, input, out, err, shown),
+    };
+    end(ended, out.reason(), shown.reasons, err)
+}
+
+/// Runs the command that the command line names, and gives the program's status. Long work is shown on
+/// `err` where that is a terminal, and why something failed.
+pub fn run<R: Files<File = File> + Clock + AllocGlobal, I: Read, O: Write, E: Write>(
+    rt: &R,
+    line: &Words,
+    input: &mut I,
+    out: &mut O,
+    err: &mut E,
+    terminals: Terminals,
+) -> u8
+    ensures { result ≤ 3 }
+{
+    let mut out = Watched::new(out);
+    if asks_for_faults(line.texts()) {
+        let answer = shown(rt.alloc(), FAULTS, &mut out);
+        return end(plain(answer), out.reason(), terminals.err, err);
+    }
+    let Ok(command) = command(rt.alloc()) else {
+        return finish(Answer::Memory, err);
+    };
+    match command.try_get_matches_from(line.texts()) {
+        Ok(matches) => match matches.subcommand() {
+            Some((name, words)) => {
+                run_command(rt, line, name, words, input, &mut out, err, terminals)
+            }
+            _ => USAGE,
+        },
+        Err(error) => explain(rt.alloc(), &error, &mut out, err),
+    }
 }

@@ -31,7 +31,7 @@ fn ended(name: &[u8], answer: Answer) -> Ended<'_> {
 }
 
 /// Lists the header at the front of a reader.
-fn list_reader<I: Read, O: Write>(
+fn list_reader<I: Read + Drop, O: Write>(
     alloc: Global,
     input: I,
     style: FloatStyle,

@@ -5,6 +5,7 @@ mod making;
 use crate::finishing::finish;
 use crate::progress::Terminals;
 use crate::run::run;
+use crate::words::Words;
 use ncc_engines::Answer;
 use ncc_files::{EMPTY, TITLED, bytes_of, with_byte};
 use std::alloc::{AllocError, Global};
@@ -20,10 +21,10 @@ const NO_TERMINALS: Terminals = Terminals {
     err: false,
 };
 
-fn line_of(alloc: Global, line: &str) -> Result<Vec<String>, AllocError> {
-    let mut words = Vec::new(alloc);
+fn line_of(alloc: Global, line: &str) -> Result<Words, AllocError> {
+    let mut words = Words::new(alloc);
     for word in line.split(' ') {
-        words.push(word.to_string(alloc)?)?;
+        words.push(alloc, word.as_bytes().to_vec(alloc)?)?;
     }
     Ok(words)
 }
@@ -55,7 +56,14 @@ fn expect_stuck<R: Abort + Files<File = File> + Clock + AllocGlobal>(
     for takes in [false, true] {
         let mut err = Vec::new(rt.alloc());
         let words = line_of(rt.alloc(), line)?;
-        let status = run(rt, &words, &mut Stuck { takes }, &mut err, NO_TERMINALS);
+        let status = run(
+            rt,
+            &words,
+            &mut io::empty(),
+            &mut Stuck { takes },
+            &mut err,
+            NO_TERMINALS,
+        );
         assert_eq!(rt; status, 3, "{line}");
         assert!(rt; err.as_slice() == b"error device\n".as_slice(), "{line}");
     }
@@ -106,6 +114,7 @@ fn error_output_that_takes_nothing(rt: HostRuntime) -> Result<(), Fail> {
             run(
                 &rt,
                 &words,
+                &mut io::empty(),
                 &mut out,
                 &mut Stuck { takes: false },
                 NO_TERMINALS

@@ -4,7 +4,7 @@ use ncc_csv::{Pick, parse_list};
 use ncc_engines::{Answer, check_engine, csv_engine, list_engine};
 use ncc_files::LIMIT;
 use ncc_header::{ReadSource, Seq, WriteSink};
-use ncc_lines::Unshown;
+use ncc_lines::{FloatStyle, Unshown};
 use ncc_store::MemStore;
 use std::alloc::{AllocError, Global};
 use std::process::Abort;
@@ -50,7 +50,7 @@ pub fn expect_within<R: Abort + AllocGlobal>(
 ) {
     let mut source = ReadSource::new(input);
     let mut sink = WriteSink::new(Vec::new(rt.alloc()));
-    assert!(rt; list_engine(rt.alloc(), &mut source, limit, &mut sink) == answer);
+    assert!(rt; list_engine(rt.alloc(), &mut source, limit, FloatStyle::Bits, &mut sink) == answer);
     let written = sink.into_inner();
     assert!(rt; written.as_slice() == text.as_bytes());
 }
@@ -118,7 +118,7 @@ pub fn expect_rows<R: Abort + AllocGlobal>(
     let store = MemStore::new(bytes.to_vec(alloc)?);
     let mut sink = WriteSink::new(Vec::new(alloc));
     let name = name.as_bytes();
-    let (_, found) = csv_engine(alloc, store, LIMIT, name, pick, &mut sink, &mut Unshown);
+    let (_, found) = csv_engine(alloc, store, LIMIT, name, pick, FloatStyle::Bits, &mut sink, &mut Unshown);
     assert!(rt; found == answer);
     let written = sink.into_inner();
     assert!(rt; written.as_slice() == text.as_bytes(), "{text}");

@@ -5,7 +5,7 @@ use ncc_check::open;
 use ncc_csv::send_sheet;
 use ncc_files::{LIMIT, bytes_of};
 use ncc_header::{FuseSink, WriteSink};
-use ncc_lines::{Halt, Unshown};
+use ncc_lines::{FloatStyle, Halt, Unshown};
 use ncc_store::{FuseStore, MemStore};
 use std::alloc::{AllocError, Global};
 use std::test::*;
@@ -20,7 +20,7 @@ fn sent_by_sink(alloc: Global, calls: u64) -> Result<Option<Sent>, AllocError> {
         Ok(file) => {
             let mut file = file;
             let mut sink = FuseSink::new(WriteSink::new(Vec::new(alloc)), calls, 5);
-            let answer = send_sheet(alloc, &mut file, 0, &slab, &mut sink, &mut Unshown);
+            let answer = send_sheet(alloc, &mut file, 0, &slab, FloatStyle::Bits, &mut sink, &mut Unshown);
             Ok(Some((answer, sink.into_inner().into_inner())))
         }
         Err(_) => Ok(None),
@@ -49,7 +49,7 @@ fn sent_from_store(alloc: Global, calls: u64) -> Result<Option<Sent>, AllocError
         Ok(file) => {
             let mut file = file;
             let mut sink = WriteSink::new(Vec::new(alloc));
-            let answer = send_sheet(alloc, &mut file, 0, &slab, &mut sink, &mut Unshown);
+            let answer = send_sheet(alloc, &mut file, 0, &slab, FloatStyle::Bits, &mut sink, &mut Unshown);
             Ok(Some((answer, sink.into_inner())))
         }
         Err(_) => Ok(None),

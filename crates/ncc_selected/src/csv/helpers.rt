@@ -4,7 +4,7 @@ use ncc_check::open;
 use ncc_csv::send_sheet;
 use ncc_files::{LIMIT, bytes_of};
 use ncc_header::{Seq, WriteSink};
-use ncc_lines::{Halt, Unshown};
+use ncc_lines::{FloatStyle, Halt, Unshown};
 use ncc_slab::Slab;
 use ncc_store::MemStore;
 use std::alloc::{AllocError, Global};
@@ -41,7 +41,7 @@ fn sheet_of(
         Ok(file) => {
             let mut file = file;
             let mut sink = WriteSink::new(Vec::new(alloc));
-            let answer = send_sheet(alloc, &mut file, var, slab, &mut sink, &mut Unshown);
+            let answer = send_sheet(alloc, &mut file, var, slab, FloatStyle::Bits, &mut sink, &mut Unshown);
             Ok(Some((answer, sink.into_inner())))
         }
         Err(_) => Ok(None),

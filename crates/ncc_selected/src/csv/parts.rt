@@ -5,7 +5,7 @@ use ncc_check::open;
 use ncc_csv::send_sheet;
 use ncc_files::{FIXED_IN_CDF_5, LIMIT, bytes_of};
 use ncc_header::WriteSink;
-use ncc_lines::{Halt, Progress};
+use ncc_lines::{FloatStyle, Halt, Progress};
 use ncc_store::MemStore;
 use std::alloc::{AllocError, Global};
 use std::test::*;
@@ -58,7 +58,7 @@ fn sheet_of_zeros(
         Ok(file) => {
             let mut file = file;
             let mut sink = WriteSink::new(Vec::new(alloc));
-            let answer = send_sheet(alloc, &mut file, 0, &slab, &mut sink, &mut told);
+            let answer = send_sheet(alloc, &mut file, 0, &slab, FloatStyle::Bits, &mut sink, &mut told);
             Ok(Some((answer, told, sink.into_inner())))
         }
         Err(_) => Ok(None),

@@ -1,3 +1,6 @@
+use Rattle.std.proofs.Common.{rules}
+use Rattle.ncc_lines.specs.Sends.{SendsAll}
+use Rattle.ncc_lines.specs.Texts.{fault_line}
 use Rattle.ncc_engines.proofs.SentList.{Laws, sent_list, sent_fault}
 use Rattle.ncc_engines.proofs.listing.list_engine.Goals as goal
 
@@ -10,5 +13,6 @@ returns-in-Ok-clause-lists g c =
 pub returns-in-Err-Fault-clause-lists : goal.returns-in-Err-Fault-clause-lists
 returns-in-Err-Fault-clause-lists g c =
     let laws : Laws = record { apart = c.header_or_stop.ensures.apart; one_header = c.header_or_stop.ensures.one_header; one_stop = c.header_or_stop.ensures.one_stop } in
+    let sent : SendsAll (g.W.Sink.put c.args.sink.now) (g.W.Sink.put c.send_fault.new.sink) (fault_line c.in-Err-Fault.fault) c.send_fault.result = search rules in
     sent_fault laws c.args.style (g.R.Source.left c.args.source.now) c.args.limit (g.W.Sink.put c.args.sink.now) (g.W.Sink.put c.send_fault.new.sink) c.in-Err-Fault.fault c.in-Err-Fault.field-0 c.send_fault.result c.answered-in-Err-Fault.result
-    c.in-Err-Fault.field-0-is c.in-Err-Fault.ensures.answers c.send_fault.ensures.sent c.answered-in-Err-Fault.ensures
+    c.in-Err-Fault.field-0-is c.in-Err-Fault.ensures.answers sent c.answered-in-Err-Fault.ensures

@@ -1,6 +1,8 @@
-use Rattle.std.proofs.Common.{Err, subst}
+use Rattle.std.proofs.Common.{Err, subst, rules}
 use Rattle.ncc_check.specs.declared.fault.Refusal.{Refusal}
 use Rattle.ncc_check.specs.FromStore.{ReadsHeader}
+use Rattle.ncc_lines.specs.Sends.{SendsAll}
+use Rattle.ncc_lines.specs.Verdicts.{file_fault_line}
 use Rattle.ncc_engines.proofs.SentList.{Laws, sent_store, sent_store_fault}
 use Rattle.ncc_engines.proofs.listing.list_store_engine.Goals as goal
 
@@ -15,5 +17,7 @@ returns-in-Err-Fault-clause-lists g c = λ told.
     let laws : Laws = record { apart = c.header_or_stop.ensures.apart; one_header = c.header_or_stop.ensures.one_header; one_stop = c.header_or_stop.ensures.one_stop } in
     let bytes = g.S.Store.bytes c.args.store.now in
     let stops = subst (λ (r : Refusal). ReadsHeader bytes c.args.limit (Err r)) c.in-Err-Fault.field-0-is (c.in-Err-Fault.ensures.reads told) in
-    sent_store_fault laws c.args.style bytes c.args.limit (g.W.Sink.put c.args.sink.now) (g.W.Sink.put c.send_file_fault.new.sink) c.in-Err-Fault.fault c.send_file_fault.result c.answered-in-Err-Fault.result
-    stops c.send_file_fault.ensures.sent c.answered-in-Err-Fault.ensures
+    let fault = c.in-Err-Fault.fault in
+    let sent : SendsAll (g.W.Sink.put c.args.sink.now) (g.W.Sink.put c.send_file_fault.new.sink) (file_fault_line fault) c.send_file_fault.result = search rules in
+    sent_store_fault laws c.args.style bytes c.args.limit (g.W.Sink.put c.args.sink.now) (g.W.Sink.put c.send_file_fault.new.sink) fault c.send_file_fault.result c.answered-in-Err-Fault.result
+    stops sent c.answered-in-Err-Fault.ensures

@@ -1,0 +1,153 @@
+//! What several files in one call print, in lines and in brief.
+
+ghost use Rattle.std.specs.Prelude.{◌≤◌, ◌==◌, true, length, Some, None, if◌then◌else◌};
+ghost use Rattle.ncc_values.specs.Failures.{last_count};
+
+use ncc_batch::{Form, Shelf, Work, answer_all, names_in};
+use ncc_engines::Answer;
+use ncc_files::{EMPTY, LIMIT, bytes_of};
+use ncc_header::{FuseSink, WriteSink};
+use ncc_lines::FloatStyle;
+use ncc_store::MemStore;
+use ncc_values::count_failure;
+use std::alloc::{AllocError, Global};
+use std::test::*;
+
+/// A path of one byte is that of a whole file, one of two bytes of a file that is cut; there is no other.
+struct Two {
+    alloc: Global,
+    whole: Vec<u8>,
+    cut: Vec<u8>,
+    told: u64,
+    failures: u64,
+    ghost counted: { failures ≤ last_count },
+}
+
+impl Two {
+    fn new(alloc: Global) -> Result<Two, AllocError> {
+        let whole = bytes_of(alloc, &EMPTY)?;
+        let cut = whole.split_at(30.min(whole.len())).0.to_vec(alloc)?;
+        Ok(Two {
+            alloc,
+            whole,
+            cut,
+            told: 0,
+            failures: 0,
+        })
+    }
+}
+
+impl Shelf for Two {
+    type File = MemStore;
+
+    ghost tells = { true };
+
+    ghost file = { λ s path. if length path == 1 then Some s.whole.items
+        else (if length path == 2 then Some s.cut.items else None) };
+
+    ghost failures = { λ s. s.failures };
+
+    ghost at_most_last = { λ s. s.counted };
+
+    fn open(&mut self, path: &[u8]) -> Option<MemStore> {
+        let copy = if path.len() == 1 {
+            self.whole.to_vec(self.alloc)
+        } else if path.len() == 2 {
+            self.cut.to_vec(self.alloc)
+        } else {
+            Err(AllocError)
+        };
+        match copy {
+            Ok(bytes) => Some(MemStore::new(bytes)),
+            Err(_) => {
+                count_failure(&mut self.failures);
+                None
+            }
+        }
+    }
+
+    fn close(&mut self, _opened: MemStore, failed: bool) {
+        if failed {
+            count_failure(&mut self.failures);
+        }
+    }
+
+    fn tell(&mut self, _path: &[u8], _answer: Answer) {
+        self.told = self.told.saturating_add(1);
+    }
+}
+
+/// What each of three files is asked, and what is printed of them.
+const ROWS: [(Work, Form, Answer, &str); 4] = [
+    (
+        Work::Check {
+            limit: LIMIT,
+            strict: false,
+        },
+        Form::Lines,
+        Answer::Device,
+        "a: ok CDF-1 records 0 variables 0\nbb: fault EndsEarly at 28\nd: ok CDF-1 records 0 variables 0\n",
+    ),
+    (
+        Work::Check {
+            limit: LIMIT,
+            strict: true,
+        },
+        Form::Brief,
+        Answer::Device,
+        "0\tok CDF-1 records 0 variables 0\ta\n1\tfault EndsEarly at 28\tbb\n3\terror device\tccc\n0\tok CDF-1 records 0 variables 0\td\n",
+    ),
+    (
+        Work::List {
+            limit: LIMIT,
+            style: FloatStyle::Decimal,
+        },
+        Form::Lines,
+        Answer::Device,
+        "a: format CDF-1\na: records 0\nbb: fault EndsEarly at 28\nd: format CDF-1\nd: records 0\n",
+    ),
+    (
+        Work::List {
+            limit: 31,
+            style: FloatStyle::Bits,
+        },
+        Form::Brief,
+        Answer::Device,
+        "1\tfault HeaderTooLong at 28\ta\n1\tfault HeaderTooLong at 28\tbb\n3\terror device\tccc\n1\tfault HeaderTooLong at 28\td\n",
+    ),
+];
+
+#[test]
+fn several_files(rt: HostRuntime) -> Result<(), Fail> {
+    let alloc = rt.alloc();
+    let list = names_in(alloc, b"a\0bb\0ccc\0d")?;
+    assert!(rt; list.is_cut);
+    for (work, form, answer, text) in ROWS {
+        let mut shelf = Two::new(alloc)?;
+        let mut sink = WriteSink::new(Vec::new(alloc));
+        let found = answer_all(alloc, &mut shelf, list.names.as_slice(), work, form, &mut sink);
+        assert!(rt; found == Ok(answer));
+        assert!(rt; sink.into_inner().as_slice() == text.as_bytes(), "{text}");
+        assert_eq!(rt; shelf.told, 4);
+    }
+    Ok(())
+}
+
+/// An output that fails ends the run; what went out is a front of what goes out else.
+#[test]
+fn outputs_of_several_files_that_fail(rt: HostRuntime) -> Result<(), Fail> {
+    let alloc = rt.alloc();
+    let list = names_in(alloc, b"a\0ccc\0d\0")?;
+    assert!(rt; !list.is_cut);
+    for (work, form, answer, text) in ROWS {
+        for calls in 0..8 {
+            let mut shelf = Two::new(alloc)?;
+            let mut sink = FuseSink::new(WriteSink::new(Vec::new(alloc)), calls, 5);
+            let found = answer_all(alloc, &mut shelf, list.names.as_slice(), work, form, &mut sink);
+            assert!(rt; found != Ok(answer));
+            let out = sink.into_inner().into_inner();
+            assert!(rt; out.len() <= text.len());
+        }
+    }
+    Ok(())
+}
