@@ -1,4 +1,4 @@
-use Rattle.std.proofs.Common.{◌≡◌, ℕ, List, ◌++◌, take, drop, sym, ap, ◌∙◌, append_assoc, arith}
+use Rattle.std.proofs.Common.{◌≡◌, ℕ, List, Err, ◌++◌, take, drop, sym, ap, ◌∙◌, append_assoc, arith}
 use Rattle.std.specs.Prelude.{codes}
 use Rattle.ncc_schema.proofs.Writing.{puts_both, writes_both}
 use Rattle.ncc_batch.specs.Shown.{labelled}
@@ -31,7 +31,7 @@ returns-in_err-write_all-clause-front g c =
     ∙ ap (λ (k : ℕ). (label ++ take k text) ++ labelled label (drop k text)) (sym c.line_length.ensures)
     ∙ ap (λ (l : List ℕ). (label ++ l) ++ labelled label (drop n text)) (sym c.split_at.ensures.front) in
     front_of _ _ (labelled label text) (label ++ line) (labelled label (drop n text)) _ c.in_err-write_all.field-0.0 parts
-    (writes_both _ _ _ label line _ c.in_ok-send_label.ensures.bytes c.in_err-write_all.ensures.bytes)
+    (writes_both (g.W.Sink.put c.args.sink.now) (g.W.Sink.put c.send_label.new.sink) (g.W.Sink.put c.write_all.new.sink) label line (Err c.in_err-write_all.field-0.0) c.in_ok-send_label.ensures.bytes c.in_err-write_all.ensures.bytes)
 
 pub returns-clause-shorter : goal.returns-clause-shorter
 returns-clause-shorter g c =

@@ -9,7 +9,7 @@ pub returns-in_err-rest-clause-bytes : goal.returns-in_err-rest-clause-bytes
 returns-in_err-rest-clause-bytes g c =
     let label = c.args.path.now ++ codes ": " in
     let w = c.in_err-rest.ensures.front in
-    fails_so_far _ _ _ (labelled label c.args.text.now) w.1 _ c.from_residual.ensures.0
+    fails_so_far _ _ _ (labelled label c.args.text.now) w.1 _ c.from_residual.ensures.1
     (so_far_more _ _ _ (labelled label c.args.text.now) (labelled label c.loop-rest.rest.now) w.0 w.1 c.loop-rest.invariant.so_far w.2 w.3)
 
 pub loop-rest-preserved : goal.loop-rest-preserved
