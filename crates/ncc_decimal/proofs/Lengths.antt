@@ -29,11 +29,11 @@ no_front_length d f D F =
     rw none (length-decimal-le 1 0 (omega arith) (omega arith) (omega arith))
 
 -- where at most 4 zeros follow the point
-pub front_lengths : (d f n : ℕ) → d < 2 ^ 64 → length (decimal d) ≡ n → f ≤ n + 4 → length (decimal (d / 10 ^ f)) + f ≤ n + 5
-front_lengths d f n D N F =
-    elim (cases_lt f n) [
-      | inl l ↦ omega (arith, front_length d f D (omega arith))
-      | inr l ↦ omega (arith, no_front_length d f D (omega arith))
+pub front_lengths : (d f : ℕ) → d < 2 ^ 64 → f ≤ length (decimal d) + 4 → length (decimal (d / 10 ^ f)) + f ≤ length (decimal d) + 5
+front_lengths d f D F =
+    elim (cases_lt f (length (decimal d))) [
+      | inl l ↦ omega (arith, front_length d f D l)
+      | inr l ↦ omega (arith, no_front_length d f D l)
     ]
 
 pub at_most_17 : (d : ℕ) → d < 10 ^ 17 → length (decimal d) ≤ 17
