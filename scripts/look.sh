@@ -1,6 +1,6 @@
 #!/usr/bin/env bash
 # A first look at `ncc`, in about a minute: builds it without its proofs (`rt try`), and shows what `ncc check` says of
-# the files, or of examples/ocean.nc. It installs nothing and leaves nothing behind; scripts/install.sh proves and installs.
+# the files, or of examples/ocean.nc. It installs nothing and leaves nothing; scripts/install.sh proves and installs.
 set -euo pipefail
 top=$(cd "$(dirname "$0")/.." && pwd)
 [ $# -gt 0 ] || set -- "$top/examples/ocean.nc"
