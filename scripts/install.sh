@@ -82,7 +82,7 @@ start() {
 end() {
   local status=0 seconds=$((SECONDS - started[$1]))
   wait "${pid_of[$1]}" || status=$?
-  { echo "== $1, $seconds s with ${jobs_of[$1]} jobs"; cat "$rooms/$1/log"; } >> "$log"
+  { echo "== $1: $seconds s, --jobs ${jobs_of[$1]}"; cat "$rooms/$1/log"; } >> "$log"
   clear_room "$1"
   unset "pid_of[$1]"
   [ "$status" = 0 ] || fail "$1 failed; what it said stands at the end of $log"
@@ -130,7 +130,8 @@ idle=${RT_JOBS:-$(nproc)}
 room_for=$(awk '/^MemAvailable/ { print int($2 / 4000000) }' /proc/meminfo)
 if [ "$idle" -gt "$room_for" ]; then idle=$room_for; fi
 if [ "$idle" -lt 1 ]; then idle=1; fi
-echo "Proving and building ncc, ${#crates[@]} crates on $idle processors. It takes about 12 minutes on 4, and 35 on 2."
+echo "Proving and building ncc: ${#crates[@]} crates, on $idle processors."
+echo "From nothing that is an hour of processor time, some 20 minutes on 4 processors; again it takes less than a minute."
 echo "The log is $log"
 # No other run of rt works in these folders meanwhile.
 for name in $(printf '%s\n' "${crates[@]}" | sort); do
