@@ -44,7 +44,7 @@ is_among name names = list_any (same name) names
 abbrev pub is_past : Version → ℕ → Bool
 is_past v n = leb (count_limit v) n
 
--- one item more than these, or one of the numbers, can't be told
+-- one more item than these, or one of the numbers, can't be told
 abbrev pub one_past : {A : Type 0} → Version → List A → (numbers : List ℕ) → Bool
 one_past v items numbers = is_past v (length items + 1) || list_any (is_past v) numbers
 
@@ -54,7 +54,7 @@ is_foreign v t = is_none (type_of_code v (code_of t))
 abbrev pub any_missing : List Dim → List ℕ → Bool
 any_missing dims ids = list_any (leb (length dims)) ids
 
--- the record dimension is one of those behind the first
+-- the record dimension is one of those after the first
 abbrev pub any_record_behind : List Dim → List ℕ → Bool
 any_record_behind dims [] = false
 any_record_behind dims (d ∷ ds) = list_any (is_record dims) ds
@@ -87,7 +87,7 @@ refuses_dim fits s name n = first_refusal (
     ∷ (is_second_record s.dims n, TwoRecordDims)
     ∷ (one_past s.version s.dims (n ∷ []), CountForVersion) ∷ [])
 
--- an attribute behind these
+-- an attribute after these
 abbrev pub refuses_attr_of : (fits : Bool) → Version → List Attr → (name : List ℕ) → Values → Option WriteFault
 refuses_attr_of fits v attrs name values = first_refusal (
     (is_bad fits name, BadName)
@@ -119,7 +119,7 @@ BuildFails s records OffsetForVersion =
     (records < count_limit s.version) × PlanFails (with_count s records) records plan.OffsetForVersion
 BuildFails s records _ = ⊥
 
--- ---- the schema with one item more
+-- ---- the schema with one more item
 
 abbrev pub no_schema : Version → Schema
 no_schema v = record { version = v; count = Known 0; dims = []; gatts = []; vars = [] }
@@ -216,7 +216,7 @@ abbrev pub or_else : Option WriteFault → Option WriteFault → Option WriteFau
 or_else None later = later
 or_else (Some f) later = Some f
 
--- the first refusal of these dimensions, behind those of s
+-- the first refusal of these dimensions, after those of s
 abbrev pub refuses_dims : Schema → List Dim → Option WriteFault
 refuses_dims s [] = None
 refuses_dims s (d ∷ dims) =
@@ -287,7 +287,7 @@ with_globals s attrs = record {
   vars = s.vars;
 }
 
--- with these attributes of a variable more
+-- with these further attributes of a variable
 abbrev pub with_attrs : Schema → (var : ℕ) → List Attr → Schema
 with_attrs s n [] = s
 with_attrs s n (a ∷ attrs) = with_attrs (with_attr s n a.name a.values) n attrs

@@ -18,7 +18,7 @@ name_refusals fits names name = (is_bad fits name, BadName) ∷ (is_among name n
 abbrev pub dims_refusals : List Dim → (ids : List ℕ) → List (Bool × WriteFault)
 dims_refusals dims ids = (any_missing dims ids, BadDimId) ∷ (any_record_behind dims ids, RecordDimNotFirst) ∷ []
 
--- one item more than so many, or this number, can't be told
+-- one more item than so many, or this number, can't be told
 abbrev pub is_too_many : Version → (items number : ℕ) → Bool
 is_too_many v items number = is_past v (items + 1) || list_any (is_past v) (number ∷ [])
 
@@ -26,7 +26,7 @@ is_too_many v items number = is_past v (items + 1) || list_any (is_past v) (numb
 abbrev pub kind_refusals : Version → XType → (items number : ℕ) → List (Bool × WriteFault)
 kind_refusals v t items number = (is_foreign v t, TypeForVersion) ∷ (is_too_many v items number, CountForVersion) ∷ []
 
--- of the length of a dimension behind these
+-- of the length of a dimension after these
 abbrev pub dim_refusals : Version → List Dim → (length : ℕ) → List (Bool × WriteFault)
 dim_refusals v dims n = (is_second_record dims n, TwoRecordDims) ∷ (is_too_many v (length dims) n, CountForVersion) ∷ []
 

@@ -22,7 +22,7 @@ pub enum WriteFault {
     /// There is no dimension of this number.
     #[error("BadDimId")]
     BadDimId,
-    /// The record dimension stands behind another.
+    /// The record dimension stands after another.
     #[error("RecordDimNotFirst")]
     RecordDimNotFirst,
     /// The version doesn't have the type.

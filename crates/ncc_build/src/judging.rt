@@ -53,7 +53,7 @@ fn any_record(dims: &[Dim], ids: &[usize]) -> bool
     ids.iter().any(|id| is_record(dims, *id))
 }
 
-/// Is the record dimension one of those behind the first?
+/// Is the record dimension one of those after the first?
 fn any_record_behind(dims: &[Dim], ids: &[usize]) -> bool
     ensures { result ≡ any_record_behind dims.now ids.now }
 {
@@ -76,7 +76,7 @@ pub fn judge_ids(dims: &[Dim], ids: &[usize]) -> Result<(), WriteFault>
     Ok(())
 }
 
-/// Is one item more than so many, or this number, more than the version can tell?
+/// Is one more item than so many, or this number, more than the version can tell?
 pub fn is_too_many(version: Version, items: usize, number: u64) -> bool
     ensures { result ≡ is_too_many version items number }
 {
@@ -91,7 +91,7 @@ fn is_foreign(version: Version, xtype: XType) -> bool
     XType::from_code(xtype.code(), version).is_none()
 }
 
-/// Judges a type, and the numbers of items and of what one item more has.
+/// Judges a type, and the numbers of items and of what one more item has.
 pub fn judge_kind(
     version: Version,
     xtype: XType,
@@ -109,7 +109,7 @@ pub fn judge_kind(
     Ok(())
 }
 
-/// Judges an attribute behind these.
+/// Judges an attribute after these.
 pub fn judge_attr(
     alloc: Global,
     version: Version,

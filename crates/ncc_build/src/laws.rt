@@ -1,4 +1,4 @@
-//! What stands of each schema that was built.
+//! What holds of each schema that was built.
 
 ghost use Rattle.std.specs.Prelude.{◌<◌};
 ghost use Rattle.ncc_schema.specs.Schema.{count_limit, places_of, Legal};

@@ -42,7 +42,7 @@ fn copied(alloc: Global, values: &Values) -> Result<Values, AllocError>
     }
 }
 
-/// Adds dimensions behind those that are there.
+/// Adds dimensions after those that are there.
 fn add_dims(builder: &mut SchemaBuilder, dims: &[Dim]) -> Result<(), WriteFault>
     ensures judged { IsJudged (refuses_dims (schema_so_far builder.old) dims.now) result }
     ensures added { OnOk result (schema_so_far builder.new ≡ with_dims (schema_so_far builder.old) dims.now) }
@@ -53,7 +53,7 @@ fn add_dims(builder: &mut SchemaBuilder, dims: &[Dim]) -> Result<(), WriteFault>
     Ok(())
 }
 
-/// Adds attributes of the whole file behind those that are there.
+/// Adds attributes of the whole file after those that are there.
 fn add_globals(alloc: Global, builder: &mut SchemaBuilder, attrs: &[Attr]) -> Result<(), WriteFault>
     ensures judged { IsJudged (refuses_globals (schema_so_far builder.old) attrs.now) result }
     ensures added { OnOk result (schema_so_far builder.new ≡ with_globals (schema_so_far builder.old) attrs.now) }
@@ -65,7 +65,7 @@ fn add_globals(alloc: Global, builder: &mut SchemaBuilder, attrs: &[Attr]) -> Re
     Ok(())
 }
 
-/// Adds attributes of a variable behind those that it has.
+/// Adds attributes of a variable after those that it has.
 fn add_attrs(
     alloc: Global,
     builder: &mut SchemaBuilder,
@@ -92,7 +92,7 @@ fn add_whole(alloc: Global, builder: &mut SchemaBuilder, var: &Var) -> Result<()
     add_attrs(alloc, builder, number, var.attrs.as_slice())
 }
 
-/// Adds variables, each followed by its attributes, behind those that are there.
+/// Adds variables, each followed by its attributes, after those that are there.
 fn add_vars(alloc: Global, builder: &mut SchemaBuilder, vars: &[Var]) -> Result<(), WriteFault>
     ensures judged { IsJudged (refuses_vars (schema_so_far builder.old) vars.now) result }
     ensures added { OnOk result (schema_so_far builder.new ≡ with_vars (schema_so_far builder.old) vars.now) }

@@ -10,13 +10,13 @@ use Rattle.ncc_check.specs.Appending.{HasNoRecordVariable}
 use Rattle.ncc_check.specs.Checks.{Opens}
 use Rattle.ncc_check.specs.Passes.{PassesWith}
 
--- nothing but want of room is against a record more
+-- nothing but want of room is against one more record
 pub record CanGrow (s : Schema) (p : Placed) : Type 0 where
   pub some : HasNoRecordVariable p → ⊥
   pub packed : IsPacked p
   pub counted : IsKnown s.count
 
--- these bytes pass with this header, and opened anew take a record more where there is room
+-- these bytes pass with this header, and opened anew take one more record where there is room
 pub record PassesOn (bytes : List ℕ) (limit : ℕ) (h : Header) : Type 0 where
   pub passes : PassesWith bytes limit h
   pub again : (t : Schema) (q : Placed) → Opens bytes limit t q → CanGrow t q

@@ -44,7 +44,7 @@ abbrev pub IsBeforeOrAfter : (old : List ℕ) → (place : ℕ) → (image : Lis
 IsBeforeOrAfter old place image count_place count new =
     Keeps old place new ⊎ (new ≡ appended old place image count_place count)
 
--- ---- one record more
+-- ---- one more record
 
 -- the bytes of the count field
 abbrev pub count_field : Version → ℕ → List ℕ
@@ -58,7 +58,7 @@ next_record_at p = record_at p (records_of_file p)
 abbrev pub length_with_record : Placed → ℕ
 length_with_record p = max (file_length_of p) (record_at p (records_of_file p + 1))
 
--- the bytes with this image as a record more
+-- the bytes with this image as one more record
 abbrev pub with_record : (old : List ℕ) → Schema → Placed → (image : List ℕ) → List ℕ
 with_record old s p image = appended old (next_record_at p) image 4 (count_field s.version (records_of_file p + 1))
 
@@ -71,14 +71,14 @@ HasNoRecordVariable p = least_begin (records_of (extents_of_file p)) ≡ None
 abbrev pub IsFull : Version → Placed → Type 0
 IsFull v p = (next_count v (records_of_file p) ≡ None) ⊎ (2 ^ 63 ≤ length_with_record p)
 
--- a record more can be added
+-- one more record can be added
 pub record TakesRecord (s : Schema) (p : Placed) : Type 0 where
   pub some : HasNoRecordVariable p → ⊥
   pub packed : IsPacked p
   pub counted : IsKnown s.count
   pub room : IsFull s.version p → ⊥
 
--- whether a record more can be added, or the first reason against it
+-- whether one more record can be added, or the first reason against it
 abbrev pub IsAppendable : (must_reopen : Bool) → Schema → Placed → Result (Unit {0}) AppendError → Type 0
 IsAppendable failed s p (Ok x) = (failed ≡ false) × TakesRecord s p
 IsAppendable failed s p (Err Reopen) = failed ≡ true
@@ -100,7 +100,7 @@ pub record IsNext (v : Version) (p : Placed) (count place length : ℕ) : Type 0
 
 -- ---- what a call leaves
 
--- the same file with one record more
+-- the same file with one more record
 pub record HasRecord (s : Schema) (p : Placed) (t : Schema) (q : Placed) : Type 0 where
   pub schema : t ≡ with_count s (records_of_file p + 1)
   pub placed : HasOneMore p (length_with_record p) q

@@ -40,7 +40,7 @@ FailsPiece told there d e =
 abbrev pub IsEnough : (taken rest : List ℕ) (limit : ℕ) → Type 0
 IsEnough taken rest limit = (limit ≤ length taken) ⊎ ((rest ≡ []) ⊎ IsWhole taken limit)
 
--- the decoder has taken a front of the bytes, and no byte more can change its answer
+-- the decoder has taken a front of the bytes, and no further byte can change its answer
 pub record HasEnough (bytes : List ℕ) (limit : ℕ) (taken : List ℕ) : Type 0 where
   pub rest : List ℕ
   pub joined : bytes ≡ taken ++ rest

@@ -25,7 +25,7 @@ use Rattle.ncc_check.specs.declared.note.NoteKind.TheVariants.{VsizeField, Heade
 
 -- ---- where fields stand
 
--- numrecs, behind the letters and the version
+-- numrecs, after the letters and the version
 abbrev pub numrecs_at : ℕ
 numrecs_at = 4
 
@@ -33,7 +33,7 @@ numrecs_at = 4
 abbrev pub name_field : Header → NameOf → ℕ
 name_field h x = name_at h.schema (places_of h.places) x
 
--- dim_length, behind the dimension's name
+-- dim_length, after the dimension's name
 abbrev pub dim_length_field : Header → (number : ℕ) → ℕ
 dim_length_field h n = name_field h (of.Dim n) + length (canon_name h.schema.version (name_of h.schema (of.Dim n)))
 
@@ -149,7 +149,7 @@ rank LargeCount = 8
 abbrev pub Precedes : Note → Note → Type 0
 Precedes a b = (a.offset < b.offset) ⊎ ((a.offset ≡ b.offset) × (rank a.kind < rank b.kind))
 
--- each precedes all behind it, so that none is there twice
+-- each precedes all after it, so that none is there twice
 abbrev pub AreInOrder : List Note → Type 0
 AreInOrder [] = Unit {0}
 AreInOrder (n ∷ ns) = AllByRecursion (Precedes n) ns × AreInOrder ns

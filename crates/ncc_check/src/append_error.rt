@@ -10,14 +10,14 @@ pub enum AppendError {
     Reopen,
     #[error("NoRecordVariable")]
     NoRecordVariable,
-    /// The record variables don't stand one behind the other, or the file ends more than three bytes before the record
+    /// The record variables don't stand one after another, or the file ends more than three bytes before the record
     /// that would be added, as one without records may.
     #[error("NotPacked")]
     NotPacked,
     /// The number of records is indeterminate.
     #[error("Streaming")]
     Streaming,
-    /// With one record more the count would be the streaming mark, or the file longer than 2^63 - 1 bytes.
+    /// With one more record the count would be the streaming mark, or the file longer than 2^63 - 1 bytes.
     #[error("CountFull")]
     CountFull,
     /// The first record variable, counted from 0, whose values are missing, of another type or of another number; or

@@ -16,7 +16,7 @@ use ncc_layout::Placed;
 use ncc_layout::laws::{one_more_is_placed, placed_file_keeps_all_rules};
 use ncc_store::{Device, Store};
 
-/// The offset of the count field: behind the magic bytes and the version.
+/// The offset of the count field: after the magic bytes and the version.
 const COUNT_AT: u64 = 4;
 
 /// A file that passed, over the store that holds it.
@@ -94,7 +94,7 @@ impl<S: Store> NcFile<S> {
         self.store.read_at(place, out)
     }
 
-    /// Whether a record more can be added. It is refused as Reopen, NoRecordVariable, NotPacked, Streaming, CountFull
+    /// Whether one more record can be added. It is refused as Reopen, NoRecordVariable, NotPacked, Streaming, CountFull
     /// in this order.
     pub fn appendable(&self) -> Result<(), AppendError>
         ensures { IsAppendable (must_reopen self.now) (schema_of self.now) (placed_of self.now) result }

@@ -21,7 +21,7 @@ Took d taken = TookAt d.standing taken
 abbrev pub HasFailed : Decoder → HeaderError → Type 0
 HasFailed d e = HasFailedAt d.standing e
 
--- how many bytes are surely still to come behind what was taken: those of the next field, and the least of those behind
+-- how many bytes are surely still to come after what was taken: those of the next field, and the least of those after
 -- it in CDF-1 and without padding (Least), as far as the limit
 abbrev pub expects_at : Standing → ℕ
 expects_at (standings.Reading r) =

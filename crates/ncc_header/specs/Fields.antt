@@ -30,7 +30,7 @@ abbrev pub unless : Bool → FaultKind → Option Wrong
 unless true kind = None
 unless false kind = Some (record { back = 0; kind = kind })
 
--- a tag that is found wrong once the number of items behind it is read, 4 bytes further on
+-- a tag that is found wrong once the number of items after it is read, 4 bytes further on
 abbrev pub at_tag_if : Bool → FaultKind → Option Wrong
 at_tag_if true kind = Some (record { back = 4; kind = kind })
 at_tag_if false kind = None
@@ -63,7 +63,7 @@ length_wrong v before n = first (unless (ltb n (length_limit v)) NegativeCount) 
 abbrev pub type_wrong : Version → ℕ → Option Wrong
 type_wrong v n = unless (is_some (type_of_code v n)) BadType
 
--- a dimension's number, behind the variable's numbers before it
+-- a dimension's number, after the variable's numbers before it
 abbrev pub dimid_wrong : List Dim → (before : List ℕ) → ℕ → Option Wrong
 dimid_wrong dims before n = first (unless (ltb n (length dims)) BadDimId) (unless (not (is_record dims n && ltb 0 (length before))) RecordDimNotFirst)
 

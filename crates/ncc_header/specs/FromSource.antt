@@ -42,6 +42,6 @@ pub record HasRead (old now : Option (List ℕ)) (d : Decoder) (limit taken : �
   pub limit_is : limit_of d ≡ limit
   pub long : length bytes ≡ taken
 
--- the source is at its end, or no byte more is wanted
+-- the source is at its end, or no more bytes are wanted
 abbrev pub IsOver : Option (List ℕ) → Decoder → (limit : ℕ) → Type 0
 IsOver now d limit = IsAtEnd now ⊎ ((bytes : List ℕ) → Took d bytes → IsSettled bytes limit)

@@ -8,31 +8,31 @@ use Rattle.ncc_header.specs.declared.built.Named.TheVariants as named
 use Rattle.ncc_header.specs.declared.built.Next.{Next}
 use Rattle.ncc_header.specs.declared.built.Next.TheVariants as nexts
 
--- behind the dimension that has begun: each has 8 bytes at least, and two lists follow
+-- after the dimension that has begun: each has 8 bytes at least, and two lists follow
 abbrev pub rest_of_dims : Lists → ℕ
 rest_of_dims l = l.dims_left * 8 + 16
 
--- behind the variable that has begun: each has 28 bytes at least
+-- after the variable that has begun: each has 28 bytes at least
 abbrev pub rest_of_vars : Lists → ℕ
 rest_of_vars l = l.vars.left * 28
 
--- behind a list of attributes: the list of variables, or the variable's type, size and offset
+-- after a list of attributes: the list of variables, or the variable's type, size and offset
 abbrev pub rest_of_owner : Owner → Lists → ℕ
 rest_of_owner owners.File l = 8
 rest_of_owner owners.Variable l = 12 + rest_of_vars l
 
--- behind the attribute that has begun: each has 12 bytes at least
+-- after the attribute that has begun: each has 12 bytes at least
 abbrev pub rest_of_attrs : Owner → Lists → ℕ
 rest_of_attrs o l = l.attrs_left * 12 + rest_of_owner o l
 
--- behind a name: a dimension's length, an attribute's type and number of values, a variable's rank,
+-- after a name: a dimension's length, an attribute's type and number of values, a variable's rank,
 -- list of attributes, type, size and offset
 abbrev pub rest_of_named : Named → Lists → ℕ
 rest_of_named named.Dim l = 4 + rest_of_dims l
 rest_of_named (named.Attr o) l = 8 + rest_of_attrs o l
 rest_of_named named.Var l = 24 + rest_of_vars l
 
--- behind the next field
+-- after the next field
 abbrev pub rest_of : Next → Lists → ℕ
 rest_of nexts.Magic l = 29
 rest_of nexts.VersionByte l = 28

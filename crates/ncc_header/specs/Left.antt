@@ -1,4 +1,4 @@
--- What is left to read where a field comes next, behind what the fields before it gave, as a grammar of fields.
+-- What is left to read where a field comes next, after what the fields before it gave, as a grammar of fields.
 use Rattle.std.specs.Prelude.{ℕ, ◌*◌, List, [], ◌∷◌, ◌++◌, length, map, zip}
 use Rattle.ncc_values.specs.Values.{type_of, bytes_of}
 use Rattle.ncc_values.specs.XType.{size_of as bytes_each}
@@ -198,7 +198,7 @@ come_of (nexts.NameText x n) b = b.name
 come_of (nexts.AttrValues o k) b = bytes_of b.body.values
 come_of _ b = []
 
--- its bytes that have come, where these are held behind those that stand
+-- its bytes that have come, where these are held after those that stand
 abbrev pub front_of : Next → Built → (held : List ℕ) → List ℕ
 front_of next b held = come_of next b ++ held
 

@@ -6,12 +6,12 @@ use Rattle.ncc_header.specs.Grammar.{Grammar, done, ◌>>=◌}
 use Rattle.ncc_header.specs.Left.{Given}
 use Rattle.ncc_header.specs.Reading.{course}
 
--- so many bytes stand at the front of a piece, and the others behind them
+-- so many bytes stand at the front of a piece, and the others after them
 abbrev pub StartsWith : (piece front : List ℕ) (size : ℕ) (after : List ℕ) → Type 0
 StartsWith piece front size after = (piece ≡ front ++ after) × (length front ≡ size)
 
--- The piece begins with an item of the grammar, and goes on with the bytes of after: what is to be read behind the
--- item, within whatever limit, is read behind its bytes, which show no mark and have no begin field.
+-- The piece begins with an item of the grammar, and goes on with the bytes of after: what is to be read after the
+-- item, within whatever limit, is read after its bytes, which show no mark and have no begin field.
 pub record Passes {A : Type 0} (g : Grammar A) (item : A) (piece after : List ℕ) : Type 0 where
   pub front : List ℕ
   pub joined : piece ≡ front ++ after

@@ -21,7 +21,7 @@ pub record Course : Type 0 where
   pub shown : List Mark
   pub begun : List ℕ
 
--- of an input for g from an offset on, behind fields that have shown so much
+-- of an input for g from an offset on, after fields that have shown so much
 abbrev pub course : Grammar Given → (limit at : ℕ) → List Mark → List ℕ → (input : List ℕ) → Course
 course g limit at shown begun input = record {
   outcome = read g limit at input;
@@ -61,11 +61,11 @@ pub record Went (old new : Reading) (piece : List ℕ) (used : ℕ) : Type 0 whe
   pub within : used ≤ length piece
   pub takes : Takes old new (take used piece)
 
--- how many fields may follow: each byte within the limit may end one with two behind it that have none
+-- how many fields may follow: each byte within the limit may end one with two after it that have none
 abbrev pub effort_of : Reading → ℕ
 effort_of r = 3 * (r.limit - r.at) + idle_of r.next
 
--- Behind the bytes of front the input stops so, whatever follows.
+-- After the bytes of front the input stops so, whatever follows.
 pub record StopsBehind (old : Reading) (front : List ℕ) (f : Fault) : Type 0 where
   pub stays : (more : List ℕ) → (onward old (front ++ more)).outcome ≡ stops f.offset f.kind
   pub other : f.kind ≢ EndsEarly
@@ -80,7 +80,7 @@ FailsBehind old front errors.Memory = Unit {0}
 abbrev pub Waits : Reading → Type 0
 Waits r = (n : ℕ) → size_of (next_of r) ≡ Some n → (r.at + n ≤ r.limit) × (length (held_of r) < n)
 
--- the same, behind so many bytes more
+-- the same, after so many more bytes
 abbrev pub WaitsBehind : Reading → (more : ℕ) → Type 0
 WaitsBehind r more = (n : ℕ) → size_of (next_of r) ≡ Some n → (r.at + n ≤ r.limit) × (length (held_of r) + more < n)
 

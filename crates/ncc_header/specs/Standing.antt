@@ -57,7 +57,7 @@ IsWhole bytes limit = (s : Schema) × (places : List Place) × IsHeader s places
 abbrev pub GoesOn : (input : List ℕ) (limit : ℕ) → Type 0
 GoesOn input limit = (f : Fault) × Stops input limit f × (f.kind ≡ EndsEarly)
 
--- whatever follows, no byte more is taken: the bytes are a header within the limit, or have a fault that stays
+-- whatever follows, no more bytes are taken: the bytes are a header within the limit, or have a fault that stays
 abbrev pub IsSettled : (input : List ℕ) (limit : ℕ) → Type 0
 IsSettled input limit = IsWhole input limit ⊎ ((f : Fault) × StopsForGood input limit f)
 

@@ -30,7 +30,7 @@ pub enum Next {
     VersionByte,
     RecordCount,
     DimsTag,
-    /// Behind this tag.
+    /// After this tag.
     DimsCount(u64),
     NameLength(Named),
     /// A name of so many bytes.
@@ -43,7 +43,7 @@ pub enum Next {
     AttrCount(Owner, XType),
     /// So many values.
     AttrValues(Owner, u64),
-    /// Behind values of so many bytes.
+    /// After values of so many bytes.
     AttrPadding(Owner, u64),
     VarsTag,
     VarsCount(u64),
@@ -52,7 +52,7 @@ pub enum Next {
     DimId(u64),
     VarType,
     VarSize(XType),
-    /// Behind this size.
+    /// After this size.
     VarBegin(XType, u64),
     /// No field is left.
     Whole,

@@ -126,7 +126,7 @@ impl Decoder {
         }
     }
 
-    /// How many bytes are surely still to come: no header has fewer of them behind the pieces, none lies
+    /// How many bytes are surely still to come: no header has fewer of them after the pieces, none lies
     /// past the limit, and the next field lacks no more. It is 0 where the header is whole or has a fault
     /// that stays, and after want of memory.
     pub(crate) fn expects(&self) -> u64
@@ -146,7 +146,7 @@ impl Decoder {
         }
     }
 
-    /// The header, where the input ends behind the pieces.
+    /// The header, where the input ends after the pieces.
     pub fn finish(self) -> Result<Header, HeaderError>
         ensures answers { (taken : List ℕ) → Took self taken → Answers taken (limit_of self) result }
         ensures whole { (taken : List ℕ) → Took self taken → IfOk result (λ h. h.length ≡ length taken) }

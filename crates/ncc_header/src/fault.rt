@@ -14,7 +14,7 @@ pub enum FaultKind {
     /// The file doesn't begin with the letters CDF.
     #[error("BadMagic")]
     BadMagic,
-    /// The byte behind the letters is neither 1, 2 nor 5.
+    /// The byte after the letters is neither 1, 2 nor 5.
     #[error("BadVersion")]
     BadVersion,
     /// The top bit of a number of items is set, or in CDF-5 that of a length.
@@ -32,7 +32,7 @@ pub enum FaultKind {
     /// A dimension's number that isn't below the number of dimensions.
     #[error("BadDimId")]
     BadDimId,
-    /// The record dimension at another than the first place of a variable.
+    /// A variable has the record dimension in another place than the first.
     #[error("RecordDimNotFirst")]
     RecordDimNotFirst,
     /// The top bit of a variable's offset is set.

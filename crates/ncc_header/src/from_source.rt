@@ -35,7 +35,7 @@ fn read_piece<R: Source>(
     }
 }
 
-/// Reads until the decoder expects no byte more, or the source is at its end.
+/// Reads until the decoder expects no more bytes, or the source is at its end.
 fn read_wanted<R: Source>(
     source: &mut R,
     decoder: &mut Decoder,

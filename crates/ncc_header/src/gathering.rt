@@ -19,7 +19,7 @@ fn hold_more(held: &mut ArrayVec<u8, 8>, bytes: &[u8])
     held.try_extend_from_slice(bytes).unwrap();
 }
 
-/// Adds the values that the bytes spell, and holds the bytes behind the last whole one.
+/// Adds the values that the bytes spell, and holds the bytes after the last whole one.
 fn add_whole(body: &mut Body, held: &mut ArrayVec<u8, 8>, bytes: &[u8]) -> Result<(), AllocError>
     requires { held.old.items ≡ [] }
     ensures xtype { OnOk result (type_of body.new.values ≡ type_of body.old.values) }

@@ -93,7 +93,7 @@ pub fn tag(own: u32, tag: u64) -> Result<(), Wrong>
     Ok(())
 }
 
-/// The number of a list's items, behind a tag that was zero or its own: tag **nelems** [item ...]
+/// The number of a list's items, after a tag that was zero or its own: tag **nelems** [item ...]
 pub fn list_nelems(version: Version, tag: u64, n: u64) -> Result<(), Wrong>
     ensures { Judges (list_nelems_wrong version tag n) result }
 {
@@ -143,7 +143,7 @@ pub fn nc_type(version: Version, n: u64) -> Result<XType, Wrong>
     }
 }
 
-/// dimid = NON_NEG, behind the variable's numbers before it
+/// dimid = NON_NEG, after the variable's numbers before it
 pub fn dimid(dims: &[Dim], before: &[usize], n: u64) -> Result<usize, Wrong>
     ensures judged { Judges (dimid_wrong dims.now before.now n) result }
     ensures value { IfOk result (λ id. id ≡ n) }

@@ -13,7 +13,7 @@ ghost use Rattle.ncc_header.specs.Answers.{Begins, Stops};
 
 use ncc_schema::laws::{canonical_header, count_field_is_rewritten};
 
-/// Of the fronts of one input one is a header at most, and of one schema and placement.
+/// Of the fronts of one input at most one is a header, and of one schema and placement.
 pub fn one_header()
     ensures { (s t : Schema) (p q : List Place) (b c x y : List ℕ) → IsHeader s p b → IsHeader t q c
         → b ++ x ≡ c ++ y → (b ≡ c) × (s ≡ t) × (p ≡ q) }

@@ -15,7 +15,7 @@ const ATTRIBUTE: u128 = 12;
 
 const VARIABLE: u128 = 28;
 
-/// The bytes behind the dimension that has begun: two lists follow those that are left.
+/// The bytes after the dimension that has begun: two lists follow those that are left.
 fn behind_dim(lists: &Lists) -> u128
     ensures value { result ≡ rest_of_dims lists.now }
     ensures fits { result < 2 ^ 70 }
@@ -23,7 +23,7 @@ fn behind_dim(lists: &Lists) -> u128
     lists.dims_left as u128 * DIMENSION + 16
 }
 
-/// The bytes behind the variable that has begun.
+/// The bytes after the variable that has begun.
 fn behind_var(lists: &Lists) -> u128
     ensures value { result ≡ rest_of_vars lists.now }
     ensures fits { result < 2 ^ 70 }
@@ -31,7 +31,7 @@ fn behind_var(lists: &Lists) -> u128
     lists.vars.left as u128 * VARIABLE
 }
 
-/// The bytes behind a list of attributes: a list of variables, or a type, a size and an offset.
+/// The bytes after a list of attributes: a list of variables, or a type, a size and an offset.
 fn behind_attrs(owner: Owner, lists: &Lists) -> u128
     ensures value { result ≡ rest_of_owner owner lists.now }
     ensures fits { result < 2 ^ 71 }
@@ -42,7 +42,7 @@ fn behind_attrs(owner: Owner, lists: &Lists) -> u128
     }
 }
 
-/// The bytes behind the attribute that has begun.
+/// The bytes after the attribute that has begun.
 fn behind_attr(owner: Owner, lists: &Lists) -> u128
     ensures value { result ≡ rest_of_attrs owner lists.now }
     ensures fits { result < 2 ^ 72 }
@@ -50,7 +50,7 @@ fn behind_attr(owner: Owner, lists: &Lists) -> u128
     lists.attrs_left as u128 * ATTRIBUTE + behind_attrs(owner, lists)
 }
 
-/// The bytes behind a name.
+/// The bytes after a name.
 fn behind_name(named: Named, lists: &Lists) -> u128
     ensures value { result ≡ rest_of_named named lists.now }
     ensures fits { result < 2 ^ 73 }
@@ -62,7 +62,7 @@ fn behind_name(named: Named, lists: &Lists) -> u128
     }
 }
 
-/// How many bytes come at least behind the next field.
+/// How many bytes come at least after the next field.
 pub fn rest(next: Next, lists: &Lists) -> u128
     ensures value { result ≡ rest_of next lists.now }
     ensures fits { result < 2 ^ 74 }

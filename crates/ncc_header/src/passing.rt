@@ -9,7 +9,7 @@ ghost use Rattle.ncc_header.specs.Passing.{Passes, StartsWith, padded};
 use crate::judge;
 use ncc_values::{Version, XType, number, pad};
 
-/// So many bytes at the front of a piece, and the bytes behind them.
+/// So many bytes at the front of a piece, and the bytes after them.
 #[inline]
 fn parted(piece: &[u8], n: u64) -> Option<(&[u8], &[u8])>
     ensures { IfSome result (λ r. StartsWith piece.now r.0.now n r.1.now) }
@@ -20,7 +20,7 @@ fn parted(piece: &[u8], n: u64) -> Option<(&[u8], &[u8])>
     Some(piece.split_at(n as usize))
 }
 
-/// The number whose bytes are these many, 1 to 8, and the bytes behind them.
+/// The number whose bytes are these many, 1 to 8, and the bytes after them.
 #[inline]
 fn number_at(piece: &[u8], width: u64) -> Option<(u64, &[u8])>
     requires some { 0 < width }
@@ -45,7 +45,7 @@ pub fn count(version: Version, piece: &[u8]) -> Option<(u64, &[u8])>
     }
 }
 
-/// A count, whatever number it is, and the bytes behind it.
+/// A count, whatever number it is, and the bytes after it.
 #[inline]
 fn counted(version: Version, piece: &[u8]) -> Option<(u64, &[u8])>
     ensures { IfSome result (λ r. (front : List ℕ) × StartsWith piece.now front (count_width_of version) r.1.now

@@ -20,7 +20,7 @@ pub struct Reading {
     pub at: u64,
     pub next: Next,
     pub built: Built,
-    /// The bytes of the next field that have come, behind those that stand where they stay.
+    /// The bytes of the next field that have come, after those that stand where they stay.
     pub held: ArrayVec<u8, 8>,
     /// The marks of the fields so far.
     pub marks: Vec<Mark>,
@@ -117,7 +117,7 @@ impl Reading {
         }
     }
 
-    /// The header, where nothing comes behind what was read.
+    /// The header, where nothing comes after what was read.
     pub fn finish(self) -> Result<Header, HeaderError>
         ensures answers { (taken : List ℕ) → HasTaken self taken → Answers taken self.limit result }
         ensures whole { (taken : List ℕ) → HasTaken self taken → IfOk result (λ h. h.length ≡ length taken) }

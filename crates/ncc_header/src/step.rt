@@ -1,4 +1,4 @@
-//! One field more: the step that each field takes, and its size.
+//! One more field: the step that each field takes, and its size.
 
 ghost use Rattle.std.specs.Prelude.{◌≡◌, ◌<◌, ◌^◌, ◌++◌, length, Some, IfOk};
 ghost use Rattle.ncc_values.specs.Version.{count_width_of};
@@ -21,7 +21,7 @@ use crate::vars::{
 use ncc_values::{Version, pad};
 use std::alloc::Global;
 
-/// Takes the next field, and tells which one comes then. Its last bytes are `front`, behind those that
+/// Takes the next field, and tells which one comes then. Its last bytes are `front`, after those that
 /// stand where they stay. It begins at the offset `at`, which only the step over a begin field keeps; of
 /// the others only the contracts speak of it.
 pub fn step(

@@ -52,7 +52,7 @@ fn marked_step(
     step(alloc, next, built, at, bytes)
 }
 
-/// Takes the next field, of this size in bytes: these are its bytes behind those that stand where they
+/// Takes the next field, of this size in bytes: these are its bytes after those that stand where they
 /// stay.
 fn take_bytes(
     alloc: Global,

@@ -17,7 +17,7 @@ use ncc_schema::Attr;
 use ncc_values::{Name, Values, Version, XType};
 use std::alloc::{AllocError, Global};
 
-/// An attribute at the front of a piece, and the bytes behind it.
+/// An attribute at the front of a piece, and the bytes after it.
 #[derive(Clone, Copy)]
 struct Found<'a> {
     name: &'a [u8],

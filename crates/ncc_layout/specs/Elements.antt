@@ -133,7 +133,7 @@ pub record LiesInSlab (record_size : ℕ) (x : PlacedVar) (index : List ℕ) : T
 
 -- ---- what holds of variables that are placed
 
--- the lengths are those of a slab, behind the number of records
+-- the lengths are those of a slab, after the number of records
 abbrev pub IsShaped : (records size slab : ℕ) → Bool → (lengths : List ℕ) → Type 0
 IsShaped records size slab true (n ∷ ls) = (n ≡ records) × (slab ≡ product ls * size)
 IsShaped records size slab true [] = ⊥

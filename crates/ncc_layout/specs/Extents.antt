@@ -29,7 +29,7 @@ abbrev pub NumberedFrom : ℕ → List Extent → Type 0
 NumberedFrom n [] = Unit {0}
 NumberedFrom n (e ∷ es) = (e.variable ≡ n) × NumberedFrom (suc n) es
 
--- the first byte behind it
+-- the first byte after it
 abbrev pub end : Extent → ℕ
 end e = e.begin + e.slab
 

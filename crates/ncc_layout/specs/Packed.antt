@@ -1,4 +1,4 @@
--- Where a record more goes.
+-- Where one more record goes.
 use Rattle.std.specs.Prelude.{◌≡◌, ℕ, ◌+◌, ◌*◌, ◌≤◌, Option, Some, None}
 use Rattle.ncc_layout.specs.declared.placed_file.Placed.{Placed}
 use Rattle.ncc_layout.specs.Extents.{least_begin, records_of}
@@ -17,7 +17,7 @@ records_at p = begin_or_zero (least_begin (records_of (extents_of_file p)))
 abbrev pub record_at : Placed → (number : ℕ) → ℕ
 record_at p n = records_at p + n * record_size_of_file p
 
--- the record variables are packed: in their order one behind the other, each with its padding, and no more than three
+-- the record variables are packed: in their order one after another, each with its padding, and no more than three
 -- bytes are missing before the next record
 pub record IsPacked (p : Placed) : Type 0 where
   pub in_turn : PackedFrom (records_at p) (records_of (extents_of_file p))

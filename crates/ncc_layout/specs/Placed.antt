@@ -50,7 +50,7 @@ pub record KeepsRules (p : Placed) : Type 0 where
       Rules (header_length_of p) (file_length_of p) (record_size_of_file p) (records_of_file p) (extents_of_file p)
   pub sized : AreSized (record_size_of_file p) (vars_of p)
 
--- all rules hold with one record more, in a file of this length
+-- all rules hold with one more record, in a file of this length
 abbrev pub HasRoom : Placed → (file : ℕ) → Type 0
 HasRoom p file = Rules (header_length_of p) file (record_size_of_file p) (records_of_file p + 1) (extents_of_file p)
 
@@ -72,7 +72,7 @@ pub record Holds (s : Schema) (places : List Place) (header length : ℕ) (p : P
   pub records_are : records_of_file p ≡ record_count s places length
   pub vars_are : vars_of p ≡ placed_vars s places length
 
--- the same placed file with one record more, in a file of this length
+-- the same placed file with one more record, in a file of this length
 pub record HasOneMore (p : Placed) (file : ℕ) (q : Placed) : Type 0 where
   pub header_is : header_length_of q ≡ header_length_of p
   pub length_is : file_length_of q ≡ file

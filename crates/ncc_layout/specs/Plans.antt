@@ -58,7 +58,7 @@ header_end s vars = vars_at s + list_size s.version + length (flat_map (canon_un
 abbrev pub fixed_end : Schema → List Var → ℕ
 fixed_end s vars = header_length s + fixed_sum s.dims vars
 
--- of the slabs of the record variables among them in record 0, behind all fixed variables
+-- of the slabs of the record variables among them in record 0, after all fixed variables
 abbrev pub slabs_end : Schema → List Var → ℕ
 slabs_end s vars = header_length s + fixed_sum s.dims s.vars + record_sum s.dims vars
 

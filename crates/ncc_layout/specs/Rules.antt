@@ -14,7 +14,7 @@ abbrev pub ByKind : (is_record : Bool) → (of_record of_fixed : Type 0) → Typ
 ByKind true of_record of_fixed = of_record
 ByKind false of_record of_fixed = of_fixed
 
--- InHeader: it begins behind the header
+-- InHeader: it begins past the header
 abbrev pub PastHeader : (header : ℕ) → Extent → Type 0
 PastHeader header e = header ≤ e.begin
 

@@ -112,7 +112,7 @@ Adds dims before x (Some (n, t)) =
 abbrev pub in_room : ℕ → Option ℕ
 in_room n = if ltb room n then None else Some n
 
--- the sums with one record variable more
+-- the sums with one more record variable
 abbrev pub with_slab : Totals → (slab : ℕ) → Option Totals
 with_slab t n =
     if ltb room (t.sum + up n)

@@ -86,12 +86,12 @@ OffsetsFit s = AllByRecursion (λ p. p.begin < offset_limit s.version) (standard
 
 -- ---- what a standard placement keeps besides the rules
 
--- one behind the other from this offset on, each with its padding
+-- one after another from this offset on, each with its padding
 abbrev pub PackedFrom : (begin : ℕ) → List Extent → Type 0
 PackedFrom begin [] = Unit {0}
 PackedFrom begin (e ∷ es) = (e.begin ≡ begin) × PackedFrom (begin + up e.slab) es
 
--- the fixed variables one behind the other from the header on, and behind them those of record 0
+-- the fixed variables one after another from the header on, and after them those of record 0
 pub record ArePacked (header : ℕ) (es : List Extent) : Type 0 where
   pub fixed : PackedFrom header (fixed_of es)
   pub records : PackedFrom (header + sum_by up (map (λ e. e.slab) (fixed_of es))) (records_of es)
@@ -104,7 +104,7 @@ pub record AreInTurn (es : List Extent) : Type 0 where
 abbrev pub AreAligned : List Extent → Type 0
 AreAligned es = AllByRecursion (λ e. e.begin % 4 ≡ 0) es
 
--- ---- one record more
+-- ---- one more record
 
 -- the number of records after these, where that isn't the streaming mark
 abbrev pub next_count : Version → ℕ → Option ℕ

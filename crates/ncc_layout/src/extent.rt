@@ -17,7 +17,7 @@ pub struct Extent {
 }
 
 impl Extent {
-    /// The offset of the first byte behind it.
+    /// The offset of the first byte after it.
     pub fn end(&self) -> u128
         ensures { result ≡ end self.now }
     {

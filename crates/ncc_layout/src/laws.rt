@@ -91,7 +91,7 @@ pub fn one_fault()
         → (kind ≡ other) × (number ≡ also) }
 {}
 
-/// As no extent is empty, the first that shares a byte with one before it is the first, in order of begin
+/// Where no extent is empty, the first that shares a byte with one before it is the first, in order of begin
 /// and number, that begins before the one before it ends.
 pub fn neighbours_tell_the_first_overlap()
     ensures { (es sorted : List Extent) (number : ℕ)
@@ -106,7 +106,7 @@ pub fn standard_places_keep_all_rules()
 {}
 
 /// In a standard placement each variable begins where the one before it of its kind ends with its padding,
-/// the first fixed one where the header ends, and the first record variable behind all fixed ones.
+/// the first fixed one where the header ends, and the first record variable after all fixed ones.
 pub fn standard_places_are_packed()
     ensures { (s : Schema) → ArePacked (header_length s) (extents_of s (standard_places s)) }
 {}
@@ -123,14 +123,14 @@ pub fn standard_places_are_aligned()
     header_is_aligned();
 }
 
-/// A placed file has room for one record more where a file of this length has it by its schema.
+/// A placed file has room for one more record where a file of this length has it by its schema.
 pub fn room_for_one_more()
     ensures { (s : Schema) (places : List Place) (header file more n : ℕ) (p : Placed)
         → s.count ≡ Known n → Holds s places header file p
         → IsPlaced (with_count s (n + 1)) places header more → HasRoom p more }
 {}
 
-/// With one record more a placed file is that of the schema with that count.
+/// With one more record a placed file is that of the schema with that count.
 pub fn one_more_is_placed()
     ensures { (s : Schema) (places : List Place) (header file more n : ℕ) (p q : Placed)
         → s.count ≡ Known n → Holds s places header file p → HasOneMore p more q

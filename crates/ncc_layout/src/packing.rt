@@ -1,4 +1,4 @@
-//! Whether record variables stand one behind the other.
+//! Whether record variables stand one after another.
 
 ghost use Rattle.std.specs.Prelude.{◌↔◌, IsTrue, map};
 ghost use Rattle.ncc_layout.specs.Extents.{records_of};
@@ -7,7 +7,7 @@ ghost use Rattle.ncc_layout.specs.Standard.{PackedFrom};
 use crate::placed_var::PlacedVar;
 use ncc_values::pad;
 
-/// Do the record variables stand one behind the other from this place on, each with its padding?
+/// Do the record variables stand one after another from this place on, each with its padding?
 pub(crate) fn are_packed(vars: &[PlacedVar], begin: u64) -> bool
     ensures { IsTrue result ↔ PackedFrom begin (records_of (map (λ x. x.extent) vars.now)) }
 {

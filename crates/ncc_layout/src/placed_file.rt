@@ -89,7 +89,7 @@ impl Placed {
         first_begin_of(self.vars.as_slice())
     }
 
-    /// Are the record variables packed, so that a record more goes behind the last? In their order each must begin
+    /// Are the record variables packed, so that one more record goes after the last? In their order each must begin
     /// where the one before it ends with its padding, and the file lack no more than three bytes of the last record.
     pub fn is_packed(&self) -> bool
         ensures { IsTrue result ↔ IsPacked self.now }
@@ -154,7 +154,7 @@ impl Placed {
         self.vars[var].extent.slab
     }
 
-    /// One record more, in a file of this length that has room for it. It allocates nothing.
+    /// One more record, in a file of this length that has room for it. It allocates nothing.
     pub fn one_more(&mut self, file_length: u64)
         requires countable { records_of_file self.old + 1 < 2 ^ 64 }
         requires rules { HasRoom self.old file_length }

@@ -41,7 +41,7 @@ fn begin_of(ends: Ends, dims: &[Dim], var: &Var) -> u64
     }
 }
 
-/// The ends with one variable more.
+/// The ends with one more variable.
 fn with_var(ends: Ends, schema: &Schema, var: &Var, size: u64) -> Ends
     requires legal { LegalDims schema.now.dims var.now.dims }
     requires size { size ≡ rounded schema.now.dims var.now }

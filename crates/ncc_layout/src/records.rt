@@ -96,7 +96,7 @@ pub fn record_count(extents: &[Extent], count: Count, record_size: u64, length: 
     }
 }
 
-/// One record more, where that isn't the streaming mark.
+/// One more record, where that isn't the streaming mark.
 pub fn next_count(version: Version, n: u64) -> Option<u64>
     ensures { result ≡ next_count version n }
 {

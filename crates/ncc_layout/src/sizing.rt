@@ -76,7 +76,7 @@ struct Totals {
     size: u64,
 }
 
-/// The sums with one record variable more, where they aren't too large.
+/// The sums with one more record variable, where they aren't too large.
 fn with_slab(totals: Totals, slab: u64) -> Option<Totals>
     requires sum { totals.sum ≤ room }
     requires slab { slab ≤ room }

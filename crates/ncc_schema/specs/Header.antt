@@ -117,7 +117,7 @@ pub record IsHeader (s : Schema) (places : List Place) (b : List ℕ) : Type 0 w
   pub typed : IsTyped s
   pub spelled : header s places b
 
--- bytes whose count field, behind the first four, is written again
+-- bytes whose count field, after the first four, is written again
 abbrev pub with_count_field : Version → (records : ℕ) → List ℕ → List ℕ
 with_count_field v n b = take 4 b ++ big_endian (count_width_of v) n ++ drop (4 + count_width_of v) b
 

@@ -82,7 +82,7 @@ fn put_name<W: Sink>(sink: &mut W, version: Version, name: &[u8]) -> Result<(), 
     put_zeros(sink, pad(name.len() as u64))
 }
 
-/// The tag in front of a number of items: zero where there are none.
+/// The tag before a number of items: zero where there are none.
 fn tag_before(number: usize, tag: u32) -> u32
     ensures { result ≡ if number == 0 then 0 else tag }
 {
@@ -146,7 +146,7 @@ fn put_values<W: Sink>(sink: &mut W, values: &Values) -> Result<(), Failed>
     Ok(())
 }
 
-/// The padding behind values. Only the remainder of their number by four matters.
+/// The padding after values. Only the remainder of their number by four matters.
 fn padding_behind(values: &Values) -> u64
     ensures { result ≡ padding_of (count_of values.now * size_of (type_of values.now)) }
 {

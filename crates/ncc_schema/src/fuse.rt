@@ -8,7 +8,7 @@ use crate::failed::{Failed, fail};
 use crate::sink::Sink;
 use crate::source::Source;
 
-/// What is still passed: so many calls, each of at most so many bytes. Behind them each call fails.
+/// What is still passed: so many calls, each of at most so many bytes. After them each call fails.
 struct Fuse {
     calls: u64,
     most: u64,
@@ -117,7 +117,7 @@ impl<R: Source> Source for FuseSource<R> {
         ensures few { IfOk result (λ n. n ≤ most_read self.old) }
         ensures most { most_read self.new ≡ most_read self.old }
 
-        // Behind them each call fails, and the source below isn't called.
+        // After them each call fails, and the source below isn't called.
         ensures fails { reads_left self.old ≡ 0 → IsErr result }
         ensures source { reads_left self.old ≡ 0 → source_of self.new ≡ source_of self.old }
     {
@@ -185,7 +185,7 @@ impl<W: Sink> Sink for FuseSink<W> {
         ensures few { IfOk result (λ n. n ≤ most_written self.old) }
         ensures most { most_written self.new ≡ most_written self.old }
 
-        // Behind them each call fails, and the sink below isn't called.
+        // After them each call fails, and the sink below isn't called.
         ensures fails { writes_left self.old ≡ 0 → IsErr result }
         ensures sink { writes_left self.old ≡ 0 → sink_of self.new ≡ sink_of self.old }
     {

@@ -70,7 +70,7 @@ fn dimids_size(version: Version, ids: &[usize]) -> u64
     number.saturating_mul(version.count_width() as u64)
 }
 
-/// The bytes of a variable in front of its first attribute.
+/// The bytes of a variable before its first attribute.
 pub fn attrs_in(version: Version, var: &Var) -> u64
     ensures { result ≡ capped (attrs_in version var.now) }
 {

@@ -42,6 +42,6 @@ buffer_length = 65536
 abbrev pub part_count : (size : ℕ) → (left : List ℕ) → ℕ
 part_count size left = min (length left) (buffer_length / size)
 
--- the next part was taken: so many elements, and the places behind them are left
+-- the next part was taken: so many elements, and the places after them are left
 abbrev pub TakesPart : (size : ℕ) → (old new : List ℕ) → (count : ℕ) → Type 0
 TakesPart size old new n = (n ≡ part_count size old) × (new ≡ drop n old)

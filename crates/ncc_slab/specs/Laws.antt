@@ -52,12 +52,12 @@ abbrev pub NumbersAreThere : Type 0
 NumbersAreThere = (file : List ℕ) (record_size : ℕ) (x : PlacedVar) (indices : List (List ℕ)) → AreWhole file record_size x indices
     → numbers_of (values_at file record_size x indices) ≡ map (number_at file record_size x) indices
 
--- a part, and behind it the next one, are one part
+-- a part, and after it the next one, are one part
 abbrev pub PartsJoin : Type 0
 PartsJoin = (file : List ℕ) (record_size : ℕ) (x : PlacedVar) (s : Slab) (first m n : ℕ) (old mid new : Values) → AreWhole file record_size x (indices_of s) → type_of old ≡ x.xtype
     → AddsPart file record_size x s first m old mid → AddsPart file record_size x s (first + m) n mid new → AddsPart file record_size x s first (m + n) old new
 
--- the part that is the whole selection, behind no values, is what is selected
+-- the part that is the whole selection, after no values, is what is selected
 abbrev pub WholePartIsSelected : Type 0
 WholePartIsSelected = (file : List ℕ) (record_size : ℕ) (x : PlacedVar) (s : Slab) (values : Values)
     → AddsPart file record_size x s 0 (selected_count s) (no_values x.xtype) values → Selected file record_size x s values
@@ -89,13 +89,13 @@ PlacesAddPart = (file : List ℕ) (record_size : ℕ) (x : PlacedVar) (s : Slab)
     → AddsPlaces file (size_of x.xtype) (take n (drop first (places_of record_size x s))) old new
     ↔ (AddsPart file record_size x s first n old new × AreWhole file record_size x (part_of s first n))
 
--- behind no values, the number of each value is that of its element
+-- after no values, the number of each value is that of its element
 abbrev pub PartHasNumbers : Type 0
 PartHasNumbers = (file : List ℕ) (record_size : ℕ) (x : PlacedVar) (s : Slab) (first n : ℕ) (old new : Values) → type_of old ≡ x.xtype → count_of old ≡ 0
     → AddsPlaces file (size_of x.xtype) (take n (drop first (places_of record_size x s))) old new
     → numbers_of new ≡ map (number_at file record_size x) (part_of s first n)
 
--- where the first elements are taken, the next part is of those behind them, and what it leaves is what is behind both
+-- where the first elements are taken, the next part is of those after them, and what it leaves is what is after both
 abbrev pub PartsGoOn : Type 0
 PartsGoOn = (record_size : ℕ) (x : PlacedVar) (s : Slab) (size first n : ℕ) (old new : List ℕ) → first ≤ selected_count s → old ≡ drop first (places_of record_size x s)
     → TakesPart size old new n → (first + n ≤ selected_count s) × (new ≡ drop (first + n) (places_of record_size x s))
@@ -116,7 +116,7 @@ TakesAll file size [] left old new = (left ≡ []) × (new ≡ old)
 TakesAll file size (n ∷ counts) left old new = (rest : List ℕ) × (mid : Values) × TakesPart size left rest n
     × AddsPlaces file size (take n left) old mid × TakesAll file size counts rest mid new
 
--- all parts, one behind the other, are what is selected
+-- all parts, one after another, are what is selected
 abbrev pub PartsAreSelected : Type 0
 PartsAreSelected = (file : List ℕ) (record_size : ℕ) (x : PlacedVar) (s : Slab) (counts : List ℕ) (values : Values)
     → TakesAll file (size_of x.xtype) counts (places_of record_size x s) (no_values x.xtype) values → Selected file record_size x s values

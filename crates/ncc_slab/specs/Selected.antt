@@ -48,15 +48,15 @@ Selected file record_size x s values = values ≡ values_at file record_size x (
 
 -- ---- parts of a selection
 
--- so many of its index lists, behind the first ones
+-- so many of its index lists, after the first ones
 abbrev pub part_of : Slab → (first count : ℕ) → List (List ℕ)
 part_of s first n = take n (drop first (indices_of s))
 
--- the values, and behind them those of a part of the selection
+-- the values, and after them those of a part of the selection
 abbrev pub AddsPart : (file : List ℕ) → (record_size : ℕ) → PlacedVar → Slab → (first count : ℕ) → (old new : Values) → Type 0
 AddsPart file record_size x s first n old new = new ≡ with_bytes old (bytes_of_elements file record_size x (part_of s first n))
 
--- the values, and behind them those at these places, of which the file has all bytes
+-- the values, and after them those at these places, of which the file has all bytes
 pub record AddsPlaces (file : List ℕ) (size : ℕ) (places : List ℕ) (old new : Values) : Type 0 where
   pub is : new ≡ with_bytes old (bytes_at_places file size places)
   pub whole : length (bytes_at_places file size places) ≡ length places * size

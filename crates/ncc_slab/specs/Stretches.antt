@@ -3,7 +3,7 @@ use Rattle.std.specs.Prelude.{ℕ, ◌+◌, ◌*◌, ◌/◌, ◌==◌, if◌the
 use Rattle.std.specs.List.{range_with_len}
 use Rattle.ncc_slab.specs.Answers.{buffer_length, part_count}
 
--- how many of these places don't lie right behind the one before it, where the first has this one before it
+-- how many of these places don't lie right after the one before it, where the first has this one before it
 abbrev pub breaks : (size before : ℕ) → (places : List ℕ) → ℕ
 breaks size p [] = 0
 breaks size p (q ∷ qs) = (if q == p + size then 0 else 1) + breaks size q qs
@@ -21,7 +21,7 @@ part_stretches size left = stretches size (take (part_count size left) left)
 abbrev pub stretches_in : (size : ℕ) → (places : List ℕ) → (number : ℕ) → ℕ
 stretches_in size places k = part_stretches size (drop (k * (buffer_length / size)) places)
 
--- of all parts; behind the last there is nothing
+-- of all parts; after the last there is nothing
 abbrev pub all_stretches : (size : ℕ) → (places : List ℕ) → ℕ
 all_stretches size places =
     sum_by (stretches_in size places) (range_with_len 0 (length places / (buffer_length / size) + 1))

@@ -18,7 +18,7 @@ use ncc_check::NcFile;
 use ncc_store::{Device, Store, laws as store_laws};
 use ncc_values::Values;
 
-/// How many elements from the n-th on, at most so many, lie one behind the other.
+/// How many elements from the n-th on, at most so many, lie one after another.
 fn stretch(grid: &Grid, size: u64, n: u64, most: u64) -> u64
     requires ends { (length : ℕ) × (length < 2 ^ 64) × EndBy length size grid.now }
     requires there { n + most ≤ grid_count grid.now }

@@ -50,7 +50,7 @@ impl Grid {
         place
     }
 
-    /// Does an index of this axis lie right behind all that share the one before it? The last axis does only
+    /// Does an index of this axis lie right after all that share the one before it? The last axis does only
     /// where each element has an index of its own.
     fn adjoins(&self, axis: usize, size: u64) -> bool
         requires { axis < length self.now.axes.items }
@@ -77,7 +77,7 @@ impl Grid {
         Some(from)
     }
 
-    /// How many elements from the n-th on surely lie one behind the other, at most so many: all as far as no
+    /// How many elements from the n-th on surely lie one after another, at most so many: all as far as no
     /// index changes but along the axes without a gap.
     pub fn block(&self, size: u64, n: u64, most: u64) -> u64
         requires { 0 < most }

@@ -28,7 +28,7 @@ pub fn selected_is_inside()
     ensures { SelectedIsInside }
 {}
 
-/// A part, and behind it the next one, are one part.
+/// A part, and after it the next one, are one part.
 pub fn parts_join()
     ensures { PartsJoin }
 {}
@@ -85,12 +85,12 @@ pub fn places_add_part()
     ensures { PlacesAddPart }
 {}
 
-/// Behind no values, the number of each value of a part is that of its element.
+/// After no values, the number of each value of a part is that of its element.
 pub fn part_has_numbers()
     ensures { PartHasNumbers }
 {}
 
-/// The next part is of the elements behind those that were taken, and leaves what is behind both.
+/// The next part is of the elements after those that were taken, and leaves what is after both.
 pub fn parts_go_on()
     ensures { PartsGoOn }
 {}
@@ -105,7 +105,7 @@ pub fn end_is_all_taken()
     ensures { EndIsAllTaken }
 {}
 
-/// All parts of a selection, one behind the other until none is left, are what is selected.
+/// All parts of a selection, one after another until none is left, are what is selected.
 pub fn parts_are_selected()
     ensures { PartsAreSelected }
 {}
@@ -117,7 +117,7 @@ pub fn whole_slab_is_there()
     placed_file_keeps_all_rules();
 }
 
-/// The elements of a slab lie one behind the other: their bytes are the slab's.
+/// The elements of a slab lie one after another: their bytes are the slab's.
 pub fn whole_slab_adjoins()
     ensures { WholeSlabAdjoins }
 {

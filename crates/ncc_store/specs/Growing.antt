@@ -2,7 +2,7 @@
 use Rattle.std.specs.Prelude.{◌≡◌, ◌⊎◌, ℕ, List, ◌++◌, length, take}
 use Rattle.ncc_store.specs.Store.{written}
 
--- the old bytes stand, with any bytes behind them
+-- the old bytes stand, with any bytes after them
 abbrev pub Stands : (old new : List ℕ) → Type 0
 Stands old new = take (length old) new ≡ old
 

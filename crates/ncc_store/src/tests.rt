@@ -12,7 +12,7 @@ use std::test::Fail;
 
 pub mod steps;
 
-/// Puts a few bytes and an image behind the bytes, and syncs.
+/// Puts a few bytes and an image after the bytes, and syncs.
 fn stage<S: Store>(store: &mut S, size: u64, few: &[u8], image: &[u8]) -> Result<(), Device>
     requires size { IsTrue S.tells_bytes → size ≡ length (S.bytes store.old) }
     requires end { size + length few.now + length image.now < 2 ^ 63 }
@@ -79,7 +79,7 @@ fn grow<S: Store>(
 /// Twelve bytes with the count 1 at the place 4.
 const OLD: [u8; 12] = [67, 68, 70, 1, 0, 0, 0, 1, 5, 5, 5, 5];
 
-/// What is put behind them.
+/// What is put after them.
 const MORE: [u8; 12] = [7, 7, 8, 8, 8, 8, 8, 8, 8, 8, 8, 8];
 
 /// What the routine answers, and what it leaves, over a store that passes so many calls.
@@ -96,7 +96,7 @@ fn grown(
     Ok((answer, left, store.into_inner().into_bytes()))
 }
 
-/// The old bytes with this count, and so many behind them.
+/// The old bytes with this count, and so many after them.
 fn bytes_with(alloc: Global, count: u8, behind: usize) -> Result<Vec<u8>, AllocError> {
     let mut bytes = OLD.to_vec(alloc)?;
     bytes[7] = count;
@@ -105,7 +105,7 @@ fn bytes_with(alloc: Global, count: u8, behind: usize) -> Result<Vec<u8>, AllocE
     Ok(bytes)
 }
 
-/// How many bytes are behind the old ones after so many calls: of the image, a front.
+/// How many bytes follow the old ones after so many calls: of the image, a front.
 fn behind_after(passed: u64, front: usize) -> usize {
     if passed == 0 {
         0

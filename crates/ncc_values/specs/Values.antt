@@ -82,7 +82,7 @@ no_values UInt = UInts []
 no_values Int64 = Int64s []
 no_values UInt64 = UInt64s []
 
--- the values, and behind them those that the bytes spell
+-- the values, and after them those that the bytes spell
 abbrev pub with_bytes : Values → List ℕ → Values
 with_bytes (Bytes items) bytes = Bytes (items ++ elements_of (λ z. z) Byte bytes)
 with_bytes (Chars items) bytes = Chars (items ++ elements_of char_of Char bytes)

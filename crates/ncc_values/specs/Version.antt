@@ -3,7 +3,7 @@ use Rattle.std.specs.Prelude.{ℕ, Option, Some, None, ◌==◌, if◌then◌els
 use Rattle.ncc_values.specs.declared.version.Version.{Version}
 use Rattle.ncc_values.specs.declared.version.Version.TheVariants.{V1, V2, V5}
 
--- the byte behind the letters CDF
+-- the byte after the letters CDF
 abbrev pub byte_of : Version → ℕ
 byte_of V1 = 1
 byte_of V2 = 2

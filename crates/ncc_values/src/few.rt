@@ -21,7 +21,7 @@ pub(crate) enum Place<T, const N: usize> {
     Heap(Vec<T>),
 }
 
-/// A list of elements. Up to `N` of them, and 255, that were added one list behind the other lie in the
+/// A list of elements. Up to `N` of them, and 255, that were added one list after another lie in the
 /// value itself, and others in a `Vec`: no contract sees which.
 #[derive(Drop)]
 pub struct Few<T, const N: usize> {

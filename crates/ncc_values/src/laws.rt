@@ -1,4 +1,4 @@
-//! What stands of names.
+//! What holds of names.
 
 ghost use Rattle.std.specs.Prelude.{◌↔◌, IsTrue};
 ghost use Rattle.ncc_values.specs.Name.{FitsAsName, is_name};

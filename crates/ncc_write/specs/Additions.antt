@@ -1,4 +1,4 @@
--- A file that holds a dataset, and takes records more.
+-- A file that holds a dataset, and takes more records.
 use Rattle.std.specs.Prelude.{◌≡◌, ℕ, List}
 use Rattle.ncc_values.specs.declared.values.Values.{Values}
 use Rattle.ncc_schema.specs.declared.schema.Header.{Header}
@@ -21,7 +21,7 @@ pub record HoldsAll (bytes : List ℕ) (limit : ℕ) (places : List Place) (d : 
   pub places_are : places_of header.places ≡ places
   pub holds : HoldsValues bytes places d
 
--- and opened anew they take records more, until there is no room
+-- and opened anew they take more records, until there is no room
 pub record HoldsOn (bytes : List ℕ) (limit : ℕ) (places : List Place) (d : Dataset) : Type 0 where
   pub all : HoldsAll bytes limit places d
   pub again : (t : Schema) (q : Placed) → Opens bytes limit t q → CanGrow t q

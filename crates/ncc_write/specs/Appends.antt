@@ -8,7 +8,7 @@ use Rattle.ncc_check.specs.declared.append_error.AppendError.{AppendError}
 use Rattle.ncc_check.specs.declared.append_error.AppendError.TheVariants.{WrongValues, Memory, Device}
 use Rattle.ncc_write.specs.Records.{IsRecord, wrong_at}
 
--- the file takes a record more, and these are the slabs of one
+-- the file takes one more record, and these are the slabs of one
 pub record Takes (must_reopen : Bool) (s : Schema) (p : Placed) (slabs : List Values) : Type 0 where
   pub fresh : must_reopen ≡ false
   pub takes : TakesRecord s p

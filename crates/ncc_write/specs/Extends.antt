@@ -19,23 +19,23 @@ use Rattle.ncc_write.specs.Records.{bytes_of_record, fill_values, followed_by}
 
 -- ---- room
 
--- how long the file is with so many records more
+-- how long the file is with so many more records
 abbrev pub length_with : Placed → (more : ℕ) → ℕ
 length_with p zero = file_length_of p
 length_with p (suc k) = max (file_length_of p) (record_at p (records_of_file p + suc k))
 
--- with so many records more the count would be the streaming mark or past it, or the file longer than 2^63 - 1
+-- with so many more records the count would be the streaming mark or past it, or the file longer than 2^63 - 1
 abbrev pub IsFullFor : Version → Placed → (more : ℕ) → Type 0
 IsFullFor v p more = (streaming_mark v ≤ records_of_file p + more) ⊎ (2 ^ 63 ≤ length_with p more)
 
--- so many records more can be added, one by one
+-- so many more records can be added, one by one
 abbrev pub TakesRecords : Schema → Placed → (more : ℕ) → Type 0
 TakesRecords s p zero = Unit {0}
 TakesRecords s p (suc k) = CanGrow s p × (IsFullFor s.version p (suc k) → ⊥)
 
 -- ---- the answer
 
--- the first reason against one of so many records more; CountFull where there is no room for all of them
+-- the first reason against one of so many more records; CountFull where there is no room for all of them
 abbrev pub RefusesMore : (must_reopen : Bool) → Schema → Placed → (more : ℕ) → AppendError → Type 0
 RefusesMore failed s p more (WrongValues k) = ⊥
 RefusesMore failed s p more CountFull = (failed ≡ false) × CanGrow s p × IsFullFor s.version p more
@@ -50,7 +50,7 @@ ExtendsAs failed s p zero (Err e) = ⊥
 ExtendsAs failed s p (suc k) (Ok x) = (failed ≡ false) × TakesRecords s p (suc k)
 ExtendsAs failed s p (suc k) (Err e) = RefusesMore failed s p (suc k) e
 
--- one record more of known bytes: as `append` answers, but that its values can't be wrong
+-- one more record of known bytes: as `append` answers, but that its values can't be wrong
 abbrev pub AddsAs : (must_reopen : Bool) → Schema → Placed → Result (Unit {0}) AppendError → Type 0
 AddsAs failed s p (Ok x) = (failed ≡ false) × TakesRecord s p
 AddsAs failed s p (Err Device) = (failed ≡ false) × TakesRecord s p
@@ -66,7 +66,7 @@ abbrev pub vars_with : Placed → (more : ℕ) → List PlacedVar
 vars_with p zero = vars_of p
 vars_with p (suc k) = map (with_records (records_of_file p + suc k)) (vars_of p)
 
--- the same file with so many records more
+-- the same file with so many more records
 pub record HasRecords (s : Schema) (p : Placed) (more : ℕ) (t : Schema) (q : Placed) : Type 0 where
   pub schema_is : t ≡ schema_with s p more
   pub header_is : header_length_of q ≡ header_length_of p
@@ -77,7 +77,7 @@ pub record HasRecords (s : Schema) (p : Placed) (more : ℕ) (t : Schema) (q : P
 
 -- ---- its bytes
 
--- with so many records of fill values more, one by one: zeros that are missing, the record, and the count
+-- with so many more records of fill values, one by one: zeros that are missing, the record, and the count
 abbrev pub filled_bytes : (old : List ℕ) → Schema → Placed → (more : ℕ) → List ℕ
 filled_bytes old s p zero = old
 filled_bytes old s p (suc k) =
@@ -103,11 +103,11 @@ pub record LeavesFills (old : List ℕ) (s : Schema) (p : Placed) (t : Schema) (
 
 -- ---- datasets
 
--- the dataset with so many records of fill values more
+-- the dataset with so many more records of fill values
 abbrev pub with_fills : Dataset → (more : ℕ) → Dataset
 with_fills d more = followed_by d (replicate more (fill_values d.schema))
 
--- the bytes pass and hold the dataset with some records of fill values more, at most so many
+-- the bytes pass and hold the dataset with some more records of fill values, at most so many
 pub record HoldsSome (bytes : List ℕ) (limit : ℕ) (places : List Place) (d : Dataset) (most : ℕ) : Type 0 where
   pub more : ℕ
   pub few : more ≤ most

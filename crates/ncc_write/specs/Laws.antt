@@ -83,7 +83,7 @@ BytesAreData = (s : Schema) (taken : List ℕ) → Sound s → IsTyped s → IsK
 abbrev pub CompleteWhenTaken : Type 0
 CompleteWhenTaken = (s : Schema) (taken : List ℕ) → (next_of s taken ≡ None) ↔ (data_length s ≤ length taken)
 
--- what is written stays, whatever is taken more
+-- what is written stays, whatever more is taken
 abbrev pub WrittenStays : Type 0
 WrittenStays = (s : Schema) (taken more : List ℕ) → IsFront (written s taken) (written s (taken ++ more))
 
@@ -96,7 +96,7 @@ abbrev pub TakingGrows : Type 0
 TakingGrows = (s : Schema) (taken bytes : List ℕ) (k : ℕ) (n : Next) → IsWhole s taken → next_of s taken ≡ Some n
     → length bytes ≡ k * size_of n.slab.var.xtype → k ≤ n.left → Grows s taken bytes k n
 
--- the first place of all, and the place behind a slab that is full
+-- the first place of all, and the place after a slab that is full
 pub record ComesNext (s : Schema) : Type 0 where
   pub first : next_of s [] ≡ first_of s (slabs_of s)
   pub behind : (taken bytes : List ℕ) (n : Next) → IsWhole s taken → next_of s taken ≡ Some n

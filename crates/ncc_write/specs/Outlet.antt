@@ -1,4 +1,4 @@
--- A sink behind a buffer.
+-- A sink with a buffer before it.
 use Rattle.std.specs.Prelude.{◌≡◌, ℕ, ◌+◌, ◌*◌, ◌/◌, max, List, take}
 use Rattle.ncc_write.specs.declared.outlet.Outlet.{Outlet}
 

@@ -55,7 +55,7 @@ with_padding s b = bytes_of b.1 ++ padding_bytes s b.0
 abbrev pub whole_size : Schema → Var → ℕ
 whole_size s x = slab s.dims x + padding_in s x
 
--- slabs one behind the other, each with its padding
+-- slabs one after another, each with its padding
 abbrev pub in_turn : Schema → List Var → List Values → List ℕ
 in_turn s vars values = flat_map (with_padding s) (zip vars values)
 
@@ -64,7 +64,7 @@ bytes_of_record s slabs = in_turn s (record_vars s.dims s.vars) slabs
 
 -- ---- with more records
 
--- the dataset with these records behind its own
+-- the dataset with these records after its own
 abbrev pub followed_by : Dataset → (more : List (List Values)) → Dataset
 followed_by d more = record {
   schema = with_count d.schema (known d.schema.count + length more);

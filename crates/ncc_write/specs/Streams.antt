@@ -3,7 +3,7 @@ use Rattle.std.specs.Prelude.{◌≡◌, ℕ, List, ◌++◌, Option, Result, Ok
 use Rattle.ncc_schema.specs.Device.{Puts}
 use Rattle.ncc_schema.specs.declared.failed.Failed.{Failed}
 
--- some bytes more were put behind those that wait: what went out, and what waits now, are all of them; after a failure
+-- some more bytes were put after those that wait: what went out, and what waits now, are all of them; after a failure
 -- a front of them went out
 abbrev pub Streams : (old new : Option (List ℕ)) → (waits waiting : List ℕ) → (more : List ℕ)
     → Result (Unit {0}) Failed → Type 0

@@ -40,7 +40,7 @@ abbrev pub slabs_of_kind : Schema → (records : Bool) → List Slab
 slabs_of_kind s true = record_slabs s 0
 slabs_of_kind s false = fixed_slabs s
 
--- the turns of the fixed variables, and behind them those of a record
+-- the turns of the fixed variables, and after them those of a record
 pub record IsCourse (s : Schema) (c : Course) : Type 0 where
   pub turns : c.turns.items ≡ map (turn_for s) (fixed_slabs s ++ record_slabs s 0)
   pub fixed : c.fixed ≡ length (fixed_slabs s)

@@ -59,7 +59,7 @@ pub record Ends {W : Type 0} (missing : List ℕ) (start put : Option (List ℕ)
   pub out : Went start put (λ out. out ++ waiting x.outlet ++ missing ≡ written w.schema w.taken)
   pub pages : (given : ℕ) → given + length missing ≡ length (written w.schema w.taken) → PagesAreOut x w.schema given
 
--- so many elements of the slab that stand behind those that were taken: these bytes of theirs are put
+-- so many elements of the slab that stand after those that were taken: these bytes of theirs are put
 pub record Gives {W : Type 0} (bytes : List ℕ) (count : ℕ) (start put : Option (List ℕ)) (x : FileWriter W)
     (w : Standing) : Type 0 where
   pub schema : schema_in x ≡ w.schema

@@ -43,7 +43,7 @@ next_in s (b ∷ slabs) n =
     if ltb n size then Some (record { slab = b; left = (size - n) / size_of b.var.xtype })
     else next_in s slabs (n - size)
 
--- the bytes behind the last whole element
+-- the bytes after the last whole element
 abbrev pub part_in : Schema → List Slab → (taken : ℕ) → ℕ
 part_in s [] n = 0
 part_in s (b ∷ slabs) n =
@@ -54,7 +54,7 @@ part_in s (b ∷ slabs) n =
 abbrev pub next_of : Schema → (taken : List ℕ) → Option Next
 next_of s taken = next_in s (slabs_of s) (length taken)
 
--- the bytes taken end behind a whole element
+-- the bytes taken end after a whole element
 abbrev pub IsWhole : Schema → (taken : List ℕ) → Type 0
 IsWhole s taken = part_in s (slabs_of s) (length taken) ≡ 0
 
@@ -70,7 +70,7 @@ fixed_from s n = filter (λ b. not (is_record_var s.dims b.var)) (slabs_from 0 n
 abbrev pub record_from : Schema → (in_record number : ℕ) → List Slab
 record_from s r n = filter (λ b. is_record_var s.dims b.var) (slabs_from r n (drop n s.vars))
 
--- the slabs behind this one in writing order
+-- the slabs after this one in writing order
 abbrev pub slabs_behind : Schema → Slab → List Slab
 slabs_behind s b =
     if is_record_var s.dims b.var
@@ -114,11 +114,11 @@ refuses_finish w = if w.failed then Some Failed else refuses_unfinished (next_of
 abbrev pub with_taken : Standing → List ℕ → Standing
 with_taken w bytes = record { schema = w.schema; taken = bytes; failed = w.failed }
 
--- with these bytes behind those before
+-- with these bytes after those before
 abbrev pub with_more : Standing → List ℕ → Standing
 with_more w bytes = with_taken w (w.taken ++ bytes)
 
--- with these values behind those before
+-- with these values after those before
 abbrev pub with_values : Standing → Values → Standing
 with_values w values = with_more w (bytes_of values)
 
@@ -157,11 +157,11 @@ laid_in s (b ∷ slabs) taken =
 abbrev pub written : Schema → (taken : List ℕ) → List ℕ
 written s taken = header_of s ++ laid_in s (slabs_of s) taken
 
--- what is written once k elements more were taken, of those that are left of a slab: with the last of them its padding
+-- what is written once k more elements were taken, of those that are left of a slab: with the last of them its padding
 abbrev pub grown : Schema → Next → (old bytes : List ℕ) → (k : ℕ) → List ℕ
 grown s n old bytes k = if ltb k n.left then old ++ bytes else old ++ bytes ++ padding_bytes s n.slab.var
 
--- where a writer stands once k elements more were taken
+-- where a writer stands once k more elements were taken
 pub record Grows (s : Schema) (taken bytes : List ℕ) (k : ℕ) (n : Next) : Type 0 where
   pub whole : IsWhole s (taken ++ bytes)
   pub written_is : written s (taken ++ bytes) ≡ grown s n (written s taken) bytes k

@@ -8,7 +8,7 @@ use ncc_layout::Sizes;
 use ncc_schema::Schema;
 use std::alloc::{AllocError, Global};
 
-/// The turns of the fixed variables, and behind them those of the record variables, which come round in each record.
+/// The turns of the fixed variables, and after them those of the record variables, which come round in each record.
 #[derive(Drop)]
 pub(crate) struct Course {
     turns: Vec<Turn>,

@@ -119,7 +119,7 @@ fn put_slab_of(
     put_slab(image, place, turn_in(schema, placed, number, lone), values)
 }
 
-/// Puts the slabs of a record into the image, one behind the other.
+/// Puts the slabs of a record into the image, one after another.
 fn put_slabs(image: &mut [u8], schema: &Schema, placed: &Placed, slabs: &[Values])
     requires sizes { HasSizes schema.now placed.now }
     requires fits { IsRecord schema.now slabs.now }

@@ -46,7 +46,7 @@ pub fn complete_when_taken()
     ensures { CompleteWhenTaken }
 {}
 
-/// What is written stays, whatever is taken more.
+/// What is written stays, whatever more is taken.
 pub fn written_stays()
     ensures { WrittenStays }
 {}
@@ -63,7 +63,7 @@ pub fn taking_grows()
     ensures { TakingGrows }
 {}
 
-/// The first slab comes first, and behind a slab that is full the one behind it in writing order.
+/// The first slab comes first, and after a slab that is full the one after it in writing order.
 pub fn next_is_behind()
     ensures { NextIsBehind }
 {}
@@ -126,7 +126,7 @@ pub fn taking_all_completes()
     file_passes();
 }
 
-/// Where the count field of a canonical header, behind its first four bytes, is written again, the header is that of
+/// Where the count field of a canonical header, after its first four bytes, is written again, the header is that of
 /// the schema with that count.
 pub fn count_is_rewritten()
     ensures { CountIsRewritten }

@@ -1,4 +1,4 @@
-//! A sink behind a buffer.
+//! A sink with a buffer before it.
 
 ghost use Rattle.std.specs.Prelude.{◌≡◌, ◌<◌, ◌≤◌, ◌+◌, ◌*◌, ◌%◌, ℕ, [], length, take, drop, replicate, OnOk};
 ghost use Rattle.std.specs.List.{concat};
@@ -14,10 +14,10 @@ use ncc_values::Values;
 /// The bytes that go out at once.
 const PAGE: usize = 65_536;
 
-/// The buffer: a page, and room for a value that ends behind it.
+/// The buffer: a page, and room for a value that ends past it.
 pub(crate) const BUFFER: usize = 65_544;
 
-/// A sink behind a buffer, which goes out where what went out is then a multiple of 65,536 bytes.
+/// A sink with a buffer before it, which goes out where what went out is then a multiple of 65,536 bytes.
 #[derive(Drop)]
 pub(crate) struct Outlet<W> {
     sink: W,
@@ -67,7 +67,7 @@ impl<W: Sink> Outlet<W> {
         Ok(())
     }
 
-    /// Puts the values from `first` on behind what waits: `count` of them, which end at most a value behind a page.
+    /// Puts the values from `first` on after what waits: `count` of them, which end at most a value past a page.
     fn put_some(&mut self, values: &Values, first: usize, count: usize) -> Result<(), Failed>
         requires there { first + count ≤ count_of values.now }
         requires near { self.old.filled + count * size_of (type_of values.now) < self.old.full + 8 }
@@ -83,7 +83,7 @@ impl<W: Sink> Outlet<W> {
         self.hold(end)
     }
 
-    /// How many values of this size end at most one behind a page.
+    /// How many values of this size end at most one past a page.
     fn room_for(&self, size: usize) -> usize
         requires { 0 < size }
         ensures some { 0 < result }
@@ -92,7 +92,7 @@ impl<W: Sink> Outlet<W> {
         (self.full - self.filled - 1) / size + 1
     }
 
-    /// Puts all values behind what waits.
+    /// Puts all values after what waits.
     pub(crate) fn put_values(&mut self, values: &Values) -> Result<(), Failed>
         ensures streams { Streams (W.put (sink_of self.old)) (W.put (sink_of self.new))
             (waiting self.old) (waiting self.new)
@@ -111,7 +111,7 @@ impl<W: Sink> Outlet<W> {
         Ok(())
     }
 
-    /// Puts bytes behind what waits, which end at most where the page does.
+    /// Puts bytes after what waits, which end at most where the page does.
     fn put_piece(&mut self, piece: &[u8]) -> Result<(), Failed>
         requires { self.old.filled + length piece.now ≤ self.old.full }
         ensures streams { Streams (W.put (sink_of self.old)) (W.put (sink_of self.new))
@@ -125,7 +125,7 @@ impl<W: Sink> Outlet<W> {
         self.hold(end)
     }
 
-    /// Puts all of these bytes behind what waits.
+    /// Puts all of these bytes after what waits.
     pub(crate) fn put_bytes(&mut self, bytes: &[u8]) -> Result<(), Failed>
         ensures streams { Streams (W.put (sink_of self.old)) (W.put (sink_of self.new))
             (waiting self.old) (waiting self.new) bytes.now result }
@@ -142,7 +142,7 @@ impl<W: Sink> Outlet<W> {
         Ok(())
     }
 
-    /// Puts the bytes of a fill value behind what waits, `count` times, so that they end at most one behind a page.
+    /// Puts the bytes of a fill value after what waits, `count` times, so that they end at most one past a page.
     fn fill_some(&mut self, fill: &[u8], count: usize) -> Result<(), Failed>
         requires { self.old.filled + count * length fill.now < self.old.full + 8 }
         ensures streams { Streams (W.put (sink_of self.old)) (W.put (sink_of self.new))
@@ -156,7 +156,7 @@ impl<W: Sink> Outlet<W> {
         self.hold(end)
     }
 
-    /// Puts the bytes of a fill value behind what waits, `count` times.
+    /// Puts the bytes of a fill value after what waits, `count` times.
     pub(crate) fn put_fills(&mut self, fill: &[u8], count: u64) -> Result<(), Failed>
         requires some { 0 < length fill.now }
         requires short { length fill.now ≤ 8 }

@@ -18,7 +18,7 @@ use std::alloc::Global;
 
 /// A netCDF file that is being written. Its values are put slab by slab: the fixed variables as in the header, and
 /// then record by record, in each the record variables as in the header. They go out through a buffer of 65,536
-/// bytes and room for one value more, the last memory that is taken.
+/// bytes and room for one more value, the last memory that is taken.
 #[derive(Drop)]
 pub struct FileWriter<W> {
     built: Built,
@@ -135,7 +135,7 @@ impl<W: Sink> FileWriter<W> {
         self.open_slab()
     }
 
-    /// Goes on behind so many elements of the slab, whose bytes were put behind what waits.
+    /// Goes on after so many elements of the slab, whose bytes were put after what waits.
     fn go_on(&mut self, count: u64) -> Result<(), Failed>
         requires there { self.old.slab < self.old.course.slabs }
         requires room { count ≤ self.old.left }
@@ -212,7 +212,7 @@ impl<W: Sink> FileWriter<W> {
         }
     }
 
-    /// Takes the next values by their bytes, as `put` takes the values: as they stand in a file, one behind the other,
+    /// Takes the next values by their bytes, as `put` takes the values: as they stand in a file, one after another,
     /// each with its most significant byte first. A copy of a slab needs no values in between.
     pub fn put_bytes(&mut self, xtype: XType, bytes: &[u8]) -> Result<(), WriteFault>
         requires whole { length bytes.now % size_of xtype ≡ 0 }

@@ -42,8 +42,8 @@ pub fn kept_bytes_pass_on()
     placed_file_keeps_all_rules();
 }
 
-/// With a record more the bytes of an open file that takes it pass with the header that counts it, and are opened
-/// as exactly the same file with one record more.
+/// With one more record the bytes of an open file that takes it pass with the header that counts it, and are opened
+/// as exactly the same file with one more record.
 pub fn bytes_with_a_record_pass_on()
     ensures passes { (bytes image : List ℕ) (limit : ℕ) (s : Schema) (p : Placed) (o : Opens bytes limit s p)
         → TakesRecord s p → length image ≡ record_size_of_file p

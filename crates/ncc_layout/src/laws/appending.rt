@@ -1,4 +1,4 @@
-//! What the layout rules say of a longer file and of one record more, whatever program writes them.
+//! What the layout rules say of a longer file and of one more record, whatever program writes them.
 
 ghost use Rattle.std.specs.Prelude.{◌≡◌, ℕ, ◌+◌, ◌*◌, ◌≤◌, List, Option, Some, IfSome, false};
 ghost use Rattle.ncc_schema.specs.declared.schema.Count.TheVariants.{Known};
@@ -19,7 +19,7 @@ pub fn placed_in_longer()
         → s.count ≡ Known n → IsPlaced s places header file → file ≤ more → IsPlaced s places header more }
 {}
 
-/// A placed file is placed with one record more where it is no shorter, and has room for that record behind
+/// A placed file is placed with one more record where it is no shorter, and has room for that record after
 /// the others; without record variables it needs none.
 pub fn placed_with_one_more()
     ensures { (s : Schema) (places : List Place) (header file more n : ℕ) (first : Option ℕ)

@@ -36,7 +36,7 @@ fn words_fit(version: Version, sizes: &[u64]) -> bool
     true
 }
 
-/// Where the records begin: behind the header and the fixed variables.
+/// Where the records begin: after the header and the fixed variables.
 pub fn records_begin(schema: &Schema, sizes: &[u64], header: u64) -> u64
     requires sound { Sound schema.now }
     requires sizes { sizes.now ≡ map (rounded schema.now.dims) schema.now.vars }

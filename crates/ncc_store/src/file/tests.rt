@@ -141,7 +141,7 @@ const UNSYNCED: Step = Sync(Err(Device));
 const SHORT: Step = FailedRead(0, 8);
 
 /// Over a file that takes so many calls: steps, each with whether the file is pending and how often the store failed
-/// behind it, and the bytes.
+/// after it, and the bytes.
 type Row = (u64, [(Step, bool, u64); 3], &'static [u8]);
 
 // Seven bytes take four writes of two bytes at most: with fewer, a front is there.

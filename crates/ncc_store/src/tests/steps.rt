@@ -30,7 +30,7 @@ fn is_inside(told: Option<u64>, place: u64, count: usize) -> bool
     }
 }
 
-/// Whether a read gives these bytes and leaves what is behind them.
+/// Whether a read gives these bytes and leaves what is after them.
 fn reads<S: Store>(store: &mut S, told: Option<u64>, place: u64, wanted: &[u8]) -> bool
     requires { IsTrue S.tells_bytes → MatchOption told ⊥ (λ size. size ≤ length (S.bytes store.old)) }
 {

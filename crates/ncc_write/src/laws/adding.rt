@@ -1,4 +1,4 @@
-//! What a record more makes of a file that holds a dataset, each law the contract of a function that does nothing.
+//! What one more record makes of a file that holds a dataset, each law the contract of a function that does nothing.
 
 ghost use Rattle.std.specs.Prelude.{◌≡◌, ◌↔◌, ◌+◌, ℕ, List, [], ◌∷◌, ◌++◌, length, None};
 ghost use Rattle.ncc_values.specs.Numbers.{IsBytes};
@@ -60,8 +60,8 @@ pub fn opens_with_its_variables()
     header_or_stop();
 }
 
-/// With a record more the bytes of an open file hold the dataset with it, and where the old records stand they hold
-/// the old one; and they pass, and take records more.
+/// With one more record the bytes of an open file hold the dataset with it, and where the old records stand they hold
+/// the old one; and they pass, and take more records.
 pub fn append_holds()
     ensures grows { (bytes : List ℕ) (limit : ℕ) (places : List Place) (d : Dataset) (s : Schema) (p : Placed)
         (slabs : List Values) → Adds bytes limit places d s p slabs
@@ -78,7 +78,7 @@ pub fn append_holds()
     old_elements_stay();
 }
 
-/// A dataset with records more, and more behind these, is the dataset with all of them.
+/// A dataset with more records, and more after these, is the dataset with all of them.
 pub fn followed_twice()
     ensures twice { (d : Dataset) (a b : List (List Values)) → IsKnown d.schema.count
         → followed_by (followed_by d a) b ≡ followed_by d (a ++ b) }
