@@ -103,7 +103,7 @@ wrong "Checks, lists, reads, extends and converts netCDF classic files"
 wrong "error: unrecognized subcommand 'lst'" lst ocean.nc
 wrong "error: the following required arguments were not provided:" list
 wrong "error: the following required arguments were not provided:" check
-wrong "error: unexpected argument 'tiny.nc' found" list ocean.nc tiny.nc
+wrong "error: the argument '--files-from0 <LIST>' cannot be used with '[FILE]...'" list --files-from0 names ocean.nc
 wrong "error: unexpected argument '--all' found" list --all ocean.nc
 wrong "error: invalid value 'x' for '--max-header <N>': invalid digit found in string" check --max-header x ocean.nc
 wrong "error: invalid value '18446744073709551616' for '--max-header <N>': number too large to fit in target type" \
@@ -555,6 +555,118 @@ expect_first "convert of three files" 2 "" "error: unexpected argument 'new.nc' 
 expect_first "help of convert" 0 "Writes what a file holds into a new file, in another version" "" convert --help
 "$ncc" --help > out
 count "help names convert" 1 "$(grep -c '^  convert  ' out)"
+
+# ---- floats in decimal: an attribute and a variable of 0.1, -0, the fill value, NaN, infinity, the least float
+
+{
+  printf 'CDF\1\0\0\0\0\0\0\0\x0a\0\0\0\1\0\0\0\1x\0\0\0\0\0\0\6\0\0\0\x0c\0\0\0\1\0\0\0\1a\0\0\0\0\0\0\6\0\0\0\2'
+  printf '\x3f\xb9\x99\x99\x99\x99\x99\x9a\x47\x9e\0\0\0\0\0\0'
+  printf '\0\0\0\x0b\0\0\0\1\0\0\0\1v\0\0\0\0\0\0\1\0\0\0\0\0\0\0\0\0\0\0\0\0\0\0\5\0\0\0\x18\0\0\0\x74'
+  printf '\x3d\xcc\xcc\xcd\x80\0\0\0\x7c\xf0\0\0\x7f\xc0\0\1\xff\x80\0\0\0\0\0\1'
+} > floats.nc
+expect "floats by their bits" 0 "x,v
+0,0x3dcccccd
+1,0x80000000
+2,0x7cf00000
+3,0x7fc00001
+4,0xff800000
+5,0x00000001" "" csv floats.nc v
+expect "floats in decimal" 0 "x,v
+0,0.1
+1,-0
+2,9.96921e36
+3,NaN
+4,-Infinity
+5,1e-45" "" csv --decimal floats.nc v
+expect "list by bits" 0 "format CDF-1
+records 0
+dimension 0 x 6
+attribute global a double 2 0x3fb999999999999a 0x479e000000000000
+variable 0 v float fixed begin 116 dims 1 x" "" list floats.nc
+expect "list in decimal" 0 "format CDF-1
+records 0
+dimension 0 x 6
+attribute global a double 2 0.1 9.969209968386869e36
+variable 0 v float fixed begin 116 dims 1 x" "" list --decimal floats.nc
+
+# ---- several files
+
+tab=$(printf '\t')
+expect "check of several files" 3 "tiny.nc: ok CDF-1 records 0 variables 1
+bad_truncated_1.nc: fault Truncated at 60
+floats.nc: ok CDF-1 records 0 variables 1" "not_there.nc: error device
+.: error device" check tiny.nc not_there.nc bad_truncated_1.nc . floats.nc
+expect "check of several files, one of them bad" 1 "tiny.nc: ok CDF-1 records 0 variables 1
+bad_truncated_1.nc: fault Truncated at 60" "" check tiny.nc bad_truncated_1.nc
+expect "check of one file twice" 0 "tiny.nc: ok CDF-1 records 0 variables 1
+tiny.nc: ok CDF-1 records 0 variables 1" "" check tiny.nc tiny.nc
+expect "check in brief" 3 "0${tab}ok CDF-1 records 0 variables 1${tab}tiny.nc
+1${tab}fault Truncated at 60${tab}bad_truncated_1.nc
+3${tab}error device${tab}not_there.nc" "" check --brief tiny.nc bad_truncated_1.nc not_there.nc
+expect "check of one file in brief" 0 "0${tab}ok CDF-1 records 0 variables 1${tab}tiny.nc" "" check --brief tiny.nc
+expect "strict in brief" 1 "1${tab}ok CDF-1 records 2147483648 variables 2${tab}noted.nc" "" check --strict --brief noted.nc
+head -c 3 tiny.nc > cut
+expect "list of several files" 1 "tiny.nc: format CDF-1
+tiny.nc: records 0
+tiny.nc: dimension 0 dim 5
+tiny.nc: variable 0 vx short fixed begin 80 dims 1 dim
+cut: fault EndsEarly at 3" "" list tiny.nc cut
+printf 'tiny.nc\0bad_truncated_1.nc\0' > names
+expect "names from a list" 1 "tiny.nc: ok CDF-1 records 0 variables 1
+bad_truncated_1.nc: fault Truncated at 60" "" check --files-from0 names
+printf 'tiny.nc\0' > names
+expect "one name from a list" 0 "ok CDF-1 records 0 variables 1" "" check --files-from0 names
+printf 'tiny.nc' > names
+expect "a list that is cut in its only name" 3 "" "error device" check --files-from0 names
+printf 'floats.nc\0\0tiny.nc' > names
+expect "a list with an empty name that is cut" 3 "floats.nc: ok CDF-1 records 0 variables 1" ": error device
+tiny.nc: error device" check --files-from0 names
+: > names
+expect "an empty list" 0 "" "" check --files-from0 names
+expect "a list that isn't there" 3 "" "error device" check --files-from0 not_there
+count "names from standard input" "1 tiny.nc: ok CDF-1 records 0 variables 1 bad_truncated_1.nc: fault Truncated at 60 " \
+  "$(printf 'tiny.nc\0bad_truncated_1.nc\0' | "$ncc" check --files-from0 - > out 2> err; echo "$?" $(cat out) $(cat err))"
+count "list of standard input" "0 format CDF-1 records 0 dimension 0 dim 5 variable 0 vx short fixed begin 80 dims 1 dim" \
+  "$(cat tiny.nc | "$ncc" list - > out; echo "$?" $(cat out))"
+for n in $(seq 300); do printf 'tiny.nc\0'; done > names
+count "300 files, and a reader that goes" "tiny.nc: ok CDF-1 records 0 variables 1 0" \
+  "$("$ncc" check --files-from0 names 2> err | head -n 1) $(wc -c < err | tr -d ' ')"
+latin=$(printf 'caf\351.nc')
+cp tiny.nc "$latin"
+count "a name that isn't UTF-8" "3 tiny.nc: ok CDF-1 records 0 variables 1 error device ncc: the name isn't UTF-8" \
+  "$("$ncc" check --verbose "$latin" tiny.nc > out 2> err; echo "$?" $(cat out) $(LC_ALL=C sed "s/caf.*nc: //" err))"
+
+# ---- why something failed
+
+expect "no such file" 3 "" "error device
+ncc: not_there.nc: no such file" check --verbose not_there.nc
+expect "a folder, told" 3 "" "error device
+ncc: .: is a folder" list --verbose .
+expect "a file in place of a folder, told" 3 "" "error device
+ncc: tiny.nc/x: no such file" csv --verbose tiny.nc/x v
+expect "several files, told" 3 "tiny.nc: ok CDF-1 records 0 variables 1" "not_there.nc: error device
+ncc: not_there.nc: no such file" check --verbose not_there.nc tiny.nc
+expect "in brief, told" 3 "3${tab}error device${tab}not_there.nc" "ncc: not_there.nc: no such file" \
+  check --brief --verbose not_there.nc
+expect "an OUT that is there, told" 3 "" "error device
+ncc: floats.nc: exists already" convert --verbose --to 2 tiny.nc floats.nc
+expect "a list of numbers, told" 2 "" "error usage
+ncc: --start: '1,,2' is no list of numbers" csv --verbose tiny.nc vx --start 1,,2
+expect "a list of names, told" 3 "" "error device
+ncc: not_there: no such file" list --verbose --files-from0 not_there
+mkfifo pipe
+expect "a pipe" 3 "" "error device
+ncc: pipe: is a pipe or device, not a file" check --verbose pipe
+expect "a pipe to list" 3 "" "error device" list pipe
+expect "a device" 3 "" "error device
+ncc: /dev/zero: is a pipe or device, not a file" extend --verbose /dev/zero 1
+"$ncc" list --verbose tiny.nc > /dev/full 2> err
+count "a full output, told" "3 error device ncc: standard output: no space left" "$? $(echo $(cat err))"
+count "a reader that goes" "x,v 0" "$("$ncc" csv long.nc v 2> err | head -n 1) $(wc -c < err | tr -d ' ')"
+"$ncc" help faults > out
+count "help of faults" "37 0" "$(grep -c '^  [A-Z]' out) $?"
+for word in $(grep -oh '^  [A-Z][A-Za-z]*' out); do count "a fault of the program: $word" yes \
+  "$(grep -qrE "\"$word ?\"" "$top"/crates/ncc_lines/src "$top"/crates/ncc_csv/src "$top"/crates/ncc_convert/src && echo yes)"; done
 
 # ---- headers at the limit, and 4 bytes past it, where the last field is: its 48 bytes besides the values are
 # the fields, and the lines are 57 bytes besides them

@@ -33,11 +33,7 @@ fn send_label<W: Sink>(path: &[u8], sink: &mut W) -> Result<(), Failed>
 }
 
 /// Sends the first line of a text, with the path before it, and gives the lines after it.
-fn send_line<'a, W: Sink>(
-    path: &[u8],
-    text: &'a [u8],
-    sink: &mut W,
-) -> Result<&'a [u8], Failed>
+fn send_line<'a, W: Sink>(path: &[u8], text: &'a [u8], sink: &mut W) -> Result<&'a [u8], Failed>
     requires { 0 < length text.now }
     ensures shorter { IfOk result (λ rest. length rest.now < length text.now) }
     ensures sent { IfOk result (λ rest. (out : List ℕ) × Puts (W.put sink.old) (W.put sink.new) out
@@ -125,12 +121,7 @@ fn send_path<W: Sink>(path: &[u8], sink: &mut W) -> Result<(), Failed>
 }
 
 /// Sends an answer in one line.
-fn send_brief<W: Sink>(
-    path: &[u8],
-    answer: Answer,
-    text: &[u8],
-    sink: &mut W,
-) -> Result<(), Failed>
+fn send_brief<W: Sink>(path: &[u8], answer: Answer, text: &[u8], sink: &mut W) -> Result<(), Failed>
     ensures bytes { WritesAll (W.put sink.old) (W.put sink.new) result (brief_line answer text.now path.now) }
     ensures count { Counts (W.failures sink.old) (W.failures sink.new) result }
 {

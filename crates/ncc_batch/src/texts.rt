@@ -14,12 +14,7 @@ use ncc_store::Store;
 use std::alloc::Global;
 
 /// Writes the text of what is asked of a store's file.
-fn write_text<S: Store, W: Sink>(
-    alloc: Global,
-    store: &mut S,
-    work: Work,
-    sink: &mut W,
-) -> Answer
+fn write_text<S: Store, W: Sink>(alloc: Global, store: &mut S, work: Work, sink: &mut W) -> Answer
     ensures told { IsTrue S.tells_bytes → (out : List ℕ) × Puts (W.put sink.old) (W.put sink.new) out
         × Writes (TextsOf work (S.bytes store.old)) result out }
     ensures quiet { (result ≡ Answer.Device → ⊥)

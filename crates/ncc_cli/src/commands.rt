@@ -138,7 +138,9 @@ fn names_argument<'a>(alloc: Global) -> Result<Arg<'a>, AllocError> {
     Arg::new(alloc, "files-from0")
         .long("files-from0")
         .value_name("LIST")
-        .help("Takes the names of the files from LIST, each ended by a NUL byte; - is standard input")
+        .help(
+            "Takes the names of the files from LIST, each ended by a NUL byte; - is standard input",
+        )
         .action(ArgAction::Set)
         .conflicts_with("FILE")
 }
@@ -162,7 +164,11 @@ fn decimal_argument<'a>(alloc: Global) -> Arg<'a> {
 
 /// Whether a failure is explained.
 fn verbose_argument<'a>(alloc: Global) -> Arg<'a> {
-    flag(alloc, "verbose", "Says why, where a file can't be read or written")
+    flag(
+        alloc,
+        "verbose",
+        "Says why, where a file can't be read or written",
+    )
 }
 
 fn list_command<'a>(alloc: Global) -> Result<Command<'a>, AllocError> {

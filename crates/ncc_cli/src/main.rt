@@ -16,10 +16,10 @@ mod reasons;
 mod run;
 mod single;
 mod target;
-mod watched;
-mod words;
 #[cfg(test)]
 mod tests;
+mod watched;
+mod words;
 
 use ncc_engines::Answer;
 use progress::Terminals;

@@ -110,7 +110,14 @@ pub fn answer_many<R: Files<File = File> + Clock + AllocGlobal, O: Write, E: Wri
     };
     let line = ProgressLine::new(rt, err, shown.progress);
     let mut folder = Folder::new(rt, line, telling, all, cut);
-    let answered = answer_all(rt.alloc(), &mut folder, names.names.as_slice(), work, form, &mut sink);
+    let answered = answer_all(
+        rt.alloc(),
+        &mut folder,
+        names.names.as_slice(),
+        work,
+        form,
+        &mut sink,
+    );
     folder.end();
     let mut writer = sink.into_inner();
     match answered {

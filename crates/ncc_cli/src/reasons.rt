@@ -12,6 +12,8 @@ pub enum Reason {
     Exists,
     Full,
     ReadOnly,
+    /// The name isn't UTF-8, which the library of the system's calls wants.
+    NoText,
     /// Nobody reads the output any more.
     Closed,
     Other,
@@ -50,6 +52,7 @@ fn words(reason: Reason) -> &'static str {
         Reason::Exists => "exists already",
         Reason::Full => "no space left",
         Reason::ReadOnly => "read-only file system",
+        Reason::NoText => "the name isn't UTF-8",
         Reason::Closed => "nobody reads it",
         Reason::Other => "can't be read or written",
     }

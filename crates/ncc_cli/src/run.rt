@@ -70,7 +70,15 @@ fn csv<'a, R: Files<File = File> + Clock + AllocGlobal, O: Write, E: Write>(
     let name = line.bytes_of(words.get_str("FILE").unwrap_or(""));
     let variable = line.bytes_of(words.get_str("VAR").unwrap_or(""));
     let mut progress = ProgressLine::new(rt, err, shown.progress);
-    let ended = select(rt, name, variable, pick, style_given(words), out, &mut progress);
+    let ended = select(
+        rt,
+        name,
+        variable,
+        pick,
+        style_given(words),
+        out,
+        &mut progress,
+    );
     progress.end();
     ended
 }

@@ -192,7 +192,15 @@ fn send_vars<W: Sink>(
     ensures count { Blames (W.failures sink.old) (W.failures sink.new) result }
 {
     for (number, var) in vars.iter().enumerate() {
-        send_var(dims, number, offset_of(places, number), var, style, page, sink)?;
+        send_var(
+            dims,
+            number,
+            offset_of(places, number),
+            var,
+            style,
+            page,
+            sink,
+        )?;
     }
     Ok(())
 }

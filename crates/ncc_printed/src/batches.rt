@@ -125,7 +125,14 @@ fn several_files(rt: HostRuntime) -> Result<(), Fail> {
     for (work, form, answer, text) in ROWS {
         let mut shelf = Two::new(alloc)?;
         let mut sink = WriteSink::new(Vec::new(alloc));
-        let found = answer_all(alloc, &mut shelf, list.names.as_slice(), work, form, &mut sink);
+        let found = answer_all(
+            alloc,
+            &mut shelf,
+            list.names.as_slice(),
+            work,
+            form,
+            &mut sink,
+        );
         assert!(rt; found == Ok(answer));
         assert!(rt; sink.into_inner().as_slice() == text.as_bytes(), "{text}");
         assert_eq!(rt; shelf.told, 4);
@@ -143,7 +150,14 @@ fn outputs_of_several_files_that_fail(rt: HostRuntime) -> Result<(), Fail> {
         for calls in 0..8 {
             let mut shelf = Two::new(alloc)?;
             let mut sink = FuseSink::new(WriteSink::new(Vec::new(alloc)), calls, 5);
-            let found = answer_all(alloc, &mut shelf, list.names.as_slice(), work, form, &mut sink);
+            let found = answer_all(
+                alloc,
+                &mut shelf,
+                list.names.as_slice(),
+                work,
+                form,
+                &mut sink,
+            );
             assert!(rt; found != Ok(answer));
             let out = sink.into_inner().into_inner();
             assert!(rt; out.len() <= text.len());

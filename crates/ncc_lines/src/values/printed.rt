@@ -28,11 +28,7 @@ pub trait Printed: Copy {
         ensures { OnOk result (out.new.items ≡ out.old.items ++ text style self) };
 
     /// Adds the texts of a few values, one after the other.
-    fn print_all(
-        values: &[Self],
-        style: FloatStyle,
-        out: &mut Vec<u8>,
-    ) -> Result<(), AllocError>
+    fn print_all(values: &[Self], style: FloatStyle, out: &mut Vec<u8>) -> Result<(), AllocError>
         requires { length values.now ≤ PIECE }
         ensures { OnOk result (out.new.items ≡ out.old.items ++ flat_map (text style) values.now) }
     {
@@ -89,11 +85,7 @@ impl Printed for Char {
         push_escaped(out, self.0)
     }
 
-    fn print_all(
-        values: &[Char],
-        _style: FloatStyle,
-        out: &mut Vec<u8>,
-    ) -> Result<(), AllocError> {
+    fn print_all(values: &[Char], _style: FloatStyle, out: &mut Vec<u8>) -> Result<(), AllocError> {
         let mut room = [0; PIECE];
         let bytes = &mut room[..values.len()];
         copy_chars(values, bytes);

@@ -41,7 +41,15 @@ fn sheet_of(
         Ok(file) => {
             let mut file = file;
             let mut sink = WriteSink::new(Vec::new(alloc));
-            let answer = send_sheet(alloc, &mut file, var, slab, FloatStyle::Bits, &mut sink, &mut Unshown);
+            let answer = send_sheet(
+                alloc,
+                &mut file,
+                var,
+                slab,
+                FloatStyle::Bits,
+                &mut sink,
+                &mut Unshown,
+            );
             Ok(Some((answer, sink.into_inner())))
         }
         Err(_) => Ok(None),

@@ -58,7 +58,15 @@ fn sheet_of_zeros(
         Ok(file) => {
             let mut file = file;
             let mut sink = WriteSink::new(Vec::new(alloc));
-            let answer = send_sheet(alloc, &mut file, 0, &slab, FloatStyle::Bits, &mut sink, &mut told);
+            let answer = send_sheet(
+                alloc,
+                &mut file,
+                0,
+                &slab,
+                FloatStyle::Bits,
+                &mut sink,
+                &mut told,
+            );
             Ok(Some((answer, told, sink.into_inner())))
         }
         Err(_) => Ok(None),
