@@ -1,6 +1,6 @@
 /* The rows of `ncc csv` for the files of bench/values.py, by a program that knows each file by heart:
- * `csv_rows FILE TYPE BEGIN RANK LENGTH.. STRIDE`, where TYPE is b, s, f or d and STRIDE is that along the
- * last dimension. It checks nothing. */
+ * `csv_rows FILE TYPE BEGIN RANK LENGTH.. STRIDE`, where TYPE is b, s, f or d, or F or D for floats and doubles
+ * by printf with 9 and 17 digits, and STRIDE is that along the last dimension. It checks nothing. */
 #include <stdint.h>
 #include <stdio.h>
 #include <stdlib.h>
@@ -41,6 +41,22 @@ static void hexadecimal(const unsigned char *bytes, int size) {
     }
 }
 
+static void rounded(const unsigned char *bytes, int size) {
+    uint64_t bits = 0;
+    for (int i = 0; i < size; i++)
+        bits = bits << 8 | bytes[i];
+    if (size == 4) {
+        uint32_t half = bits;
+        float single;
+        memcpy(&single, &half, 4);
+        used += sprintf(out + used, "%.9g", single);
+    } else {
+        double wide;
+        memcpy(&wide, &bits, 8);
+        used += sprintf(out + used, "%.17g", wide);
+    }
+}
+
 static void value(char type, const unsigned char *bytes) {
     switch (type) {
     case 'b':
@@ -52,6 +68,12 @@ static void value(char type, const unsigned char *bytes) {
     case 'f':
         hexadecimal(bytes, 4);
         break;
+    case 'F':
+        rounded(bytes, 4);
+        break;
+    case 'D':
+        rounded(bytes, 8);
+        break;
     default:
         hexadecimal(bytes, 8);
     }
@@ -60,7 +82,7 @@ static void value(char type, const unsigned char *bytes) {
 int main(int argc, char **argv) {
     FILE *file = fopen(argv[1], "rb");
     char type = argv[2][0];
-    int rank = atoi(argv[4]), size = type == 'b' ? 1 : type == 's' ? 2 : type == 'f' ? 4 : 8;
+    int rank = atoi(argv[4]), size = type == 'b' ? 1 : type == 's' ? 2 : type == 'f' || type == 'F' ? 4 : 8;
     uint64_t lengths[8], index[8] = {0}, step = strtoull(argv[5 + rank], 0, 10);
     for (int i = 0; i < rank; i++)
         lengths[i] = strtoull(argv[5 + i], 0, 10);

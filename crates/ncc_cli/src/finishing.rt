@@ -43,17 +43,23 @@ pub struct Ended<'a> {
 
 /// Says on `err` what kept the command from its end, and with `told` why, and gives the status. Where nobody reads
 /// the output any more nothing is said.
-pub fn end<E: Write>(ended: Ended<'_>, output: Option<Reason>, told: bool, err: &mut E) -> u8
-    ensures { result ≡ status_of ended.answer }
+pub fn end<E: Write>(
+    answer: Answer,
+    trouble: Option<Trouble<'_>>,
+    output: Option<Reason>,
+    told: bool,
+    err: &mut E,
+) -> u8
+    ensures { result ≡ status_of answer }
 {
     if output == Some(Reason::Closed) {
-        return status(ended.answer);
+        return status(answer);
     }
-    let status = finish(ended.answer, err);
-    if told && ended.answer == Answer::Device {
-        tell_why(ended.trouble, output, err);
+    let ended = finish(answer, err);
+    if told && answer == Answer::Device {
+        tell_why(trouble, output, err);
     }
-    status
+    ended
 }
 
 /// Says on `err` which file failed, and why, or else that the output did.

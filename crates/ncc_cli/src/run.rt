@@ -163,17 +163,13 @@ fn run_files<R: Files<File = File> + Clock + AllocGlobal, I: Read, O: Write, E: 
         Ok(names) => names,
         Err(NoNames::Memory) => return finish(Answer::Memory, err),
         Err(NoNames::Failed(trouble)) => {
-            let ended = Ended {
-                answer: Answer::Device,
-                trouble: Some(trouble),
-            };
-            return end(ended, None, shown.reasons, err);
+            return end(Answer::Device, Some(trouble), None, shown.reasons, err);
         }
     };
     let work = work_given(command, words);
     let form = form_given(command, words);
-    let ended = answer_files(rt, &names, work, form, input, out, err, shown);
-    end(ended, out.reason(), shown.reasons, err)
+    let Ended { answer, trouble } = answer_files(rt, &names, work, form, input, out, err, shown);
+    end(answer, trouble, out.reason(), shown.reasons, err)
 }
 
 /// Runs the command of these words, and gives the status.
@@ -193,7 +189,7 @@ fn run_command<R: Files<File = File> + Clock + AllocGlobal, I: Read, O: Write, E
         progress: terminals.err && (!terminals.out || command == "convert"),
         reasons: terminals.err || words.get_flag("verbose"),
     };
-    let ended = match command {
+    let Ended { answer, trouble } = match command {
         "convert" => convert_given(rt, line, words, out, err, shown),
         "csv" => match pick_given(rt.alloc(), words) {
             Ok(pick) => csv(rt, line, words, pick, out, err, shown),
@@ -205,7 +201,7 @@ fn run_command<R: Files<File = File> + Clock + AllocGlobal, I: Read, O: Write, E
         }
         _ => return run_files(rt, line, command, words, input, out, err, shown),
     };
-    end(ended, out.reason(), shown.reasons, err)
+    end(answer, trouble, out.reason(), shown.reasons, err)
 }
 
 /// Runs the command that the command line names, and gives the program's status. Long work is shown on
@@ -223,7 +219,7 @@ pub fn run<R: Files<File = File> + Clock + AllocGlobal, I: Read, O: Write, E: Wr
     let mut out = Watched::new(out);
     if asks_for_faults(line.texts()) {
         let answer = shown(rt.alloc(), FAULTS, &mut out);
-        return end(plain(answer), out.reason(), terminals.err, err);
+        return end(answer, None, out.reason(), terminals.err, err);
     }
     let Ok(command) = command(rt.alloc()) else {
         return finish(Answer::Memory, err);
