@@ -33,7 +33,7 @@ IsTextAt work (Some b) a text = IsTextIn work b a text
 IsTextAt work None Passed text = ⊥
 IsTextAt work None Refused text = ⊥
 IsTextAt work None Device text = text ≡ []
-IsTextAt work None Memory text = text ≡ []
+IsTextAt work None Memory text = ⊥
 
 -- and what is shown of it
 abbrev pub IsAnswered : Work → Form → (path : List ℕ) → (bytes : Option (List ℕ)) → Answer → (out : List ℕ) → Type 0
@@ -59,14 +59,22 @@ AreAnswered file work form (p ∷ paths) (a ∷ answers) out = (one : List ℕ) 
     × IsAnswered work form p (file p) a one × AreAnswered file work form paths answers rest
 
 -- each answer that a device failed goes with a failure that was counted, or the count stands at its end
-abbrev pub AreCounted : (answers : List Answer) → (old new : ℕ) → Type 0
-AreCounted answers old new = (old + devices answers ≤ new) ⊎ (new ≡ last_count)
+abbrev pub AreFewer : (answers : List Answer) → (old new : ℕ) → Type 0
+AreFewer answers old new = (old + devices answers ≤ new) ⊎ (new ≡ last_count)
 
--- all of it went out, and the answer is the worst; or the output failed after a front of it
-abbrev pub IsBatch : (file : List ℕ → Option (List ℕ)) → Work → Form → (paths : List (List ℕ)) → (old new : ℕ)
+-- and without such an answer none was counted
+pub record AreCounted (answers : List Answer) (old new : ℕ) : Type 0 where
+  pub each : AreFewer answers old new
+  pub none : devices answers ≡ 0 → new ≡ old
+
+-- All of it went out, no path is left, and the answer is the worst. Or the output failed after a front of what is shown
+-- of one of the files, after all of those before it, and those after it are left.
+abbrev pub IsBatch : (file : List ℕ → Option (List ℕ)) → Work → Form → (paths left : List (List ℕ)) → (old new : ℕ)
     → (before after : Option (List ℕ)) → Result Answer Failed → Type 0
-IsBatch file work form paths old new before after (Ok answer) = (answers : List Answer) × (out : List ℕ)
-    × AreAnswered file work form paths answers out × (answer ≡ worst answers)
+IsBatch file work form paths left old new before after (Ok answer) = (answers : List Answer) × (out : List ℕ)
+    × AreAnswered file work form paths answers out × (left ≡ []) × (answer ≡ worst answers)
     × AreCounted answers old new × Puts before after out
-IsBatch file work form paths old new before after (Err e) = (answers : List Answer) × (out : List ℕ) × (rest : List ℕ)
-    × AreAnswered file work form paths answers (out ++ rest) × Puts before after out
+IsBatch file work form paths left old new before after (Err e) = (done : List (List ℕ)) × (path : List ℕ)
+    × (answers : List Answer) × (a : Answer) × (out : List ℕ) × (front : List ℕ) × (rest : List ℕ)
+    × (paths ≡ done ++ path ∷ left) × AreAnswered file work form done answers out
+    × IsAnswered work form path (file path) a (front ++ rest) × AreFewer answers old new × Puts before after (out ++ front)

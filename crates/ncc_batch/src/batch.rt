@@ -1,8 +1,7 @@
 //! Files one after the other.
 
-ghost use Rattle.std.specs.Prelude.{◌≡◌, ◌≤◌, IsTrue, IfOk};
+ghost use Rattle.std.specs.Prelude.{◌≡◌, ◌⊎◌, ◌≤◌, ◌∷◌, ℕ, List, drop, Ok, IsTrue, IfOk};
 ghost use Rattle.ncc_values.specs.Failures.{Rose, Counts};
-ghost use Rattle.ncc_engines.specs.declared.answer.Answer.{Answer as GivenAnswer};
 ghost use Rattle.ncc_batch.specs.Answered.{IsBatch, SendsOne};
 
 use crate::form::Form;
@@ -25,9 +24,12 @@ fn answer_one<F: Shelf, W: Sink>(
     form: Form,
     sink: &mut W,
 ) -> Result<Answer, Failed>
+    requires { IsTrue F.tells → (rest : List (List ℕ)) × (F.left shelf.old ≡ path.now ∷ rest) }
     ensures sends { IsTrue F.tells
         → SendsOne work form path.now (F.file shelf.old path.now) (W.put sink.old) (W.put sink.new) result }
     ensures file { F.file shelf.new ≡ F.file shelf.old }
+    ensures left { IsTrue F.tells → F.left shelf.new ≡ drop 1 (F.left shelf.old) }
+    ensures quiet { IfOk result (λ a. (a ≡ Answer.Device → ⊥) → F.failures shelf.new ≡ F.failures shelf.old) }
     ensures device { IfOk result (λ a. a ≡ Answer.Device → Rose (F.failures shelf.old) (F.failures shelf.new)) }
     ensures grows { F.failures shelf.old ≤ F.failures shelf.new }
     ensures count { Counts (W.failures sink.old) (W.failures sink.new) result }
@@ -38,8 +40,9 @@ fn answer_one<F: Shelf, W: Sink>(
     Ok(answer)
 }
 
-/// Shows what is asked of the files of all these paths, in order, and gives the worst answer. A file that can't be
-/// opened or fails, or for which there is no memory, stops none of the others; an output that fails does.
+/// Shows what is asked of the files of all these paths, in order, each opened once, and gives the worst answer. A
+/// file that can't be opened or fails, or for which there is no memory, stops none of the others; an output that
+/// fails does.
 pub fn answer_all<F: Shelf, W: Sink>(
     alloc: Global,
     shelf: &mut F,
@@ -48,8 +51,12 @@ pub fn answer_all<F: Shelf, W: Sink>(
     form: Form,
     sink: &mut W,
 ) -> Result<Answer, Failed>
-    ensures batch { IsTrue F.tells → IsBatch (F.file shelf.old) work form paths.now
+    requires { IsTrue F.tells → F.left shelf.old ≡ paths.now }
+    ensures batch { IsTrue F.tells → IsBatch (F.file shelf.old) work form paths.now (F.left shelf.new)
         (F.failures shelf.old) (F.failures shelf.new) (W.put sink.old) (W.put sink.new) result }
+    ensures device { result ≡ Ok Answer.Device → Rose (F.failures shelf.old) (F.failures shelf.new) }
+    ensures quiet { (result ≡ Ok Answer.Passed) ⊎ (result ≡ Ok Answer.Refused)
+        → F.failures shelf.new ≡ F.failures shelf.old }
     ensures count { Counts (W.failures sink.old) (W.failures sink.new) result }
 {
     let mut answer = Answer::Passed;

@@ -1,8 +1,9 @@
 //! The answer of a file, and its text in memory.
 
-ghost use Rattle.std.specs.Prelude.{◌≡◌, ◌⊎◌, ◌≤◌, ℕ, List, IsTrue};
+ghost use Rattle.std.specs.Prelude.{◌≡◌, ◌⊎◌, ◌≤◌, ◌∷◌, ℕ, List, drop, IsTrue};
 ghost use Rattle.ncc_values.specs.Failures.{Rose};
 ghost use Rattle.ncc_schema.specs.Device.{Puts};
+ghost use Rattle.ncc_store.specs.Store.{KeepsImages, Unmoved};
 ghost use Rattle.ncc_engines.specs.Answers.{Writes};
 ghost use Rattle.ncc_batch.specs.Answered.{TextsOf, IsTextIn, IsTextAt};
 
@@ -21,6 +22,8 @@ fn write_text<S: Store, W: Sink>(alloc: Global, store: &mut S, work: Work, sink:
         → (S.failures store.new ≡ S.failures store.old) × (W.failures sink.new ≡ W.failures sink.old) }
     ensures device { result ≡ Answer.Device
         → Rose (S.failures store.old) (S.failures store.new) ⊎ Rose (W.failures sink.old) (W.failures sink.new) }
+    ensures unmoved { Unmoved S.bytes S.images S.moment S.images_since store.old store.new }
+    ensures kept { KeepsImages (S.images store.old) (S.images store.new) }
 {
     match work {
         Work::Check { limit, strict } => check_engine(alloc, store, limit, strict, sink),
@@ -34,6 +37,8 @@ fn text_in<S: Store>(alloc: Global, store: &mut S, work: Work) -> (Answer, Vec<u
     ensures device { result.0 ≡ Answer.Device → Rose (S.failures store.old) (S.failures store.new) }
     ensures quiet { (result.0 ≡ Answer.Device → ⊥) → (result.0 ≡ Answer.Memory → ⊥)
         → S.failures store.new ≡ S.failures store.old }
+    ensures unmoved { Unmoved S.bytes S.images S.moment S.images_since store.old store.new }
+    ensures kept { KeepsImages (S.images store.old) (S.images store.new) }
 {
     let mut sink = WriteSink::new(Vec::new(alloc));
     let answer = write_text(alloc, store, work, &mut sink);
@@ -53,7 +58,10 @@ pub(crate) fn text_at<F: Shelf>(
     path: &[u8],
     work: Work,
 ) -> (Answer, Vec<u8>)
+    requires { IsTrue F.tells → (rest : List (List ℕ)) × (F.left shelf.old ≡ path.now ∷ rest) }
     ensures told { IsTrue F.tells → IsTextAt work (F.file shelf.old path.now) result.0 result.1.items }
+    ensures left { IsTrue F.tells → F.left shelf.new ≡ drop 1 (F.left shelf.old) }
+    ensures quiet { (result.0 ≡ Answer.Device → ⊥) → F.failures shelf.new ≡ F.failures shelf.old }
     ensures file { F.file shelf.new ≡ F.file shelf.old }
     ensures device { result.0 ≡ Answer.Device → Rose (F.failures shelf.old) (F.failures shelf.new) }
     ensures grows { F.failures shelf.old ≤ F.failures shelf.new }

@@ -7,6 +7,7 @@ ghost use Rattle.ncc_batch.specs.Shown.{status_of};
 ghost use Rattle.ncc_cli.specs.Status.{Explains, Flushes};
 
 use crate::reasons::{Reason, Trouble, tell_trouble};
+use crate::watched::Watched;
 use clap::Error;
 use clap::error::ErrorKind;
 use ncc_batch::status;
@@ -100,7 +101,12 @@ pub fn shown<O: Write>(alloc: Global, text: &str, out: &mut O) -> Answer
 }
 
 /// Writes the parser's own text: help to `out`, and faults of the command line to `err`.
-pub fn explain<O: Write, E: Write>(alloc: Global, error: &Error, out: &mut O, err: &mut E) -> u8
+pub fn explain<O: Write, E: Write>(
+    alloc: Global,
+    error: &Error,
+    out: &mut Watched<O>,
+    err: &mut E,
+) -> u8
     ensures { Explains (kind_of error.now) result }
 {
     if error.kind() == ErrorKind::OutOfMemory {
@@ -113,5 +119,6 @@ pub fn explain<O: Write, E: Write>(alloc: Global, error: &Error, out: &mut O, er
         let _ = err.write_all(text.as_bytes());
         return USAGE;
     }
-    finish(shown(alloc, &text, out), err)
+    let answer = shown(alloc, &text, out);
+    end(answer, None, out.reason(), false, err)
 }

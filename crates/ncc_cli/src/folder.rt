@@ -1,6 +1,7 @@
 //! Files of the system, one after the other, and what is told of those that fail.
 
-ghost use Rattle.std.specs.Prelude.{◌≤◌, false, None};
+ghost use Rattle.std.specs.Prelude.{◌≡◌, ◌≤◌, false, None, [], IfOk};
+ghost use Rattle.ncc_store.specs.File.{file_failures};
 ghost use Rattle.ncc_values.specs.Failures.{last_count};
 
 use crate::finishing::finish;
@@ -67,7 +68,10 @@ impl<'a, R: Files<File = File> + Clock, E: Write> Folder<'a, R, E> {
     }
 
     /// The next file, or why it isn't there.
-    fn next(&mut self, path: &[u8]) -> Result<FileStore, Reason> {
+    fn next(&mut self, path: &[u8]) -> Result<FileStore, Reason>
+        ensures fresh { IfOk result (λ f. file_failures f ≡ 0) }
+        ensures count { self.new.failures ≡ self.old.failures }
+    {
         let number = self.opened;
         self.opened = number.saturating_add(1);
         self.line.files(number, self.all);
@@ -84,6 +88,10 @@ impl<'a, R: Files<File = File> + Clock, E: Write> Shelf for Folder<'a, R, E> {
     ghost tells = { false };
 
     ghost file = { λ _ _. None };
+
+    ghost left = { λ _. [] };
+
+    ghost held = { λ _. [] };
 
     ghost failures = { λ s. s.failures };
 

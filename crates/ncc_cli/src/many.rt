@@ -84,7 +84,7 @@ pub fn names_given<'a, R: Files<File = File> + AllocGlobal, I: Read>(
     })
 }
 
-/// Shows what is asked of these files, one after the other.
+/// Shows what is asked of these files, one after the other, and says whether all that failed was told.
 pub fn answer_many<R: Files<File = File> + Clock + AllocGlobal, O: Write, E: Write>(
     rt: &R,
     names: &FileNames,
@@ -93,9 +93,9 @@ pub fn answer_many<R: Files<File = File> + Clock + AllocGlobal, O: Write, E: Wri
     shown: Shown,
     out: &mut O,
     err: &mut E,
-) -> Answer {
+) -> (Answer, bool) {
     let Ok(writer) = BufWriter::new(rt.alloc(), out) else {
-        return Answer::Memory;
+        return (Answer::Memory, false);
     };
     let mut sink = WriteSink::new(writer);
     let all = names.names.len() as u64;
@@ -121,7 +121,10 @@ pub fn answer_many<R: Files<File = File> + Clock + AllocGlobal, O: Write, E: Wri
     folder.end();
     let mut writer = sink.into_inner();
     match answered {
-        Ok(answer) => flushed(&mut writer, answer),
-        Err(_) => Answer::Device,
+        Ok(answer) => {
+            let whole = flushed(&mut writer, answer);
+            (whole, whole == answer)
+        }
+        Err(_) => (Answer::Device, false),
     }
 }

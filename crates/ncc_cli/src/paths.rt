@@ -1,5 +1,8 @@
 //! Opening files by their names.
 
+ghost use Rattle.std.specs.Prelude.{◌≡◌, IfOk};
+ghost use Rattle.ncc_store.specs.File.{file_writes, file_failures};
+
 use crate::reasons::{Reason, reason_of};
 use ncc_store::FileStore;
 use std::fs::{File, OpenOptions};
@@ -37,7 +40,10 @@ pub fn open_store<R: Files<File = File>>(
     rt: &R,
     name: &[u8],
     write: bool,
-) -> Result<FileStore, Reason> {
+) -> Result<FileStore, Reason>
+    ensures writes { IfOk result (λ f. file_writes f ≡ write) }
+    ensures count { IfOk result (λ f. file_failures f ≡ 0) }
+{
     let path = path_of(name)?;
     expect_file(rt, path)?;
     match FileStore::open(rt, path, write) {

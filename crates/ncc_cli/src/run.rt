@@ -14,21 +14,13 @@ use crate::single::{check, extend, list, select};
 use crate::watched::Watched;
 use crate::words::Words;
 use clap::ArgMatches;
-use ncc_batch::{FileNames, Form, Work};
+use ncc_batch::{FileNames, Form, Work, status};
 use ncc_csv::Pick;
 use ncc_engines::Answer;
 use ncc_lines::{FloatStyle, Progress};
 use std::fs::File;
 use std::io::{Read, Write};
 use std::rt::{Clock, Files};
-
-/// An answer, where no file failed.
-fn plain<'a>(answer: Answer) -> Ended<'a> {
-    Ended {
-        answer,
-        trouble: None,
-    }
-}
 
 /// How floats are shown.
 fn style_given(words: &ArgMatches) -> FloatStyle {
@@ -83,28 +75,45 @@ fn csv<'a, R: Files<File = File> + Clock + AllocGlobal, O: Write, E: Write>(
     ended
 }
 
-/// Checks or lists the files that the words name, or a list.
-fn answer_files<'a, R: Files<File = File> + Clock + AllocGlobal, I: Read, O: Write, E: Write>(
+/// Checks or lists one file, and gives the status.
+fn answer_one_of<R: Files<File = File> + Clock + AllocGlobal, I: Read, O: Write, E: Write>(
     rt: &R,
-    names: &'a FileNames,
+    names: &FileNames,
+    name: &[u8],
     work: Work,
-    form: Form,
+    reads_input: bool,
     input: &mut I,
-    out: &mut O,
+    out: &mut Watched<O>,
     err: &mut E,
     shown: Shown,
-) -> Ended<'a> {
-    let Some(name) = only_file(names, form) else {
-        let answer = answer_many(rt, names, work, form, shown, out, err);
-        return plain(answer);
-    };
-    if names.is_cut {
-        return cut_off(name);
-    }
-    match work {
+) -> u8
+    ensures { result ≤ 3 }
+{
+    let Ended { answer, trouble } = match work {
+        _ if names.is_cut => cut_off(name),
         Work::Check { limit, strict } => check(rt, name, limit, strict, out),
-        Work::List { limit: _, style } => list(rt, name, style, input, out),
+        Work::List { limit: _, style } => list(rt, name, style, reads_input, input, out),
+    };
+    end(answer, trouble, out.reason(), shown.reasons, err)
+}
+
+/// Checks or lists several files, and gives the status.
+fn answer_all_of<R: Files<File = File> + Clock + AllocGlobal, O: Write, E: Write>(
+    rt: &R,
+    names: &FileNames,
+    work: Work,
+    form: Form,
+    out: &mut Watched<O>,
+    err: &mut E,
+    shown: Shown,
+) -> u8
+    ensures { result ≤ 3 }
+{
+    let (answer, told) = answer_many(rt, names, work, form, shown, out, err);
+    if told && out.reason().is_none() {
+        return status(answer);
     }
+    end(answer, None, out.reason(), shown.reasons, err)
 }
 
 /// What is asked of files by `check` or `list`.
@@ -147,11 +156,11 @@ fn convert_given<'a, R: Files<File = File> + Clock + AllocGlobal, O: Write, E: W
 }
 
 /// Runs `check` or `list`, and gives the status.
-fn run_files<R: Files<File = File> + Clock + AllocGlobal, I: Read, O: Write, E: Write>(
+fn run_files<'a, R: Files<File = File> + Clock + AllocGlobal, I: Read, O: Write, E: Write>(
     rt: &R,
-    line: &Words,
+    line: &'a Words,
     command: &str,
-    words: &ArgMatches,
+    words: &'a ArgMatches<'a>,
     input: &mut I,
     out: &mut Watched<O>,
     err: &mut E,
@@ -168,16 +177,19 @@ fn run_files<R: Files<File = File> + Clock + AllocGlobal, I: Read, O: Write, E: 
     };
     let work = work_given(command, words);
     let form = form_given(command, words);
-    let Ended { answer, trouble } = answer_files(rt, &names, work, form, input, out, err, shown);
-    end(answer, trouble, out.reason(), shown.reasons, err)
+    let Some(name) = only_file(&names, form) else {
+        return answer_all_of(rt, &names, work, form, out, err, shown);
+    };
+    let reads_input = words.get_str("files-from0").is_none();
+    answer_one_of(rt, &names, name, work, reads_input, input, out, err, shown)
 }
 
 /// Runs the command of these words, and gives the status.
-fn run_command<R: Files<File = File> + Clock + AllocGlobal, I: Read, O: Write, E: Write>(
+fn run_command<'a, R: Files<File = File> + Clock + AllocGlobal, I: Read, O: Write, E: Write>(
     rt: &R,
-    line: &Words,
+    line: &'a Words,
     command: &str,
-    words: &ArgMatches,
+    words: &'a ArgMatches<'a>,
     input: &mut I,
     out: &mut Watched<O>,
     err: &mut E,

@@ -50,15 +50,16 @@ fn list_reader<I: Read + Drop, O: Write>(
     flushed(&mut writer, answer)
 }
 
-/// Lists the header of a file, or of standard input.
+/// Lists the header of a file, or with `reads_input` of standard input where it is named `-`.
 pub fn list<'a, R: Files<File = File> + AllocGlobal, I: Read, O: Write>(
     rt: &R,
     name: &'a [u8],
     style: FloatStyle,
+    reads_input: bool,
     input: &mut I,
     out: &mut O,
 ) -> Ended<'a> {
-    if name == b"-".as_slice() {
+    if reads_input && name == b"-".as_slice() {
         return ended(name, list_reader(rt.alloc(), input, style, out));
     }
     match open_file(rt, name) {
