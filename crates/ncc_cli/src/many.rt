@@ -65,7 +65,7 @@ fn list_bytes<'a, R: Files<File = File>, I: Read>(
 pub fn names_given<'a, R: Files<File = File> + AllocGlobal, I: Read>(
     rt: &R,
     line: &'a Words,
-    words: &'a ArgMatches<'a>,
+    words: &ArgMatches<'a>,
     input: &mut I,
 ) -> Result<FileNames, NoNames<'a>> {
     let alloc = rt.alloc();

@@ -53,7 +53,7 @@ fn cut_off(name: &[u8]) -> Ended<'_> {
 fn csv<'a, R: Files<File = File> + Clock + AllocGlobal, O: Write, E: Write>(
     rt: &R,
     line: &'a Words,
-    words: &'a ArgMatches<'a>,
+    words: &ArgMatches<'a>,
     pick: Pick,
     out: &mut O,
     err: &mut E,
@@ -143,7 +143,7 @@ fn form_given(command: &str, words: &ArgMatches) -> Form {
 fn convert_given<'a, R: Files<File = File> + Clock + AllocGlobal, O: Write, E: Write>(
     rt: &R,
     line: &'a Words,
-    words: &'a ArgMatches<'a>,
+    words: &ArgMatches<'a>,
     out: &mut O,
     err: &mut E,
     shown: Shown,
@@ -160,7 +160,7 @@ fn run_files<'a, R: Files<File = File> + Clock + AllocGlobal, I: Read, O: Write,
     rt: &R,
     line: &'a Words,
     command: &str,
-    words: &'a ArgMatches<'a>,
+    words: &ArgMatches<'a>,
     input: &mut I,
     out: &mut Watched<O>,
     err: &mut E,
@@ -189,7 +189,7 @@ fn run_command<'a, R: Files<File = File> + Clock + AllocGlobal, I: Read, O: Writ
     rt: &R,
     line: &'a Words,
     command: &str,
-    words: &'a ArgMatches<'a>,
+    words: &ArgMatches<'a>,
     input: &mut I,
     out: &mut Watched<O>,
     err: &mut E,
@@ -228,7 +228,7 @@ pub fn run<R: Files<File = File> + Clock + AllocGlobal, I: Read, O: Write, E: Wr
 ) -> u8
     ensures { result ≤ 3 }
 {
-    let mut out = Watched::new(out);
+    let mut out = Watched::new(&mut *out);
     if asks_for_faults(line.texts()) {
         let answer = shown(rt.alloc(), FAULTS, &mut out);
         return end(answer, None, out.reason(), terminals.err, err);
