@@ -120,70 +120,24 @@ expect "no such file to select from" 3 "" "error device" csv not_there.nc time
 
 # ---- help
 
-expect "help of list" 0 "Lists what the header of a file says
-
-Usage: ncc list <FILE>
-
-Arguments:
-  <FILE>  A netCDF classic file
-
-Options:
-  -h, --help  Print help
-
-A header may have 67,108,864 bytes; a longer one is the fault HeaderTooLong.
-
-Status:
-  0  listed
-  1  the header has a fault, which is the only line
-  2  the command line is wrong
-  3  a device or memory failed" "" list --help
-expect "help of check" 0 "Says whether a file is sound, and what is unusual in it
-
-Usage: ncc check [OPTIONS] <FILE>
-
-Arguments:
-  <FILE>  A netCDF classic file
-
-Options:
-      --strict          Refuses a file that has a note
-      --max-header <N>  How many bytes a header may have
-  -h, --help            Print help
-
-A header may have 67,108,864 bytes, or as many as --max-header says; a longer one is the
-fault HeaderTooLong.
-
-Status:
-  0  it passed
-  1  it has a fault, which is the only line, or with --strict a note
-  2  the command line is wrong
-  3  a device or memory failed" "" check --help
-expect "help of csv" 0 "Prints the values of a variable, or of a selection of them
-
-Usage: ncc csv [OPTIONS] <FILE> <VAR>
-
-Arguments:
-  <FILE>  A netCDF classic file
-  <VAR>   The name of a variable
-
-Options:
-      --start <A>   The first index along each dimension
-      --count <A>   How many indices along each dimension
-      --stride <A>  The step from one index to the next
-  -h, --help        Print help
-
-A is a list of numbers with commas between them, one for each dimension. What isn't given
-is 0 for the start, 1 for the stride, and for the count as many indices as there are.
-
-The first row names the dimensions and the variable. Each other row has the indices of an
-element in the whole array, and its value; a char is the number of its byte, and a float or
-a double is shown by its bits.
-
-Status:
-  0  selected
-  1  the file has a fault or the selection is refused, which is the only line
-  2  the command line is wrong
-  3  a device or memory failed" "" csv --help
-expect_first "help by a word" 0 "Lists what the header of a file says" "" help list
+# The help of a command: what it is for, an example that begins with it, and these options, in order.
+while IFS='|' read -r command about options; do
+  "$ncc" "$command" --help > out 2> err
+  count "help of $command" "0 $about" "$? $(head -n 1 out)$(cat err)"
+  count "help of $command: its example" "  ncc $command " \
+    "$(grep -A 1 '^Example:$' out | tail -n 1 | grep -o "^  ncc $command ")"
+  count "help of $command: its options" "$options" \
+    "$(grep -oE '^ +(-h, )?--[a-z0-9-]+' out | grep -oE -- '--[a-z0-9-]+$' | paste -sd ' ')"
+  count "help of $command: its statuses" "  2  the command line is wrong|  3  a device or memory failed" \
+    "$(tail -n 2 out | paste -sd '|')"
+done <<'END'
+check|Says whether files are sound, and what is unusual in them|--strict --brief --max-header --files-from0 --verbose --help
+convert|Writes what a file holds into a new file, in another version|--to --verbose --help
+csv|Prints the values of a variable, or of a selection of them|--start --count --stride --decimal --verbose --help
+extend|Adds records of fill values to a file|--verbose --help
+list|Lists what the headers of files say|--decimal --files-from0 --verbose --help
+END
+expect_first "help by a word" 0 "Lists what the headers of files say" "" help list
 "$ncc" --help > out
 count "help begins with what it is for" "Checks, lists, reads, extends and converts netCDF classic files||Usage: ncc <COMMAND>" \
   "$(head -n 3 out | paste -sd '|')"
@@ -561,7 +515,7 @@ count "help names convert" 1 "$(grep -c '^  convert  ' out)"
 {
   printf 'CDF\1\0\0\0\0\0\0\0\x0a\0\0\0\1\0\0\0\1x\0\0\0\0\0\0\6\0\0\0\x0c\0\0\0\1\0\0\0\1a\0\0\0\0\0\0\6\0\0\0\2'
   printf '\x3f\xb9\x99\x99\x99\x99\x99\x9a\x47\x9e\0\0\0\0\0\0'
-  printf '\0\0\0\x0b\0\0\0\1\0\0\0\1v\0\0\0\0\0\0\1\0\0\0\0\0\0\0\0\0\0\0\0\0\0\0\5\0\0\0\x18\0\0\0\x74'
+  printf '\0\0\0\x0b\0\0\0\1\0\0\0\1v\0\0\0\0\0\0\1\0\0\0\0\0\0\0\0\0\0\0\0\0\0\0\5\0\0\0\x18\0\0\0\x70'
   printf '\x3d\xcc\xcc\xcd\x80\0\0\0\x7c\xf0\0\0\x7f\xc0\0\1\xff\x80\0\0\0\0\0\1'
 } > floats.nc
 expect "floats by their bits" 0 "x,v
@@ -582,12 +536,12 @@ expect "list by bits" 0 "format CDF-1
 records 0
 dimension 0 x 6
 attribute global a double 2 0x3fb999999999999a 0x479e000000000000
-variable 0 v float fixed begin 116 dims 1 x" "" list floats.nc
+variable 0 v float fixed begin 112 dims 1 x" "" list floats.nc
 expect "list in decimal" 0 "format CDF-1
 records 0
 dimension 0 x 6
 attribute global a double 2 0.1 9.969209968386869e36
-variable 0 v float fixed begin 116 dims 1 x" "" list --decimal floats.nc
+variable 0 v float fixed begin 112 dims 1 x" "" list --decimal floats.nc
 
 # ---- several files
 
@@ -624,7 +578,7 @@ tiny.nc: error device" check --files-from0 names
 : > names
 expect "an empty list" 0 "" "" check --files-from0 names
 expect "a list that isn't there" 3 "" "error device" check --files-from0 not_there
-count "names from standard input" "1 tiny.nc: ok CDF-1 records 0 variables 1 bad_truncated_1.nc: fault Truncated at 60 " \
+count "names from standard input" "1 tiny.nc: ok CDF-1 records 0 variables 1 bad_truncated_1.nc: fault Truncated at 60" \
   "$(printf 'tiny.nc\0bad_truncated_1.nc\0' | "$ncc" check --files-from0 - > out 2> err; echo "$?" $(cat out) $(cat err))"
 count "list of standard input" "0 format CDF-1 records 0 dimension 0 dim 5 variable 0 vx short fixed begin 80 dims 1 dim" \
   "$(cat tiny.nc | "$ncc" list - > out; echo "$?" $(cat out))"
@@ -664,7 +618,7 @@ ncc: /dev/zero: is a pipe or device, not a file" extend --verbose /dev/zero 1
 count "a full output, told" "3 error device ncc: standard output: no space left" "$? $(echo $(cat err))"
 count "a reader that goes" "x,v 0" "$("$ncc" csv long.nc v 2> err | head -n 1) $(wc -c < err | tr -d ' ')"
 "$ncc" help faults > out
-count "help of faults" "37 0" "$(grep -c '^  [A-Z]' out) $?"
+count "help of faults" "39 0" "$(grep -c '^  [A-Z]' out) $?"
 for word in $(grep -oh '^  [A-Z][A-Za-z]*' out); do count "a fault of the program: $word" yes \
   "$(grep -qrE "\"$word ?\"" "$top"/crates/ncc_lines/src "$top"/crates/ncc_csv/src "$top"/crates/ncc_convert/src && echo yes)"; done
 
