@@ -10,3 +10,5 @@ pub mod Joining
 pub mod PartRows
 pub mod PartCalls
 pub mod SheetTexts
+pub mod EndNuls
+pub mod Filling

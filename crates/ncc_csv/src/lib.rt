@@ -3,6 +3,8 @@
 
 mod block;
 mod cell;
+mod gathered;
+mod gathering;
 mod heads;
 pub mod laws;
 mod named;
@@ -14,6 +16,7 @@ mod refusals;
 mod row;
 mod sending;
 mod sheet;
+mod text_row;
 mod word;
 
 pub use named::var_named;
