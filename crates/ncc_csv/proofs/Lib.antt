@@ -12,3 +12,5 @@ pub mod PartCalls
 pub mod SheetTexts
 pub mod EndNuls
 pub mod Filling
+pub mod TextRows
+pub mod TextParts

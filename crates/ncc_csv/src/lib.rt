@@ -3,6 +3,7 @@
 
 mod block;
 mod cell;
+mod empty_texts;
 mod gathered;
 mod gathering;
 mod heads;
@@ -16,6 +17,7 @@ mod refusals;
 mod row;
 mod sending;
 mod sheet;
+mod text_parts;
 mod text_row;
 mod word;
 
