@@ -66,7 +66,7 @@ fn failing_sources(rt: HostRuntime) -> Result<(), Fail> {
             left,
         });
         let mut sink = WriteSink::new(Vec::new(alloc));
-        assert!(rt; list_engine(alloc, &mut source, LIMIT, FloatStyle::Bits, &mut sink) == Answer::Device);
+        assert!(rt; list_engine(alloc, &mut source, LIMIT, FloatStyle::Bits, false, &mut sink) == Answer::Device);
         assert!(rt; sink.into_inner().is_empty());
     }
     Ok(())
@@ -82,7 +82,7 @@ fn failing_sinks(rt: HostRuntime) -> Result<(), Fail> {
         let mut source = ReadSource::new(input.as_slice());
         let taken = Vec::new(alloc);
         let mut sink = WriteSink::new(FailingWriter { taken, left });
-        let answer = list_engine(alloc, &mut source, LIMIT, FloatStyle::Bits, &mut sink);
+        let answer = list_engine(alloc, &mut source, LIMIT, FloatStyle::Bits, false, &mut sink);
         let wanted = if left < text.len() {
             Answer::Device
         } else {
@@ -159,7 +159,7 @@ fn sinks_that_fail_once(rt: HostRuntime) -> Result<(), Fail> {
     let taken = Vec::new(alloc);
     let failed = false;
     let mut sink = WriteSink::new(FailsOnce { failed, taken });
-    assert!(rt; list_engine(alloc, &mut source, LIMIT, FloatStyle::Bits, &mut sink) == Answer::Device);
+    assert!(rt; list_engine(alloc, &mut source, LIMIT, FloatStyle::Bits, false, &mut sink) == Answer::Device);
     assert!(rt; sink.into_inner().taken.is_empty());
     let mut store = MemStore::new(bytes_of(alloc, &EACH_NOTE)?);
     let taken = Vec::new(alloc);
@@ -204,7 +204,7 @@ fn failing_sinks_of_rows(rt: HostRuntime) -> Result<(), Fail> {
         let taken = Vec::new(alloc);
         let mut sink = WriteSink::new(FailingWriter { taken, left });
         let pick = pick_of(alloc, "", "", "")?;
-        let (_, answer) = csv_engine(alloc, store, LIMIT, b"v", pick, FloatStyle::Bits, &mut sink, &mut Unshown);
+        let (_, answer) = csv_engine(alloc, store, LIMIT, b"v", pick, FloatStyle::Bits, false, &mut sink, &mut Unshown);
         let wanted = if left < text.len() {
             Answer::Device
         } else {
@@ -226,7 +226,7 @@ fn failing_stores_of_rows(rt: HostRuntime) -> Result<(), Fail> {
         let store = FuseStore::new(MemStore::new(bytes_of(alloc, &FIXED)?), calls);
         let mut sink = WriteSink::new(Vec::new(alloc));
         let pick = pick_of(alloc, "", "", "")?;
-        let (store, answer) = csv_engine(alloc, store, LIMIT, b"v", pick, FloatStyle::Bits, &mut sink, &mut Unshown);
+        let (store, answer) = csv_engine(alloc, store, LIMIT, b"v", pick, FloatStyle::Bits, false, &mut sink, &mut Unshown);
         let (wanted, text) = match calls {
             0 | 1 => (Answer::Device, ""),
             2 => (Answer::Device, "x,v\n"),

@@ -50,7 +50,7 @@ pub fn expect_within<R: Abort + AllocGlobal>(
 ) {
     let mut source = ReadSource::new(input);
     let mut sink = WriteSink::new(Vec::new(rt.alloc()));
-    assert!(rt; list_engine(rt.alloc(), &mut source, limit, FloatStyle::Bits, &mut sink) == answer);
+    assert!(rt; list_engine(rt.alloc(), &mut source, limit, FloatStyle::Bits, false, &mut sink) == answer);
     let written = sink.into_inner();
     assert!(rt; written.as_slice() == text.as_bytes());
 }
@@ -118,7 +118,7 @@ pub fn expect_rows<R: Abort + AllocGlobal>(
     let store = MemStore::new(bytes.to_vec(alloc)?);
     let mut sink = WriteSink::new(Vec::new(alloc));
     let name = name.as_bytes();
-    let (_, found) = csv_engine(alloc, store, LIMIT, name, pick, FloatStyle::Bits, &mut sink, &mut Unshown);
+    let (_, found) = csv_engine(alloc, store, LIMIT, name, pick, FloatStyle::Bits, false, &mut sink, &mut Unshown);
     assert!(rt; found == answer);
     let written = sink.into_inner();
     assert!(rt; written.as_slice() == text.as_bytes(), "{text}");

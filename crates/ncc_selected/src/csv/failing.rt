@@ -20,7 +20,7 @@ fn sent_by_sink(alloc: Global, calls: u64) -> Result<Option<Sent>, AllocError> {
         Ok(file) => {
             let mut file = file;
             let mut sink = FuseSink::new(WriteSink::new(Vec::new(alloc)), calls, 5);
-            let answer = send_sheet(alloc, &mut file, 0, &slab, FloatStyle::Bits, &mut sink, &mut Unshown);
+            let answer = send_sheet(alloc, &mut file, 0, &slab, FloatStyle::Bits, false, &mut sink, &mut Unshown);
             Ok(Some((answer, sink.into_inner().into_inner())))
         }
         Err(_) => Ok(None),
@@ -49,7 +49,7 @@ fn sent_from_store(alloc: Global, calls: u64) -> Result<Option<Sent>, AllocError
         Ok(file) => {
             let mut file = file;
             let mut sink = WriteSink::new(Vec::new(alloc));
-            let answer = send_sheet(alloc, &mut file, 0, &slab, FloatStyle::Bits, &mut sink, &mut Unshown);
+            let answer = send_sheet(alloc, &mut file, 0, &slab, FloatStyle::Bits, false, &mut sink, &mut Unshown);
             Ok(Some((answer, sink.into_inner())))
         }
         Err(_) => Ok(None),
