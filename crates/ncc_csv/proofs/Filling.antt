@@ -1,5 +1,5 @@
 -- Bytes that become rows of texts, piece by piece.
-use Rattle.std.proofs.Common.{◌≡◌, ℕ, suc, ◌+◌, ◌-◌, ◌*◌, ◌<◌, ◌≤◌, ◌⊎◌, inl, inr, List, [], ◌∷◌, ◌++◌, map, length, take, drop, get_or, Option, Result, Ok, Err, refl, sym, ap, subst, ◌∙◌, append_assoc, arith}
+use Rattle.std.proofs.Common.{◌≡◌, ℕ, suc, ◌+◌, ◌-◌, ◌*◌, ◌<◌, ◌≤◌, ◌⊎◌, inl, inr, List, [], ◌∷◌, ◌++◌, length, take, drop, get_or, Option, Result, Ok, Err, refl, sym, ap, subst, ◌∙◌, append_assoc, arith}
 use Rattle.std.specs.Prelude.{IsErr, OnOk}
 use Rattle.std.proofs.lemmas.Bool.{cases_lt}
 use Rattle.std.proofs.lemmas.List.{append-nil, length-append, length-drop, length-map, length-take-le, map-append, take_more, drop-drop, drop-append-le, take-append-le, take-append-drop, take_all, drop_all}
@@ -78,11 +78,11 @@ fills_more s first bytes more P f = record {
 
 -- what holds of their text otherwise
 abbrev pub fills_as : (s : Slab) (first : ℕ) (bytes : List ℕ) (P Q : List ℕ → Type 0) → ((t : List ℕ) → P t → Q t) → Fills s first bytes P → Fills s first bytes Q
-fills_as s first bytes P Q turn f = record { rows = f.rows; within = f.within; filled = turn (bytes_rows s first bytes f.rows) f.filled; }
+fills_as s first bytes P Q turn f = record { rows = f.rows; within = f.within; filled = turn (bytes_rows s first bytes f.rows) f.filled }
 
 -- none
 abbrev pub fills_none : (s : Slab) (first : ℕ) (bytes : List ℕ) (P : List ℕ → Type 0) → P [] → Fills s first bytes P
-fills_none s first bytes P nothing = record { rows = 0; within = omega arith; filled = nothing; }
+fills_none s first bytes P nothing = record { rows = 0; within = omega arith; filled = nothing }
 
 -- behind bytes that are gathered
 abbrev pub fills_behind : (s : Slab) (first : ℕ) (bytes more : List ℕ) (g : Gathered) (P Q R : List ℕ → Type 0) → ((t u : List ℕ) → P t → Q u → R (t ++ u))
@@ -103,7 +103,7 @@ fills_behind s first bytes more g P Q R join a b =
 -- ---- bytes that are gathered
 
 pub gathers_as : (s : Slab) (first : ℕ) (bytes : List ℕ) (g : Gathered) (P Q : List ℕ → Type 0) → ((t : List ℕ) → P t → Q t) → Gathers s first bytes g P → Gathers s first bytes g Q
-gathers_as s first bytes g P Q turn a = record { fills = fills_as s first bytes P Q turn a.fills; number = a.number; text = a.text; short = a.short; }
+gathers_as s first bytes g P Q turn a = record { fills = fills_as s first bytes P Q turn a.fills; number = a.number; text = a.text; short = a.short }
 
 -- none yet
 pub gathers_none : (s : Slab) (g : Gathered) (P : List ℕ → Type 0) → length g.text.items < last_number s.count → P [] → Gathers s g.number (g.text.items ++ []) g P

@@ -1,5 +1,5 @@
 -- The text of a sheet, or of a refusal.
-use Rattle.std.proofs.Common.{◌≡◌, ℕ, suc, ◌<◌, ◌≤◌, Bool, true, false, cond, sym, List, [], ◌∷◌, ◌++◌, length, get_or, Option, Some, None, Result, Ok, Err, rules, refl, ap, ◌∙◌, arith}
+use Rattle.std.proofs.Common.{◌≡◌, ℕ, ◌<◌, Bool, true, false, cond, sym, List, [], ◌∷◌, ◌++◌, length, get_or, Option, Some, None, Result, Ok, Err, rules, refl, ap, ◌∙◌, arith}
 use Rattle.std.specs.Prelude.{IsErr, ◌&&◌}
 use Rattle.ncc_values.specs.declared.xtype.XType.{XType}
 use Rattle.ncc_values.specs.declared.xtype.XType.TheVariants.{Byte, Char, Short, Int, Float, Double, UByte, UShort, UInt, Int64, UInt64}

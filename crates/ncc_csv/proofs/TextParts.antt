@@ -1,5 +1,5 @@
 -- The bytes of texts, part by part.
-use Rattle.std.proofs.Common.{◌≡◌, ℕ, ◌+◌, ◌-◌, ◌*◌, ◌≤◌, ◌<◌, ℤ, List, [], ◌∷◌, ◌++◌, map, length, take, drop, Option, Result, Ok, Err, refl, sym, ap, subst, ◌∙◌, arith}
+use Rattle.std.proofs.Common.{◌≡◌, ℕ, ◌+◌, ◌-◌, ◌*◌, ◌≤◌, ◌<◌, ℤ, List, [], ◌++◌, map, length, take, drop, Option, Result, Ok, Err, sym, ap, subst, ◌∙◌, arith}
 use Rattle.std.specs.Prelude.{IsErr}
 use Rattle.std.proofs.lemmas.List.{map-append, drop-drop}
 use Rattle.std.proofs.Math.Seq.{take-add}
@@ -57,7 +57,7 @@ bytes_left file record_size x s first n left le =
 -- nothing is gathered yet
 pub gathers_begin : (s : Slab) (g : Gathered) (P : List ℕ → Type 0) → g.number ≡ 0 → g.text.items ≡ [] → 0 < last_number s.count → P [] → Gathers s 0 [] g P
 gathers_begin s g P number text some nothing = record {
-  fills = record { rows = 0; within = omega arith; filled = nothing; };
+  fills = record { rows = 0; within = omega arith; filled = nothing };
   number = omega (arith, number);
   text = text ∙ (let none : 0 ≡ 0 * last_number s.count = omega arith in ap (λ (n : ℕ). drop {A = ℕ} n []) none);
   short = omega (arith, some, ap (λ (l : List ℕ). length l) text);

@@ -7,13 +7,12 @@ use Rattle.std.proofs.lemmas.List.FromFn.{length-range_with_len, get_or-range_wi
 use Rattle.std.proofs.lemmas.Nat.{mul-le}
 use Rattle.std.proofs.Math.Nat.{add-mul}
 use Rattle.ncc_layout.specs.declared.placed_var.PlacedVar.{PlacedVar}
-use Rattle.ncc_schema.specs.Device.{Puts}
 use Rattle.ncc_lines.specs.Sends.{PutsFront}
 use Rattle.ncc_layout.specs.Sizes.{product}
 use Rattle.ncc_slab.specs.Laws.{CountIsProduct}
 use Rattle.ncc_slab.specs.Selection.{index_lists, index_of, indices_of, selected_count}
 use Rattle.ncc_slab.specs.declared.slab.Slab.{Slab}
-use Rattle.ncc_csv.specs.Rows.{row_line, element_row, HasIndices}
+use Rattle.ncc_csv.specs.Rows.{row_line, HasIndices}
 use Rattle.ncc_csv.specs.Runs.{first_rows, leading_texts}
 use Rattle.ncc_csv.specs.Texts.{but_last, last_number, last_indices, leading_indices, shown_text, byte_at, text_at, text_row, texts_text}
 use Rattle.ncc_csv.specs.TextRuns.{numbered_row, bytes_row, bytes_rows, part_bytes, Fills, Gathers}
@@ -229,7 +228,7 @@ module _ (s : Slab) (r : ℕ) (has : HasIndices s) (ranked : length s.count ≡ 
 
 -- as many lists of indices as the product of the counts
 pub lists_counted : CountIsProduct → (counts : List ℕ) → length (index_lists counts) ≡ product counts
-lists_counted law counts = sym (length-map (index_lists counts) (index_of [] [])) ∙ law (record { start = []; count = counts; stride = []; })
+lists_counted law counts = sym (length-map (index_lists counts) (index_of [] [])) ∙ law (record { start = []; count = counts; stride = [] })
 
 -- there is a last count where it isn't 0
 pub counts_some : (s : Slab) → 0 < last_number s.count → 0 < length s.count

@@ -154,7 +154,9 @@ fn send_pieces<W: Sink>(
     ensures count { Blames (W.failures sink.old) (W.failures sink.new) result }
 {
     let rows = (FIELDS / (heads.len() as u64).saturating_add(2)).max(1);
-    let most = rows.saturating_mul(count_along(slab, heads.len())).min(CHARS) as usize;
+    let most = rows
+        .saturating_mul(count_along(slab, heads.len()))
+        .min(CHARS) as usize;
     let mut done = 0;
     while done < values.len() {
         let rest = values.split_at(done).1;

@@ -101,7 +101,16 @@ fn send_blocks<T: Cell, W: Sink>(
     while done < values.len() {
         let rest = values.split_at(done).1;
         let piece = rest.split_at(rest.len().min(most)).0;
-        send_block(alloc, page, heads, slab, first + done as u64, piece, style, sink)?;
+        send_block(
+            alloc,
+            page,
+            heads,
+            slab,
+            first + done as u64,
+            piece,
+            style,
+            sink,
+        )?;
         done += piece.len();
     }
     Ok(())

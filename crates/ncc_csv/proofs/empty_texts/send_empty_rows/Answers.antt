@@ -1,4 +1,4 @@
-use Rattle.std.proofs.Common.{◌≡◌, ◌+◌, ◌-◌, ◌++◌, [], ℕ, suc, List, length, refl, sym, subst, ap, ◌∙◌, arith}
+use Rattle.std.proofs.Common.{◌≡◌, ◌+◌, ◌-◌, ◌++◌, [], ℕ, suc, List, sym, subst, ap, ◌∙◌, arith}
 use Rattle.ncc_schema.specs.Device.{Puts}
 use Rattle.ncc_schema.proofs.Writing.{puts_both}
 use Rattle.ncc_csv.specs.Rows.{row_line}

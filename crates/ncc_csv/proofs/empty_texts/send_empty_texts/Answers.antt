@@ -1,4 +1,4 @@
-use Rattle.std.proofs.Common.{◌≡◌, ◌-◌, [], ℕ, List, length, take, sym, ap, subst, ◌∙◌, arith}
+use Rattle.std.proofs.Common.{◌≡◌, ◌-◌, [], ℕ, length, take, sym, ap, subst, ◌∙◌, arith}
 use Rattle.ncc_layout.specs.Sizes.{product}
 use Rattle.ncc_lines.specs.Sends.{SendsAll}
 use Rattle.ncc_csv.specs.Runs.{first_rows}

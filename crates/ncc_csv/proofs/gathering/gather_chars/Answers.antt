@@ -1,4 +1,4 @@
-use Rattle.std.proofs.Common.{◌≡◌, ◌++◌, rules}
+use Rattle.std.proofs.Common.{rules}
 use Rattle.ncc_csv.proofs.Filling.{gathers_as}
 use Rattle.ncc_csv.proofs.gathering.gather_chars.Goals as goal
 

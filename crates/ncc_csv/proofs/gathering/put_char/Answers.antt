@@ -1,4 +1,4 @@
-use Rattle.std.proofs.Common.{◌≡◌, ◌+◌, ◌*◌, ◌-◌, ◌<◌, ℕ, List, length, get_or, ap, subst, ◌∙◌, arith}
+use Rattle.std.proofs.Common.{◌≡◌, ◌+◌, ◌-◌, ℕ, List, length, get_or, ap, subst, ◌∙◌, arith}
 use Rattle.ncc_csv.specs.Rows.{row_line, Adds}
 use Rattle.ncc_csv.specs.Texts.{last_number}
 use Rattle.ncc_csv.specs.TextRuns.{numbered_row}

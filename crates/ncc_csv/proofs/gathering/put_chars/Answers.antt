@@ -1,4 +1,4 @@
-use Rattle.std.proofs.Common.{◌≡◌, ◌+◌, ◌++◌, ◌∷◌, [], ℕ, List, length, take, get_or, ap, subst, arith}
+use Rattle.std.proofs.Common.{◌++◌, ℕ, List, take, ap, subst, arith}
 use Rattle.std.proofs.lemmas.List.{take_all}
 use Rattle.ncc_csv.specs.Rows.{Adds}
 use Rattle.ncc_csv.specs.TextRuns.{bytes_of, Gathers}

@@ -1,4 +1,4 @@
-use Rattle.std.proofs.Common.{◌≡◌, ◌++◌, take}
+use Rattle.std.proofs.Common.{◌++◌, take}
 use Rattle.ncc_csv.specs.Rows.{IsBetween, Adds}
 use Rattle.ncc_csv.specs.TextRuns.{bytes_of, Gathers}
 use Rattle.ncc_csv.proofs.gathering.put_chars.Given as goal

@@ -12,8 +12,7 @@ use Rattle.ncc_slab.specs.Answers.{part_count}
 use Rattle.ncc_slab.specs.Selected.{places_of}
 use Rattle.ncc_slab.specs.Stretches.{part_stretches, all_stretches}
 use Rattle.ncc_slab.specs.SlabParts.{parts_left, parts_type}
-use Rattle.ncc_csv.specs.Texts.{texts_text}
-use Rattle.ncc_csv.specs.TextRuns.{done_in, part_bytes, Fills, Gathers, SendsTexts}
+use Rattle.ncc_csv.specs.TextRuns.{done_in, part_bytes, Fills, Gathers}
 use Rattle.ncc_csv.proofs.Filling.{gathers_more, fills_behind}
 use Rattle.ncc_csv.proofs.PartRows.{front_behind}
 use Rattle.ncc_csv.proofs.PartCalls.{first_and_rest, room_some}
