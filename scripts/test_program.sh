@@ -133,7 +133,7 @@ while IFS='|' read -r command about options; do
 done <<'END'
 check|Says whether files are sound, and what is unusual in them|--strict --brief --max-header --files-from0 --verbose --help
 convert|Writes what a file holds into a new file, in another version|--to --verbose --help
-csv|Prints the values of a variable, or of a selection of them|--start --count --stride --decimal --verbose --help
+csv|Prints the values of a variable, or of a selection of them|--start --count --stride --decimal --text --verbose --help
 extend|Adds records of fill values to a file|--verbose --help
 list|Lists what the headers of files say|--decimal --files-from0 --verbose --help
 END
@@ -542,6 +542,25 @@ records 0
 dimension 0 x 6
 attribute global a double 2 0.1 9.969209968386869e36
 variable 0 v float fixed begin 112 dims 1 x" "" list --decimal floats.nc
+
+# ---- texts: c(n, 5) of `ab`, `a,b\\` and no byte but NULs, and the rows of its bytes
+
+{
+  printf 'CDF\1\0\0\0\0\0\0\0\x0a\0\0\0\2\0\0\0\1n\0\0\0\0\0\0\3\0\0\0\1m\0\0\0\0\0\0\5\0\0\0\0\0\0\0\0'
+  printf '\0\0\0\x0b\0\0\0\1\0\0\0\1c\0\0\0\0\0\0\2\0\0\0\0\0\0\0\1\0\0\0\0\0\0\0\0\0\0\0\2\0\0\0\x10\0\0\0\x60'
+  printf 'ab\0\0\0a,\0b\\\0\0\0\0\0\0'
+} > texts.nc
+expect "texts" 0 'n,c
+0,ab
+1,"a,\x00b\x5c"
+2,' "" csv --text texts.nc c
+expect "texts of a selection" 0 'n,c
+1,"a,"
+2,' "" csv --text texts.nc c --start 1,0 --count 2,2
+expect "texts backwards are refused" 1 "refused Outside 1" "" csv --text texts.nc c --start 0,3 --count 1,3
+expect "no texts of shorts" 0 "dim,vx
+1,1
+3,1" "" csv --text tiny.nc vx --start 1 --stride 2
 
 # ---- several files
 

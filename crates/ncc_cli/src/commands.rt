@@ -66,7 +66,8 @@ is 0 for the start, 1 for the stride, and for the count as many indices as there
 
 The first row names the dimensions and the variable. Each other row has the indices of an
 element in the whole array, and its value; a char is the number of its byte, and a float or
-a double is shown by its bits, or with --decimal as a number.
+a double is shown by its bits, or with --decimal as a number. With --text the last dimension of
+a char variable is one field: its bytes as `list` prints them, without the NULs at the end.
 
 It prints `refused NoVariable` where no variable has the name, `refused RankMismatch` where a list
 has not one number for each dimension, `refused ZeroStride K` and `refused Outside K` where a
@@ -222,6 +223,11 @@ fn csv_command<'a>(alloc: Global) -> Result<Command<'a>, AllocError> {
         .arg(list_argument(alloc, "count", "How many indices along each dimension"))?
         .arg(list_argument(alloc, "stride", "The step from one index to the next"))?
         .arg(decimal_argument(alloc))?
+        .arg(flag(
+            alloc,
+            "text",
+            "Shows a char variable's last dimension as one field",
+        ))?
         .arg(verbose_argument(alloc))?
         .arg(file_argument(alloc))?
         .arg(variable)

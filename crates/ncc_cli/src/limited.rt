@@ -54,11 +54,12 @@ pub fn selected<S: Store, W: Sink, P: Progress>(
     name: &[u8],
     pick: Pick,
     style: FloatStyle,
+    texts: bool,
     sink: &mut W,
     progress: &mut P,
 ) -> (S, Answer)
     ensures selects { IsTrue S.tells_bytes → (out : List ℕ) × Puts (W.put sink.old) (W.put sink.new) out
-        × SelectsInto (S.bytes store) LIMIT name.now pick style result.1 out }
+        × SelectsInto (S.bytes store) LIMIT name.now pick style texts result.1 out }
     ensures own { IsTrue S.tells_bytes → result.1 ≡ Answer.Passed → HasOwnElements (S.bytes store) LIMIT }
     ensures unmoved { Unmoved S.bytes S.images S.moment S.images_since store result.0 }
     ensures kept { KeepsImages (S.images store) (S.images result.0) }
@@ -72,7 +73,9 @@ pub fn selected<S: Store, W: Sink, P: Progress>(
     ensures stopped { IsTrue S.tells_bytes → (Passes (S.bytes store) LIMIT → ⊥)
         → S.calls result.0 ≤ S.calls store + calls_for (length (S.bytes store)) LIMIT }
 {
-    csv_engine(alloc, store, LIMIT, name, pick, style, sink, progress)
+    csv_engine(
+        alloc, store, LIMIT, name, pick, style, texts, sink, progress,
+    )
 }
 
 /// Adds records of fill values, with the program's limit.

@@ -68,6 +68,7 @@ fn csv<'a, R: Files<File = File> + Clock + AllocGlobal, O: Write, E: Write>(
         variable,
         pick,
         style_given(words),
+        words.get_flag("text"),
         out,
         &mut progress,
     );

@@ -96,6 +96,7 @@ pub fn select<'a, R: Files<File = File> + AllocGlobal, O: Write, P: Progress>(
     variable: &[u8],
     pick: Pick,
     style: FloatStyle,
+    texts: bool,
     out: &mut O,
     progress: &mut P,
 ) -> Ended<'a> {
@@ -113,6 +114,7 @@ pub fn select<'a, R: Files<File = File> + AllocGlobal, O: Write, P: Progress>(
         variable,
         pick,
         style,
+        texts,
         &mut sink,
         progress,
     );

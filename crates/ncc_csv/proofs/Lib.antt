@@ -10,3 +10,7 @@ pub mod Joining
 pub mod PartRows
 pub mod PartCalls
 pub mod SheetTexts
+pub mod EndNuls
+pub mod Filling
+pub mod TextRows
+pub mod TextParts

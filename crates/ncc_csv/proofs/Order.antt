@@ -131,7 +131,7 @@ index_of-none (s ∷ start) [] = refl
 index_of-none (s ∷ start) (d ∷ stride) = refl
 
 -- one more index behind the others
-index_of-append : (start stride ks : List ℕ) (k : ℕ) → length ks < length start → length ks < length stride
+pub index_of-append : (start stride ks : List ℕ) (k : ℕ) → length ks < length start → length ks < length stride
     → index_of start stride (ks ++ k ∷ []) ≡ index_of start stride ks ++ (get_or start (length ks) 0 + k * get_or stride (length ks) 0) ∷ []
 index_of-append [] stride ks k a b = absurd (omega (arith, a))
 index_of-append (s ∷ start) [] ks k a b = absurd (omega (arith, b))

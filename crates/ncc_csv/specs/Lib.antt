@@ -8,5 +8,7 @@ pub mod Picks
 pub mod Named
 pub mod Refusals
 pub mod Csv
+pub mod Texts
+pub mod TextRuns
 pub mod Sheets
 pub mod Laws

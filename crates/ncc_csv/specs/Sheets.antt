@@ -15,14 +15,15 @@ use Rattle.ncc_slab.specs.declared.fault.SlabFault.TheVariants as faults
 use Rattle.ncc_slab.specs.declared.slab.Slab.{Slab}
 use Rattle.ncc_slab.specs.Selected.{part_of}
 use Rattle.ncc_lines.specs.declared.style.FloatStyle.{FloatStyle}
-use Rattle.ncc_csv.specs.Csv.{rows_text, csv_text}
+use Rattle.ncc_csv.specs.Csv.{rows_text}
 use Rattle.ncc_csv.specs.Named.{no_var}
 use Rattle.ncc_csv.specs.Refusals.{refused_line}
+use Rattle.ncc_csv.specs.Texts.{printed_text}
 
--- the names and the rows of a selection of the variable with this number
-abbrev pub sheet_text : FloatStyle → (bytes : List ℕ) → Schema → Placed → (number : ℕ) → Slab → List ℕ
-sheet_text style bytes schema placed n s =
-    csv_text style schema.dims (get_or schema.vars n no_var) bytes (record_size_of_file placed) (var_at (vars_of placed) n) s
+-- the names and the rows of a selection of the variable with this number, with or without texts
+abbrev pub sheet_text : FloatStyle → (texts : Bool) → (bytes : List ℕ) → Schema → Placed → (number : ℕ) → Slab → List ℕ
+sheet_text style texts bytes schema placed n s =
+    printed_text style texts schema.dims (get_or schema.vars n no_var) bytes (record_size_of_file placed) (var_at (vars_of placed) n) s
 
 -- those, or the line of the selection's fault
 abbrev pub sheet_or_line : Option SlabFault → (sheet : List ℕ) → List ℕ

@@ -3,6 +3,9 @@
 
 mod block;
 mod cell;
+mod empty_texts;
+mod gathered;
+mod gathering;
 mod heads;
 pub mod laws;
 mod named;
@@ -14,6 +17,8 @@ mod refusals;
 mod row;
 mod sending;
 mod sheet;
+mod text_parts;
+mod text_row;
 mod word;
 
 pub use named::var_named;

@@ -27,7 +27,7 @@ use ncc_store::{Store, laws as store_laws};
 use std::alloc::Global;
 
 /// The values of the next part, in memory of their own.
-fn next_values<S: Store>(
+pub fn next_values<S: Store>(
     alloc: Global,
     file: &mut NcFile<S>,
     parts: &mut SlabParts,

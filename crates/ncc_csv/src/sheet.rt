@@ -1,6 +1,6 @@
 //! Sending a selection of an open file.
 
-ghost use Rattle.std.specs.Prelude.{◌≡◌, ℕ, ◌+◌, ◌<◌, ◌≤◌, List, [], length, get_or, Option, Some, None, is_none, IsTrue, IfOk};
+ghost use Rattle.std.specs.Prelude.{◌≡◌, ℕ, ◌+◌, ◌<◌, ◌≤◌, List, [], length, get_or, Option, Some, None, is_none, IsTrue, IfOk, true, ◌&&◌};
 ghost use Rattle.ncc_store.specs.Store.{Unmoved, KeepsImages};
 ghost use Rattle.ncc_values.specs.XType.{size_of};
 ghost use Rattle.ncc_layout.specs.Elements.{var_at};
@@ -12,16 +12,20 @@ ghost use Rattle.ncc_slab.specs.Selected.{places_of};
 ghost use Rattle.ncc_slab.specs.SlabParts.{BeginsParts};
 ghost use Rattle.ncc_slab.specs.Stretches.{all_stretches};
 ghost use Rattle.ncc_slab.specs.declared.fault.SlabFault.{SlabFault as Fault};
+ghost use Rattle.ncc_csv.specs.Csv.{csv_text};
 ghost use Rattle.ncc_csv.specs.Named.{no_var};
 ghost use Rattle.ncc_csv.specs.Sheets.{BlamesOne, BlamesEither, IsCause, SendsSheet, sheet_text};
+ghost use Rattle.ncc_csv.specs.Texts.{has_texts, text_sheet};
 
 use crate::laws::fitting_has_indices;
-use crate::names::send_names;
+use crate::names::{send_names, send_text_names};
 use crate::parts::send_rows;
 use crate::refusals::send_refusal;
+use crate::text_parts::send_texts;
 use ncc_check::NcFile;
 use ncc_check::laws::open_file_places_all;
-use ncc_header::{Schema, Sink, Var};
+use ncc_header::{Schema, Sink, Var, XType};
+use ncc_layout::Placed;
 use ncc_lines::{FloatStyle, Halt, Progress};
 use ncc_slab::laws::{lengths_fit, refused_unless_it_fits};
 use ncc_slab::{Slab, SlabFault, SlabParts};
@@ -53,7 +57,8 @@ fn var_of(schema: &Schema, var: usize) -> &Var
     &schema.vars.as_slice()[var]
 }
 
-/// Sends the row of names and the rows of a selection that isn't refused. After an `Err` a front of them is sent.
+/// Sends the row of names and a row for each element of a selection that isn't refused. After an `Err` a front of
+/// them is sent.
 fn send_selected<S: Store, W: Sink, P: Progress>(
     alloc: Global,
     file: &mut NcFile<S>,
@@ -67,7 +72,9 @@ fn send_selected<S: Store, W: Sink, P: Progress>(
     requires selected { slab_fault (vars_of (placed_of file.old)) var slab.now ≡ None }
     requires begins { BeginsParts (placed_of file.old) var slab.now parts.old }
     ensures sent { IsTrue S.tells_bytes → SendsAll (W.put sink.old) (W.put sink.new)
-        (sheet_text style (S.bytes (store_of file.old)) (schema_of file.old) (placed_of file.old) var slab.now) result }
+        (csv_text style (schema_of file.old).dims (get_or (schema_of file.old).vars var no_var)
+        (S.bytes (store_of file.old)) (record_size_of_file (placed_of file.old))
+        (var_at (vars_of (placed_of file.old)) var) slab.now) result }
     ensures schema { schema_of file.new ≡ schema_of file.old }
     ensures placed { placed_of file.new ≡ placed_of file.old }
     ensures reopen { must_reopen file.new ≡ must_reopen file.old }
@@ -88,21 +95,105 @@ fn send_selected<S: Store, W: Sink, P: Progress>(
     send_rows(alloc, file, slab, parts, style, sink, progress)
 }
 
+/// Sends the row of names and a row for each text of a selection that isn't refused. After an `Err` a front of them is
+/// sent.
+fn send_selected_texts<S: Store, W: Sink, P: Progress>(
+    alloc: Global,
+    file: &mut NcFile<S>,
+    var: usize,
+    slab: &Slab,
+    parts: &mut SlabParts,
+    sink: &mut W,
+    progress: &mut P,
+) -> Result<(), Halt>
+    requires selected { slab_fault (vars_of (placed_of file.old)) var slab.now ≡ None }
+    requires begins { BeginsParts (placed_of file.old) var slab.now parts.old }
+    requires texts { has_texts (var_at (vars_of (placed_of file.old)) var).xtype
+        (var_at (vars_of (placed_of file.old)) var).shape ≡ true }
+    ensures sent { IsTrue S.tells_bytes → SendsAll (W.put sink.old) (W.put sink.new)
+        (text_sheet (schema_of file.old).dims (get_or (schema_of file.old).vars var no_var)
+        (S.bytes (store_of file.old)) (record_size_of_file (placed_of file.old))
+        (var_at (vars_of (placed_of file.old)) var) slab.now) result }
+    ensures schema { schema_of file.new ≡ schema_of file.old }
+    ensures placed { placed_of file.new ≡ placed_of file.old }
+    ensures reopen { must_reopen file.new ≡ must_reopen file.old }
+    ensures unmoved { Unmoved S.bytes S.images S.moment S.images_since (store_of file.old) (store_of file.new) }
+    ensures kept { KeepsImages (S.images (store_of file.old)) (S.images (store_of file.new)) }
+    ensures count { BlamesEither (S.failures (store_of file.old)) (S.failures (store_of file.new))
+        (W.failures sink.old) (W.failures sink.new) result }
+    ensures calls { S.calls (store_of file.new) ≤ S.calls (store_of file.old)
+        + all_stretches (size_of (var_at (vars_of (placed_of file.old)) var).xtype)
+        (places_of (record_size_of_file (placed_of file.old)) (var_at (vars_of (placed_of file.old)) var) slab.now) }
+{
+    open_file_places_all(file);
+    lengths_fit(file.placed(), var);
+    refused_unless_it_fits();
+    fitting_has_indices();
+    let schema = file.schema();
+    send_text_names(alloc, schema.dims.as_slice(), var_of(schema, var), sink)?;
+    send_texts(alloc, file, slab, parts, sink, progress)
+}
+
+/// Are texts printed of a variable?
+fn prints_texts(texts: bool, placed: &Placed, var: usize) -> bool
+    requires { var < length (vars_of placed.now) }
+    ensures { result ≡ (texts && has_texts (var_at (vars_of placed.now) var).xtype
+        (var_at (vars_of placed.now) var).shape) }
+{
+    texts && placed.xtype(var) == XType::Char && !placed.shape(var).is_empty()
+}
+
+/// Sends the row of names and the rows of a selection that isn't refused. After an `Err` a front of them is sent.
+fn send_printed<S: Store, W: Sink, P: Progress>(
+    alloc: Global,
+    file: &mut NcFile<S>,
+    var: usize,
+    slab: &Slab,
+    parts: &mut SlabParts,
+    style: FloatStyle,
+    texts: bool,
+    sink: &mut W,
+    progress: &mut P,
+) -> Result<(), Halt>
+    requires selected { slab_fault (vars_of (placed_of file.old)) var slab.now ≡ None }
+    requires begins { BeginsParts (placed_of file.old) var slab.now parts.old }
+    ensures sent { IsTrue S.tells_bytes → SendsAll (W.put sink.old) (W.put sink.new)
+        (sheet_text style texts (S.bytes (store_of file.old)) (schema_of file.old) (placed_of file.old) var slab.now)
+        result }
+    ensures schema { schema_of file.new ≡ schema_of file.old }
+    ensures placed { placed_of file.new ≡ placed_of file.old }
+    ensures reopen { must_reopen file.new ≡ must_reopen file.old }
+    ensures unmoved { Unmoved S.bytes S.images S.moment S.images_since (store_of file.old) (store_of file.new) }
+    ensures kept { KeepsImages (S.images (store_of file.old)) (S.images (store_of file.new)) }
+    ensures count { BlamesEither (S.failures (store_of file.old)) (S.failures (store_of file.new))
+        (W.failures sink.old) (W.failures sink.new) result }
+    ensures calls { S.calls (store_of file.new) ≤ S.calls (store_of file.old)
+        + all_stretches (size_of (var_at (vars_of (placed_of file.old)) var).xtype)
+        (places_of (record_size_of_file (placed_of file.old)) (var_at (vars_of (placed_of file.old)) var) slab.now) }
+{
+    if prints_texts(texts, file.placed(), var) {
+        return send_selected_texts(alloc, file, var, slab, parts, sink, progress);
+    }
+    send_selected(alloc, file, var, slab, parts, style, sink, progress)
+}
+
 /// Sends the row of names and the rows of a selection of the variable with this number, or the line of the
-/// selection's refusal, and tells whether it was selected. Floats are in this style. Memory doesn't grow with the
-/// selection.
+/// selection's refusal, and tells whether it was selected. Floats are in this style. With `texts` the last dimension
+/// of a char variable that has one is one field. Memory doesn't grow with the selection but for one text.
 pub fn send_sheet<S: Store, W: Sink, P: Progress>(
     alloc: Global,
     file: &mut NcFile<S>,
     var: usize,
     slab: &Slab,
     style: FloatStyle,
+    texts: bool,
     sink: &mut W,
     progress: &mut P,
 ) -> Result<bool, Halt>
     ensures sent { IsTrue S.tells_bytes → SendsSheet (slab_fault (vars_of (placed_of file.old)) var slab.now)
         (W.put sink.old) (W.put sink.new)
-        (sheet_text style (S.bytes (store_of file.old)) (schema_of file.old) (placed_of file.old) var slab.now) result }
+        (sheet_text style texts (S.bytes (store_of file.old)) (schema_of file.old) (placed_of file.old) var slab.now)
+        result }
     ensures answer { IfOk result (λ b. b ≡ is_none (slab_fault (vars_of (placed_of file.old)) var slab.now)) }
     ensures schema { schema_of file.new ≡ schema_of file.old }
     ensures placed { placed_of file.new ≡ placed_of file.old }
@@ -122,6 +213,8 @@ pub fn send_sheet<S: Store, W: Sink, P: Progress>(
         Ok(parts) => parts,
         Err(fault) => return refuse(alloc, fault, sink),
     };
-    send_selected(alloc, file, var, slab, &mut parts, style, sink, progress)?;
+    send_printed(
+        alloc, file, var, slab, &mut parts, style, texts, sink, progress,
+    )?;
     Ok(true)
 }

@@ -42,29 +42,29 @@ one_number vars name (Some m) (Some n) a b =
     let not_above : m < n → ⊥ = λ less. b.2 m less a.1 in
     ap Some (omega (arith, not_below, not_above))
 
-one_selection : (c : Contents) (name : List ℕ) (p : Pick) (style : FloatStyle) → OneText (IsSelection c name p style)
-one_selection c name p style a b t u x y =
+one_selection : (c : Contents) (name : List ℕ) (p : Pick) (style : FloatStyle) (texts : Bool) → OneText (IsSelection c name p style texts)
+one_selection c name p style texts a b t u x y =
     x.text_is
-    ∙ ap (λ (n : Option ℕ). sheet_or_line (refusal c p n) (table c p style n)) (one_number c.schema.vars name x.number y.number x.named y.named)
+    ∙ ap (λ (n : Option ℕ). sheet_or_line (refusal c p n) (table c p style texts n)) (one_number c.schema.vars name x.number y.number x.named y.named)
     ∙ sym y.text_is
 
-one_answer : (c : Contents) (name : List ℕ) (p : Pick) (style : FloatStyle) (a b : Answer) (t u : List ℕ) → IsSelection c name p style a t → IsSelection c name p style b u → a ≡ b
-one_answer c name p style a b t u x y =
+one_answer : (c : Contents) (name : List ℕ) (p : Pick) (style : FloatStyle) (texts : Bool) (a b : Answer) (t u : List ℕ) → IsSelection c name p style texts a t → IsSelection c name p style texts b u → a ≡ b
+one_answer c name p style texts a b t u x y =
     x.answer_is ∙ ap (λ (n : Option ℕ). answer_to (refusal c p n)) (one_number c.schema.vars name x.number y.number x.named y.named) ∙ sym y.answer_is
 
 -- ---- a selection of an open file
 
-pub sent_refusal : (c : Contents) (name : List ℕ) (p : Pick) (style : FloatStyle) (old new : Option (List ℕ)) (n : Option ℕ) (f : SlabFault) (answer : Answer) (result : Result (Unit {0}) Halt) → IsFirstNamed c.schema.vars name n
-    → refusal c p n ≡ Some f → SendsAll old new (refused_line f) result → answer ≡ answer_of result Refused → Gone (IsSelection c name p style) old new answer
-sent_refusal c name p style old new n f answer result named refused s e =
-    let is : IsSelection c name p style Refused (refused_line f) = record {
+pub sent_refusal : (c : Contents) (name : List ℕ) (p : Pick) (style : FloatStyle) (texts : Bool) (old new : Option (List ℕ)) (n : Option ℕ) (f : SlabFault) (answer : Answer) (result : Result (Unit {0}) Halt) → IsFirstNamed c.schema.vars name n
+    → refusal c p n ≡ Some f → SendsAll old new (refused_line f) result → answer ≡ answer_of result Refused → Gone (IsSelection c name p style texts) old new answer
+sent_refusal c name p style texts old new n f answer result named refused s e =
+    let is : IsSelection c name p style texts Refused (refused_line f) = record {
       number = n;
       named = named;
       answer_is = sym (ap answer_to refused);
-      text_is = sym (ap (λ (r : Option SlabFault). sheet_or_line r (table c p style n)) refused);
+      text_is = sym (ap (λ (r : Option SlabFault). sheet_or_line r (table c p style texts n)) refused);
     } in
-    subst (λ (x : Answer). Gone (IsSelection c name p style) old new x) (sym e)
-    (sent (IsSelection c name p style) (one_selection c name p style) old new (refused_line f) Refused result is is s)
+    subst (λ (x : Answer). Gone (IsSelection c name p style texts) old new x) (sym e)
+    (sent (IsSelection c name p style texts) (one_selection c name p style texts) old new (refused_line f) Refused result is is s)
 
 -- the answer that goes with the fault
 answered : (fault : Option SlabFault) (b : Bool) → b ≡ is_none fault → sheet_answer (Ok b) ≡ answer_to fault
@@ -76,26 +76,26 @@ written : (IsText : Answer → List ℕ → Type 0) (fault : Option SlabFault) (
 written IsText None text is = is
 written IsText (Some f) text is = is
 
-sheet : (c : Contents) (name : List ℕ) (p : Pick) (style : FloatStyle) (old new : Option (List ℕ)) (n : Option ℕ) (result : Result Bool Halt) → IsFirstNamed c.schema.vars name n
-    → SendsSheet (refusal c p n) old new (table c p style n) result → ((b : Bool) → result ≡ Ok b → b ≡ is_none (refusal c p n)) → Gone (IsSelection c name p style) old new (sheet_answer result)
-sheet c name p style old new n (Ok b) named s is =
-    let text = sheet_or_line (refusal c p n) (table c p style n) in
-    let right : IsSelection c name p style (answer_to (refusal c p n)) text = record { number = n; named = named; answer_is = refl; text_is = refl } in
-    subst (λ (x : Answer). Gone (IsSelection c name p style) old new x) (sym (answered (refusal c p n) b (is b refl)))
-    (text, s, written (IsSelection c name p style) (refusal c p n) text right)
-sheet c name p style old new n (Err halts.Device) named s is =
-    let text = sheet_or_line (refusal c p n) (table c p style n) in
-    let right : IsSelection c name p style (answer_to (refusal c p n)) text = record { number = n; named = named; answer_is = refl; text_is = refl } in
-    (s.0, s.3, λ a t other. (s.1, one_selection c name p style a (answer_to (refusal c p n)) t text other right ∙ s.2))
-sheet c name p style old new n (Err halts.Memory) named s is =
-    let text = sheet_or_line (refusal c p n) (table c p style n) in
-    let right : IsSelection c name p style (answer_to (refusal c p n)) text = record { number = n; named = named; answer_is = refl; text_is = refl } in
-    (s.0, s.3, λ a t other. (s.1, one_selection c name p style a (answer_to (refusal c p n)) t text other right ∙ s.2))
+sheet : (c : Contents) (name : List ℕ) (p : Pick) (style : FloatStyle) (texts : Bool) (old new : Option (List ℕ)) (n : Option ℕ) (result : Result Bool Halt) → IsFirstNamed c.schema.vars name n
+    → SendsSheet (refusal c p n) old new (table c p style texts n) result → ((b : Bool) → result ≡ Ok b → b ≡ is_none (refusal c p n)) → Gone (IsSelection c name p style texts) old new (sheet_answer result)
+sheet c name p style texts old new n (Ok b) named s is =
+    let text = sheet_or_line (refusal c p n) (table c p style texts n) in
+    let right : IsSelection c name p style texts (answer_to (refusal c p n)) text = record { number = n; named = named; answer_is = refl; text_is = refl } in
+    subst (λ (x : Answer). Gone (IsSelection c name p style texts) old new x) (sym (answered (refusal c p n) b (is b refl)))
+    (text, s, written (IsSelection c name p style texts) (refusal c p n) text right)
+sheet c name p style texts old new n (Err halts.Device) named s is =
+    let text = sheet_or_line (refusal c p n) (table c p style texts n) in
+    let right : IsSelection c name p style texts (answer_to (refusal c p n)) text = record { number = n; named = named; answer_is = refl; text_is = refl } in
+    (s.0, s.3, λ a t other. (s.1, one_selection c name p style texts a (answer_to (refusal c p n)) t text other right ∙ s.2))
+sheet c name p style texts old new n (Err halts.Memory) named s is =
+    let text = sheet_or_line (refusal c p n) (table c p style texts n) in
+    let right : IsSelection c name p style texts (answer_to (refusal c p n)) text = record { number = n; named = named; answer_is = refl; text_is = refl } in
+    (s.0, s.3, λ a t other. (s.1, one_selection c name p style texts a (answer_to (refusal c p n)) t text other right ∙ s.2))
 
-pub sent_sheet : (c : Contents) (name : List ℕ) (p : Pick) (style : FloatStyle) (old new : Option (List ℕ)) (n : Option ℕ) (answer : Answer) (result : Result Bool Halt) → IsFirstNamed c.schema.vars name n
-    → SendsSheet (refusal c p n) old new (table c p style n) result → ((b : Bool) → result ≡ Ok b → b ≡ is_none (refusal c p n)) → answer ≡ sheet_answer result → Gone (IsSelection c name p style) old new answer
-sent_sheet c name p style old new n answer result named s is e =
-    subst (λ (x : Answer). Gone (IsSelection c name p style) old new x) (sym e) (sheet c name p style old new n result named s is)
+pub sent_sheet : (c : Contents) (name : List ℕ) (p : Pick) (style : FloatStyle) (texts : Bool) (old new : Option (List ℕ)) (n : Option ℕ) (answer : Answer) (result : Result Bool Halt) → IsFirstNamed c.schema.vars name n
+    → SendsSheet (refusal c p n) old new (table c p style texts n) result → ((b : Bool) → result ≡ Ok b → b ≡ is_none (refusal c p n)) → answer ≡ sheet_answer result → Gone (IsSelection c name p style texts) old new answer
+sent_sheet c name p style texts old new n answer result named s is e =
+    subst (λ (x : Answer). Gone (IsSelection c name p style texts) old new x) (sym e) (sheet c name p style texts old new n result named s is)
 
 -- ---- of bytes
 
@@ -105,66 +105,66 @@ pub record Laws : Type 0 where
   pub one_header : (bytes : List ℕ) (limit : ℕ) (h k : Header) → Begins bytes limit h → Begins bytes limit k → h ≡ k
   pub one_fault : (bytes : List ℕ) (limit : ℕ) (f g : FileFault) → Fails bytes limit f → Fails bytes limit g → f ≡ g
 
-either : (bytes : List ℕ) (limit : ℕ) (name : List ℕ) (p : Pick) (style : FloatStyle) (answer : Answer) (text : List ℕ) → IsCsvText bytes limit name p style answer text → IsSelectionOf bytes limit name p style answer text ⊎ IsFaultOf bytes limit text
-either bytes limit name p style Passed text is = inl is
-either bytes limit name p style Refused text is = is
-either bytes limit name p style Device text is = absurd is
-either bytes limit name p style Memory text is = absurd is
+either : (bytes : List ℕ) (limit : ℕ) (name : List ℕ) (p : Pick) (style : FloatStyle) (texts : Bool) (answer : Answer) (text : List ℕ) → IsCsvText bytes limit name p style texts answer text → IsSelectionOf bytes limit name p style texts answer text ⊎ IsFaultOf bytes limit text
+either bytes limit name p style texts Passed text is = inl is
+either bytes limit name p style texts Refused text is = is
+either bytes limit name p style texts Device text is = absurd is
+either bytes limit name p style texts Memory text is = absurd is
 
 -- a selection of the bytes is one of the header that they pass with
-of_header : Laws → (bytes : List ℕ) (limit : ℕ) (name : List ℕ) (p : Pick) (style : FloatStyle) (h : Header) → PassesWith bytes limit h → (answer : Answer) (text : List ℕ) → IsSelectionOf bytes limit name p style answer text
-    → IsSelection (contents_of bytes h) name p style answer text
-of_header laws bytes limit name p style h passes answer text is =
-    subst (λ (k : Header). IsSelection (contents_of bytes k) name p style answer text) (laws.one_header bytes limit is.0 h is.1.begins passes.begins) is.2
+of_header : Laws → (bytes : List ℕ) (limit : ℕ) (name : List ℕ) (p : Pick) (style : FloatStyle) (texts : Bool) (h : Header) → PassesWith bytes limit h → (answer : Answer) (text : List ℕ) → IsSelectionOf bytes limit name p style texts answer text
+    → IsSelection (contents_of bytes h) name p style texts answer text
+of_header laws bytes limit name p style texts h passes answer text is =
+    subst (λ (k : Header). IsSelection (contents_of bytes k) name p style texts answer text) (laws.one_header bytes limit is.0 h is.1.begins passes.begins) is.2
 
-same_text : Laws → (bytes : List ℕ) (limit : ℕ) (name : List ℕ) (p : Pick) (style : FloatStyle) (a b : Answer) (t u : List ℕ) → IsSelectionOf bytes limit name p style a t ⊎ IsFaultOf bytes limit t
-    → IsSelectionOf bytes limit name p style b u ⊎ IsFaultOf bytes limit u → t ≡ u
-same_text laws bytes limit name p style a b t u (inl x) (inl y) =
-    one_selection (contents_of bytes y.0) name p style a b t u (of_header laws bytes limit name p style y.0 y.1 a t x) y.2
-same_text laws bytes limit name p style a b t u (inl x) (inr y) = absurd (laws.apart bytes limit y.0 (x.0, x.1) y.1)
-same_text laws bytes limit name p style a b t u (inr x) (inl y) = absurd (laws.apart bytes limit x.0 (y.0, y.1) x.1)
-same_text laws bytes limit name p style a b t u (inr x) (inr y) = x.2 ∙ ap file_fault_line (laws.one_fault bytes limit x.0 y.0 x.1 y.1) ∙ sym y.2
+same_text : Laws → (bytes : List ℕ) (limit : ℕ) (name : List ℕ) (p : Pick) (style : FloatStyle) (texts : Bool) (a b : Answer) (t u : List ℕ) → IsSelectionOf bytes limit name p style texts a t ⊎ IsFaultOf bytes limit t
+    → IsSelectionOf bytes limit name p style texts b u ⊎ IsFaultOf bytes limit u → t ≡ u
+same_text laws bytes limit name p style texts a b t u (inl x) (inl y) =
+    one_selection (contents_of bytes y.0) name p style texts a b t u (of_header laws bytes limit name p style texts y.0 y.1 a t x) y.2
+same_text laws bytes limit name p style texts a b t u (inl x) (inr y) = absurd (laws.apart bytes limit y.0 (x.0, x.1) y.1)
+same_text laws bytes limit name p style texts a b t u (inr x) (inl y) = absurd (laws.apart bytes limit x.0 (y.0, y.1) x.1)
+same_text laws bytes limit name p style texts a b t u (inr x) (inr y) = x.2 ∙ ap file_fault_line (laws.one_fault bytes limit x.0 y.0 x.1 y.1) ∙ sym y.2
 
 -- one answer and one text at most is right
 abbrev pub OneAnswer : Texts → Type 0
 OneAnswer IsText = (a b : Answer) (t u : List ℕ) → IsText a t → IsText b u → (a ≡ b) × (t ≡ u)
 
-of_one_header : Laws → (bytes : List ℕ) (limit : ℕ) (name : List ℕ) (p : Pick) (style : FloatStyle) (a b : Answer) (t u : List ℕ) → IsSelectionOf bytes limit name p style a t → IsSelectionOf bytes limit name p style b u → a ≡ b
-of_one_header laws bytes limit name p style a b t u x y =
-    one_answer (contents_of bytes y.0) name p style a b t u (of_header laws bytes limit name p style y.0 y.1 a t x) y.2
+of_one_header : Laws → (bytes : List ℕ) (limit : ℕ) (name : List ℕ) (p : Pick) (style : FloatStyle) (texts : Bool) (a b : Answer) (t u : List ℕ) → IsSelectionOf bytes limit name p style texts a t → IsSelectionOf bytes limit name p style texts b u → a ≡ b
+of_one_header laws bytes limit name p style texts a b t u x y =
+    one_answer (contents_of bytes y.0) name p style texts a b t u (of_header laws bytes limit name p style texts y.0 y.1 a t x) y.2
 
-same_answer : Laws → (bytes : List ℕ) (limit : ℕ) (name : List ℕ) (p : Pick) (style : FloatStyle) (a b : Answer) (t u : List ℕ) → IsCsvText bytes limit name p style a t → IsCsvText bytes limit name p style b u → a ≡ b
-same_answer laws bytes limit name p style Device b t u x y = absurd x
-same_answer laws bytes limit name p style Memory b t u x y = absurd x
-same_answer laws bytes limit name p style Passed Passed t u x y = refl
-same_answer laws bytes limit name p style Passed Refused t u x (inl y) = of_one_header laws bytes limit name p style Passed Refused t u x y
-same_answer laws bytes limit name p style Passed Refused t u x (inr y) = absurd (laws.apart bytes limit y.0 (x.0, x.1) y.1)
-same_answer laws bytes limit name p style Passed Device t u x y = absurd y
-same_answer laws bytes limit name p style Passed Memory t u x y = absurd y
-same_answer laws bytes limit name p style Refused Passed t u (inl x) y = of_one_header laws bytes limit name p style Refused Passed t u x y
-same_answer laws bytes limit name p style Refused Passed t u (inr x) y = absurd (laws.apart bytes limit x.0 (y.0, y.1) x.1)
-same_answer laws bytes limit name p style Refused Refused t u x y = refl
-same_answer laws bytes limit name p style Refused Device t u x y = absurd y
-same_answer laws bytes limit name p style Refused Memory t u x y = absurd y
+same_answer : Laws → (bytes : List ℕ) (limit : ℕ) (name : List ℕ) (p : Pick) (style : FloatStyle) (texts : Bool) (a b : Answer) (t u : List ℕ) → IsCsvText bytes limit name p style texts a t → IsCsvText bytes limit name p style texts b u → a ≡ b
+same_answer laws bytes limit name p style texts Device b t u x y = absurd x
+same_answer laws bytes limit name p style texts Memory b t u x y = absurd x
+same_answer laws bytes limit name p style texts Passed Passed t u x y = refl
+same_answer laws bytes limit name p style texts Passed Refused t u x (inl y) = of_one_header laws bytes limit name p style texts Passed Refused t u x y
+same_answer laws bytes limit name p style texts Passed Refused t u x (inr y) = absurd (laws.apart bytes limit y.0 (x.0, x.1) y.1)
+same_answer laws bytes limit name p style texts Passed Device t u x y = absurd y
+same_answer laws bytes limit name p style texts Passed Memory t u x y = absurd y
+same_answer laws bytes limit name p style texts Refused Passed t u (inl x) y = of_one_header laws bytes limit name p style texts Refused Passed t u x y
+same_answer laws bytes limit name p style texts Refused Passed t u (inr x) y = absurd (laws.apart bytes limit x.0 (y.0, y.1) x.1)
+same_answer laws bytes limit name p style texts Refused Refused t u x y = refl
+same_answer laws bytes limit name p style texts Refused Device t u x y = absurd y
+same_answer laws bytes limit name p style texts Refused Memory t u x y = absurd y
 
-pub one_csv_text : Laws → (bytes : List ℕ) (limit : ℕ) (name : List ℕ) (p : Pick) (style : FloatStyle) → OneAnswer (IsCsvText bytes limit name p style)
-one_csv_text laws bytes limit name p style a b t u is other = (
-  same_answer laws bytes limit name p style a b t u is other,
-  same_text laws bytes limit name p style a b t u (either bytes limit name p style a t is) (either bytes limit name p style b u other),
+pub one_csv_text : Laws → (bytes : List ℕ) (limit : ℕ) (name : List ℕ) (p : Pick) (style : FloatStyle) (texts : Bool) → OneAnswer (IsCsvText bytes limit name p style texts)
+one_csv_text laws bytes limit name p style texts a b t u is other = (
+  same_answer laws bytes limit name p style texts a b t u is other,
+  same_text laws bytes limit name p style texts a b t u (either bytes limit name p style texts a t is) (either bytes limit name p style texts b u other),
 )
 
 -- what begins each text of a selection begins each text of the bytes
-begins : Laws → (bytes : List ℕ) (limit : ℕ) (name : List ℕ) (p : Pick) (style : FloatStyle) (h : Header) → PassesWith bytes limit h → (out : List ℕ) → BeginsEach (IsSelection (contents_of bytes h) name p style) out
-    → (a : Answer) (t : List ℕ) → IsSelectionOf bytes limit name p style a t ⊎ IsFaultOf bytes limit t → (rest : List ℕ) × (t ≡ out ++ rest)
-begins laws bytes limit name p style h passes out w a t (inl x) = w a t (of_header laws bytes limit name p style h passes a t x)
-begins laws bytes limit name p style h passes out w a t (inr y) = absurd (laws.apart bytes limit y.0 (h, passes) y.1)
+begins : Laws → (bytes : List ℕ) (limit : ℕ) (name : List ℕ) (p : Pick) (style : FloatStyle) (texts : Bool) (h : Header) → PassesWith bytes limit h → (out : List ℕ) → BeginsEach (IsSelection (contents_of bytes h) name p style texts) out
+    → (a : Answer) (t : List ℕ) → IsSelectionOf bytes limit name p style texts a t ⊎ IsFaultOf bytes limit t → (rest : List ℕ) × (t ≡ out ++ rest)
+begins laws bytes limit name p style texts h passes out w a t (inl x) = w a t (of_header laws bytes limit name p style texts h passes a t x)
+begins laws bytes limit name p style texts h passes out w a t (inr y) = absurd (laws.apart bytes limit y.0 (h, passes) y.1)
 
-writes : Laws → (bytes : List ℕ) (limit : ℕ) (name : List ℕ) (p : Pick) (style : FloatStyle) (h : Header) → PassesWith bytes limit h → (answer : Answer) (out : List ℕ) → Writes (IsSelection (contents_of bytes h) name p style) answer out
-    → Writes (IsCsvText bytes limit name p style) answer out
-writes laws bytes limit name p style h passes Passed out w = (h, passes, w)
-writes laws bytes limit name p style h passes Refused out w = inl (h, passes, w)
-writes laws bytes limit name p style h passes Device out w = λ a t is. begins laws bytes limit name p style h passes out w a t (either bytes limit name p style a t is)
-writes laws bytes limit name p style h passes Memory out w = λ a t is. begins laws bytes limit name p style h passes out w a t (either bytes limit name p style a t is)
+writes : Laws → (bytes : List ℕ) (limit : ℕ) (name : List ℕ) (p : Pick) (style : FloatStyle) (texts : Bool) (h : Header) → PassesWith bytes limit h → (answer : Answer) (out : List ℕ) → Writes (IsSelection (contents_of bytes h) name p style texts) answer out
+    → Writes (IsCsvText bytes limit name p style texts) answer out
+writes laws bytes limit name p style texts h passes Passed out w = (h, passes, w)
+writes laws bytes limit name p style texts h passes Refused out w = inl (h, passes, w)
+writes laws bytes limit name p style texts h passes Device out w = λ a t is. begins laws bytes limit name p style texts h passes out w a t (either bytes limit name p style texts a t is)
+writes laws bytes limit name p style texts h passes Memory out w = λ a t is. begins laws bytes limit name p style texts h passes out w a t (either bytes limit name p style texts a t is)
 
 pub opened_contents : (bytes : List ℕ) (limit : ℕ) (s : Schema) (placed : Placed) → (o : Opens bytes limit s placed) → contents_in bytes s placed ≡ contents_of bytes o.header
 opened_contents bytes limit s placed o =
@@ -174,17 +174,17 @@ opened_contents bytes limit s placed o =
     ∙ ap (λ (vars : List PlacedVar). of o.header.schema vars (record_size_of_file placed)) held.vars_are
     ∙ ap (λ (size : ℕ). of o.header.schema (placed_vars o.header.schema (places_of o.header.places) (length bytes)) size) held.size_is
 
-pub sent_opened : Laws → (bytes : List ℕ) (limit : ℕ) (name : List ℕ) (p : Pick) (style : FloatStyle) (s : Schema) (placed : Placed) → Opens bytes limit s placed → (old new : Option (List ℕ)) (answer : Answer)
-    → Gone (IsSelection (contents_in bytes s placed) name p style) old new answer → Gone (IsCsvText bytes limit name p style) old new answer
-sent_opened laws bytes limit name p style s placed o old new answer gone = (
+pub sent_opened : Laws → (bytes : List ℕ) (limit : ℕ) (name : List ℕ) (p : Pick) (style : FloatStyle) (texts : Bool) (s : Schema) (placed : Placed) → Opens bytes limit s placed → (old new : Option (List ℕ)) (answer : Answer)
+    → Gone (IsSelection (contents_in bytes s placed) name p style texts) old new answer → Gone (IsCsvText bytes limit name p style texts) old new answer
+sent_opened laws bytes limit name p style texts s placed o old new answer gone = (
   gone.0,
   gone.1,
-  writes laws bytes limit name p style o.header o.passes answer gone.0
-      (subst (λ (c : Contents). Writes (IsSelection c name p style) answer gone.0) (opened_contents bytes limit s placed o) gone.2),
+  writes laws bytes limit name p style texts o.header o.passes answer gone.0
+      (subst (λ (c : Contents). Writes (IsSelection c name p style texts) answer gone.0) (opened_contents bytes limit s placed o) gone.2),
 )
 
-pub sent_fault : (bytes : List ℕ) (limit : ℕ) (name : List ℕ) (p : Pick) (style : FloatStyle) → OneAnswer (IsCsvText bytes limit name p style) → (old new : Option (List ℕ)) (f : FileFault) (answer : Answer) (result : Result (Unit {0}) Halt) → Fails bytes limit f
-    → SendsAll old new (file_fault_line f) result → answer ≡ answer_of result Refused → Gone (IsCsvText bytes limit name p style) old new answer
-sent_fault bytes limit name p style one old new f answer result a s e =
-    subst (λ (x : Answer). Gone (IsCsvText bytes limit name p style) old new x) (sym e)
-    (sent (IsCsvText bytes limit name p style) (λ a b t u x y. (one a b t u x y).1) old new (file_fault_line f) Refused result (inr (f, a, refl)) (inr (f, a, refl)) s)
+pub sent_fault : (bytes : List ℕ) (limit : ℕ) (name : List ℕ) (p : Pick) (style : FloatStyle) (texts : Bool) → OneAnswer (IsCsvText bytes limit name p style texts) → (old new : Option (List ℕ)) (f : FileFault) (answer : Answer) (result : Result (Unit {0}) Halt) → Fails bytes limit f
+    → SendsAll old new (file_fault_line f) result → answer ≡ answer_of result Refused → Gone (IsCsvText bytes limit name p style texts) old new answer
+sent_fault bytes limit name p style texts one old new f answer result a s e =
+    subst (λ (x : Answer). Gone (IsCsvText bytes limit name p style texts) old new x) (sym e)
+    (sent (IsCsvText bytes limit name p style texts) (λ a b t u x y. (one a b t u x y).1) old new (file_fault_line f) Refused result (inr (f, a, refl)) (inr (f, a, refl)) s)

@@ -19,10 +19,10 @@ use Rattle.ncc_slab.specs.Stretches.{all_stretches}
 use Rattle.ncc_slab.specs.declared.fault.SlabFault.{SlabFault}
 use Rattle.ncc_slab.specs.declared.fault.SlabFault.TheVariants.{NoVariable}
 use Rattle.ncc_slab.specs.declared.slab.Slab.{Slab}
-use Rattle.ncc_csv.specs.Csv.{csv_text}
 use Rattle.ncc_csv.specs.Named.{IsFirstNamed, no_var}
 use Rattle.ncc_csv.specs.Picks.{picked}
 use Rattle.ncc_csv.specs.Sheets.{sheet_or_line}
+use Rattle.ncc_csv.specs.Texts.{printed_text}
 use Rattle.ncc_csv.specs.declared.pick.Pick.{Pick}
 use Rattle.ncc_engines.specs.declared.answer.Answer.{Answer}
 use Rattle.ncc_engines.specs.declared.answer.Answer.TheVariants.{Passed, Refused, Device, Memory}
@@ -57,11 +57,11 @@ abbrev pub refusal : Contents → Pick → (number : Option ℕ) → Option Slab
 refusal c p None = Some NoVariable
 refusal c p (Some n) = slab_fault c.vars n (picked_in c n p)
 
--- the names and the rows, with floats in this style
-abbrev pub table : Contents → Pick → FloatStyle → (number : Option ℕ) → List ℕ
-table c p style None = []
-table c p style (Some n) =
-    csv_text style c.schema.dims (get_or c.schema.vars n no_var) c.bytes c.record_size (var_at c.vars n) (picked_in c n p)
+-- the names and the rows, with floats in this style, with or without texts
+abbrev pub table : Contents → Pick → FloatStyle → (texts : Bool) → (number : Option ℕ) → List ℕ
+table c p style texts None = []
+table c p style texts (Some n) =
+    printed_text style texts c.schema.dims (get_or c.schema.vars n no_var) c.bytes c.record_size (var_at c.vars n) (picked_in c n p)
 
 -- how many calls of the store the values take: one for each stretch of adjoining elements in a part
 abbrev pub value_calls : Contents → Pick → (number : Option ℕ) → ℕ
@@ -73,11 +73,11 @@ answer_to None = Passed
 answer_to (Some f) = Refused
 
 -- of the first variable of this name: names and rows where it is selected, else the line of the refusal
-pub record IsSelection (c : Contents) (name : List ℕ) (p : Pick) (style : FloatStyle) (answer : Answer) (text : List ℕ) : Type 0 where
+pub record IsSelection (c : Contents) (name : List ℕ) (p : Pick) (style : FloatStyle) (texts : Bool) (answer : Answer) (text : List ℕ) : Type 0 where
   pub number : Option ℕ
   pub named : IsFirstNamed c.schema.vars name number
   pub answer_is : answer ≡ answer_to (refusal c p number)
-  pub text_is : text ≡ sheet_or_line (refusal c p number) (table c p style number)
+  pub text_is : text ≡ sheet_or_line (refusal c p number) (table c p style texts number)
 
 -- the answer, where names and rows were sent (true) or the line of a refusal
 abbrev pub sheet_answer : Result Bool Halt → Answer
@@ -89,15 +89,15 @@ sheet_answer (Err halts.Memory) = Memory
 -- ---- of bytes
 
 -- bytes that pass, and the text of their selection
-abbrev pub IsSelectionOf : (bytes : List ℕ) (limit : ℕ) (name : List ℕ) → Pick → FloatStyle → Answer → (text : List ℕ) → Type 0
-IsSelectionOf b limit name p style answer text = (h : Header) × PassesWith b limit h × IsSelection (contents_of b h) name p style answer text
+abbrev pub IsSelectionOf : (bytes : List ℕ) (limit : ℕ) (name : List ℕ) → Pick → FloatStyle → (texts : Bool) → Answer → (text : List ℕ) → Type 0
+IsSelectionOf b limit name p style texts answer text = (h : Header) × PassesWith b limit h × IsSelection (contents_of b h) name p style texts answer text
 
-abbrev pub IsCsvText : (bytes : List ℕ) (limit : ℕ) (name : List ℕ) → Pick → FloatStyle → Answer → (text : List ℕ) → Type 0
-IsCsvText b limit name p style Passed text = IsSelectionOf b limit name p style Passed text
-IsCsvText b limit name p style Refused text = IsSelectionOf b limit name p style Refused text ⊎ IsFaultOf b limit text
-IsCsvText b limit name p style Device text = ⊥
-IsCsvText b limit name p style Memory text = ⊥
+abbrev pub IsCsvText : (bytes : List ℕ) (limit : ℕ) (name : List ℕ) → Pick → FloatStyle → (texts : Bool) → Answer → (text : List ℕ) → Type 0
+IsCsvText b limit name p style texts Passed text = IsSelectionOf b limit name p style texts Passed text
+IsCsvText b limit name p style texts Refused text = IsSelectionOf b limit name p style texts Refused text ⊎ IsFaultOf b limit text
+IsCsvText b limit name p style texts Device text = ⊥
+IsCsvText b limit name p style texts Memory text = ⊥
 
 -- what went out, by the answer
-abbrev pub SelectsInto : (bytes : List ℕ) (limit : ℕ) (name : List ℕ) → Pick → FloatStyle → Answer → (out : List ℕ) → Type 0
-SelectsInto b limit name p style answer out = Writes (IsCsvText b limit name p style) answer out
+abbrev pub SelectsInto : (bytes : List ℕ) (limit : ℕ) (name : List ℕ) → Pick → FloatStyle → (texts : Bool) → Answer → (out : List ℕ) → Type 0
+SelectsInto b limit name p style texts answer out = Writes (IsCsvText b limit name p style texts) answer out

@@ -1,6 +1,6 @@
 //! `csv`: the names and rows of a selection.
 
-ghost use Rattle.std.specs.Prelude.{◌≡◌, ◌⊎◌, ◌+◌, ◌≤◌, ℕ, Option, List, length, IsTrue};
+ghost use Rattle.std.specs.Prelude.{◌≡◌, ◌⊎◌, ◌+◌, ◌≤◌, ℕ, Bool, Option, List, length, IsTrue};
 ghost use Rattle.ncc_schema.specs.Device.{Puts};
 ghost use Rattle.ncc_schema.specs.declared.schema.Header.{Header};
 ghost use Rattle.ncc_store.specs.Store.{Unmoved, KeepsImages};
@@ -27,8 +27,9 @@ use std::alloc::Global;
 
 /// Of any bytes one answer and one text at most is right.
 fn one_csv_text()
-    ensures { (bytes : List ℕ) (limit : ℕ) (name : List ℕ) (pick : GivenPick) (style : GivenStyle) (a b : GivenAnswer) (t u : List ℕ)
-        → IsCsvText bytes limit name pick style a t → IsCsvText bytes limit name pick style b u → (a ≡ b) × (t ≡ u) }
+    ensures { (bytes : List ℕ) (limit : ℕ) (name : List ℕ) (pick : GivenPick) (style : GivenStyle) (texts : Bool)
+        (a b : GivenAnswer) (t u : List ℕ) → IsCsvText bytes limit name pick style texts a t
+        → IsCsvText bytes limit name pick style texts b u → (a ≡ b) × (t ≡ u) }
 {
     check_laws::passing_has_no_fault();
     header_or_stop();
@@ -53,12 +54,13 @@ fn select<S: Store, W: Sink, P: Progress>(
     name: &[u8],
     pick: Pick,
     style: FloatStyle,
+    texts: bool,
     sink: &mut W,
     progress: &mut P,
 ) -> Answer
     ensures selects { IsTrue S.tells_bytes → (out : List ℕ) × Puts (W.put sink.old) (W.put sink.new) out × Writes
         (IsSelection (contents_in (S.bytes (store_of file.old)) (schema_of file.old) (placed_of file.old))
-        name.now pick style)
+        name.now pick style texts)
         result out }
     ensures unmoved { Unmoved S.bytes S.images S.moment S.images_since (store_of file.old) (store_of file.new) }
     ensures kept { KeepsImages (S.images (store_of file.old)) (S.images (store_of file.new)) }
@@ -79,7 +81,7 @@ fn select<S: Store, W: Sink, P: Progress>(
         );
     };
     match pick.slab(alloc, file.placed().shape(var)) {
-        Ok(slab) => told(send_sheet(alloc, file, var, &slab, style, sink, progress)),
+        Ok(slab) => told(send_sheet(alloc, file, var, &slab, style, texts, sink, progress)),
         Err(fault) => {
             if fault == SlabFault::Memory {
                 return Answer::Memory;
@@ -90,8 +92,8 @@ fn select<S: Store, W: Sink, P: Progress>(
 }
 
 /// Writes the names and rows of what is picked of the first variable of this name, in a file that passes
-/// with at most `limit` bytes of header, with floats in this style; or the line of its refusal, or of the file's first
-/// fault.
+/// with at most `limit` bytes of header, with floats in this style, and with `texts` the last dimension of a char
+/// variable that has one as one field; or the line of its refusal, or of the file's first fault.
 pub fn csv_engine<S: Store, W: Sink, P: Progress>(
     alloc: Global,
     store: S,
@@ -99,11 +101,12 @@ pub fn csv_engine<S: Store, W: Sink, P: Progress>(
     name: &[u8],
     pick: Pick,
     style: FloatStyle,
+    texts: bool,
     sink: &mut W,
     progress: &mut P,
 ) -> (S, Answer)
     ensures selects { IsTrue S.tells_bytes → (out : List ℕ) × Puts (W.put sink.old) (W.put sink.new) out
-        × SelectsInto (S.bytes store) limit name.now pick style result.1 out }
+        × SelectsInto (S.bytes store) limit name.now pick style texts result.1 out }
     ensures own { IsTrue S.tells_bytes → result.1 ≡ Answer.Passed → HasOwnElements (S.bytes store) limit }
     ensures unmoved { Unmoved S.bytes S.images S.moment S.images_since store result.0 }
     ensures kept { KeepsImages (S.images store) (S.images result.0) }
@@ -123,7 +126,7 @@ pub fn csv_engine<S: Store, W: Sink, P: Progress>(
     match open(alloc, store, limit) {
         Ok(opened) => {
             let mut file = opened;
-            let answer = select(alloc, &mut file, name, pick, style, sink, progress);
+            let answer = select(alloc, &mut file, name, pick, style, texts, sink, progress);
             (file.into_store(), answer)
         }
         Err((store, refusal)) => match refusal {

@@ -6,6 +6,7 @@ mod helpers;
 mod named;
 mod parts;
 mod sheets;
+mod texts;
 
 use ncc_csv::{Pick, parse_list, send_names};
 use ncc_header::{Dim, Name, Seq, Var, WriteSink, XType};

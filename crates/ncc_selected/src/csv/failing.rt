@@ -26,6 +26,7 @@ fn sent_by_sink(alloc: Global, calls: u64) -> Result<Option<Sent>, AllocError> {
                 0,
                 &slab,
                 FloatStyle::Bits,
+                false,
                 &mut sink,
                 &mut Unshown,
             );
@@ -63,6 +64,7 @@ fn sent_from_store(alloc: Global, calls: u64) -> Result<Option<Sent>, AllocError
                 0,
                 &slab,
                 FloatStyle::Bits,
+                false,
                 &mut sink,
                 &mut Unshown,
             );

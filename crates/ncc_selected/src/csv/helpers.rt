@@ -20,6 +20,13 @@ pub const INTS: [u32; 30] = [
 /// All of it.
 pub const INTS_TEXT: &str = "y,x,m\n0,0,1\n0,1,2\n0,2,3\n1,0,4\n1,1,5\n1,2,6\n";
 
+/// The variable char c(y, x), with y of length 3 and x of length 5, and the texts `ab`, NUL, `c`, NUL; five NULs; and a
+/// comma, a double quote, a backslash, a space and ff.
+pub const TEXTS: [u32; 28] = [
+    0x43444601, 0, 0x0a, 2, 1, 0x79000000, 3, 1, 0x78000000, 5, 0, 0, 0x0b, 1, 1, 0x63000000, 2, 0,
+    1, 0, 0, 2, 16, 96, 0x61620063, 0, 0x00002c22, 0x5c20ff00,
+];
+
 /// A selection of these starts, counts and strides.
 pub fn slab(alloc: Global, lists: [&[u64]; 3]) -> Result<Slab, AllocError> {
     Ok(Slab {
@@ -35,6 +42,7 @@ fn sheet_of(
     words: &[u32],
     var: usize,
     slab: &Slab,
+    texts: bool,
 ) -> Result<Option<(Result<bool, Halt>, Vec<u8>)>, AllocError> {
     let store = MemStore::new(bytes_of(alloc, words)?);
     match open(alloc, store, LIMIT) {
@@ -47,6 +55,7 @@ fn sheet_of(
                 var,
                 slab,
                 FloatStyle::Bits,
+                texts,
                 &mut sink,
                 &mut Unshown,
             );
@@ -56,7 +65,29 @@ fn sheet_of(
     }
 }
 
-/// Of this variable of a file in words the text is sent, and the answer is whether it was selected.
+/// Of this variable of a file in words the text is sent, with texts or without, and the answer is whether it was
+/// selected.
+pub fn expect_printed<R: Abort + AllocGlobal>(
+    rt: &R,
+    words: &[u32],
+    var: usize,
+    lists: [&[u64]; 3],
+    texts: bool,
+    selected: bool,
+    text: &str,
+) -> Result<(), AllocError> {
+    let slab = slab(rt.alloc(), lists)?;
+    match sheet_of(rt.alloc(), words, var, &slab, texts)? {
+        Some((answer, sent)) => {
+            assert!(rt; answer == Ok(selected));
+            assert!(rt; sent.as_slice() == text.as_bytes(), "{text}");
+        }
+        None => assert!(rt; false, "{text}"),
+    }
+    Ok(())
+}
+
+/// Without texts.
 pub fn expect_answer<R: Abort + AllocGlobal>(
     rt: &R,
     words: &[u32],
@@ -65,15 +96,7 @@ pub fn expect_answer<R: Abort + AllocGlobal>(
     selected: bool,
     text: &str,
 ) -> Result<(), AllocError> {
-    let slab = slab(rt.alloc(), lists)?;
-    match sheet_of(rt.alloc(), words, var, &slab)? {
-        Some((answer, sent)) => {
-            assert!(rt; answer == Ok(selected));
-            assert!(rt; sent.as_slice() == text.as_bytes(), "{text}");
-        }
-        None => assert!(rt; false, "{text}"),
-    }
-    Ok(())
+    expect_printed(rt, words, var, lists, false, selected, text)
 }
 
 /// The sheet of a selection of the first variable.

@@ -6,6 +6,6 @@ use Rattle.ncc_csv.proofs.names.name_record.Given as goal
 
 abbrev pub invariant-loop-id : goal.invariant-loop-id
 invariant-loop-id l = record {
-  fields : fields_of l.row ≡ map name_text (map (name_of l.dims) (take l.id-index l.var.dims));
+  fields : fields_of l.row ≡ map name_text (map (name_of l.dims) (take l.id-index l.numbers));
   whole : partial_of l.row ≡ [];
 }

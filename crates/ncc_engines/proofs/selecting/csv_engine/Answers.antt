@@ -16,14 +16,14 @@ returns-in-Ok-clause-selects g c = λ told.
     let f = c.in-Ok.opened in
     let old = g.W.Sink.put c.args.sink.now in
     let new = g.W.Sink.put c.select-answer.new.sink in
-    let gone = subst (λ (b : List ℕ). Gone (IsSelection (contents_in b (schema_of f) (placed_of f)) c.args.name.now c.args.pick c.args.style) old new c.select-answer.result) c.in-Ok.ensures.unmoved.same (c.select-answer.ensures.selects told) in
-    sent_opened laws (g.S.Store.bytes c.args.store) c.args.limit c.args.name.now c.args.pick c.args.style (schema_of f) (placed_of f) (c.in-Ok.ensures.passes told) old new c.select-answer.result gone
+    let gone = subst (λ (b : List ℕ). Gone (IsSelection (contents_in b (schema_of f) (placed_of f)) c.args.name.now c.args.pick c.args.style c.args.texts) old new c.select-answer.result) c.in-Ok.ensures.unmoved.same (c.select-answer.ensures.selects told) in
+    sent_opened laws (g.S.Store.bytes c.args.store) c.args.limit c.args.name.now c.args.pick c.args.style c.args.texts (schema_of f) (placed_of f) (c.in-Ok.ensures.passes told) old new c.select-answer.result gone
 
 pub returns-in-Fault-clause-selects : goal.returns-in-Fault-clause-selects
 returns-in-Fault-clause-selects g c = λ told.
     let fails = subst (λ (r : Refusal). Refuses (g.S.Store.bytes c.args.store) c.args.limit r) c.in-Fault.is (c.in-Err.ensures.refused told) in
-    let one : OneAnswer (IsCsvText (g.S.Store.bytes c.args.store) c.args.limit c.args.name.now c.args.pick c.args.style) = λ a b t u x y. c.one_csv_text.ensures (g.S.Store.bytes c.args.store) c.args.limit c.args.name.now c.args.pick c.args.style a b t u x y in
-    sent_fault (g.S.Store.bytes c.args.store) c.args.limit c.args.name.now c.args.pick c.args.style one (g.W.Sink.put c.args.sink.now) (g.W.Sink.put c.send_file_fault.new.sink) c.in-Fault.fault c.answered.result c.send_file_fault.result
+    let one : OneAnswer (IsCsvText (g.S.Store.bytes c.args.store) c.args.limit c.args.name.now c.args.pick c.args.style c.args.texts) = λ a b t u x y. c.one_csv_text.ensures (g.S.Store.bytes c.args.store) c.args.limit c.args.name.now c.args.pick c.args.style c.args.texts a b t u x y in
+    sent_fault (g.S.Store.bytes c.args.store) c.args.limit c.args.name.now c.args.pick c.args.style c.args.texts one (g.W.Sink.put c.args.sink.now) (g.W.Sink.put c.send_file_fault.new.sink) c.in-Fault.fault c.answered.result c.send_file_fault.result
     fails c.send_file_fault.ensures.sent c.answered.ensures
 
 pub returns-in-Ok-clause-calls : goal.returns-in-Ok-clause-calls

@@ -34,7 +34,7 @@ shape-requires g c =
 pub returns-then-eq-clause-selects : goal.returns-then-eq-clause-selects
 returns-then-eq-clause-selects g c = λ told.
     let f = c.args.file.now in
-    nothing (IsSelection (contents_in (g.S.Store.bytes (store_of f)) (schema_of f) (placed_of f)) c.args.name.now c.args.pick c.args.style) (g.W.Sink.put c.args.sink.now)
+    nothing (IsSelection (contents_in (g.S.Store.bytes (store_of f)) (schema_of f) (placed_of f)) c.args.name.now c.args.pick c.args.style c.args.texts) (g.W.Sink.put c.args.sink.now)
 
 pub returns-else-eq-clause-selects : goal.returns-else-eq-clause-selects
 returns-else-eq-clause-selects g c = λ told.
@@ -47,7 +47,7 @@ returns-else-eq-clause-selects g c = λ told.
     let there : var < length vars = omega (arith, named.0, as_many) in
     let picks : PicksAs (var_at vars var).shape c.args.pick (Err c.in-Err.fault) =
     subst (λ (l : List ℕ). PicksAs l c.args.pick (Err c.in-Err.fault)) (c.shape.ensures ∙ ap (λ (p : Placed). (var_at (vars_of p) var).shape) c.placed.ensures) c.in-Err.ensures in
-    sent_refusal (contents_in (g.S.Store.bytes (store_of f)) (schema_of f) (placed_of f)) c.args.name.now c.args.pick c.args.style (g.W.Sink.put c.args.sink.now) (g.W.Sink.put c.send_refusal-in-Err.new.sink) (Some var) c.in-Err.fault
+    sent_refusal (contents_in (g.S.Store.bytes (store_of f)) (schema_of f) (placed_of f)) c.args.name.now c.args.pick c.args.style c.args.texts (g.W.Sink.put c.args.sink.now) (g.W.Sink.put c.send_refusal-in-Err.new.sink) (Some var) c.in-Err.fault
     c.answered-in-Err.result c.send_refusal-in-Err.result named (pick_refused c.pick_fault_is_shape_fault.ensures vars var c.args.pick c.in-Err.fault there (search rules) picks) c.send_refusal-in-Err.ensures.sent c.answered-in-Err.ensures
 
 pub returns-in-Ok-clause-selects : goal.returns-in-Ok-clause-selects
@@ -62,10 +62,10 @@ returns-in-Ok-clause-selects g c = λ told.
     subst (λ (l : List Var). IsFirstNamed l c.args.name.now (Some var)) (c.as_slice.ensures ∙ ap (λ (s : Schema). s.vars) c.schema.ensures) c.in-Some.ensures in
     let shape : c.shape.result.now ≡ (var_at vars var).shape = c.shape.ensures ∙ ap (λ (p : Placed). (var_at (vars_of p) var).shape) c.placed.ensures in
     let slab : c.in-Ok.slab ≡ picked (var_at vars var).shape c.args.pick = c.in-Ok.ensures.1 ∙ ap (λ (l : List ℕ). picked l c.args.pick) shape in
-    let sent = subst (λ (s : Slab). SendsSheet (slab_fault vars var s) old new (sheet_text c.args.style bytes (schema_of f) (placed_of f) var s) c.send_sheet.result) slab (c.send_sheet.ensures.sent told) in
+    let sent = subst (λ (s : Slab). SendsSheet (slab_fault vars var s) old new (sheet_text c.args.style c.args.texts bytes (schema_of f) (placed_of f) var s) c.send_sheet.result) slab (c.send_sheet.ensures.sent told) in
     let answer = subst (λ (s : Slab). (b : Bool) → c.send_sheet.result ≡ Ok b → b ≡ is_none (slab_fault vars var s)) slab
     (λ b is. subst (λ (r : Result Bool Halt). IfOk r (λ (x : Bool). x ≡ is_none (slab_fault vars var c.in-Ok.slab))) is c.send_sheet.ensures.answer) in
-    sent_sheet (contents_in bytes (schema_of f) (placed_of f)) c.args.name.now c.args.pick c.args.style old new (Some var) c.told.result c.send_sheet.result named sent answer c.told.ensures
+    sent_sheet (contents_in bytes (schema_of f) (placed_of f)) c.args.name.now c.args.pick c.args.style c.args.texts old new (Some var) c.told.result c.send_sheet.result named sent answer c.told.ensures
 
 pub returns-in-Ok-clause-calls : goal.returns-in-Ok-clause-calls
 returns-in-Ok-clause-calls g c = λ number is.
