@@ -557,7 +557,11 @@ expect "texts" 0 'n,c
 expect "texts of a selection" 0 'n,c
 1,"a,"
 2,' "" csv --text texts.nc c --start 1,0 --count 2,2
-expect "texts backwards are refused" 1 "refused Outside 1" "" csv --text texts.nc c --start 0,3 --count 1,3
+expect "texts of no characters" 0 "n,c
+0,
+1,
+2," "" csv --text texts.nc c --start 0,5 --count 3,0
+expect "texts past the end are refused" 1 "refused Outside 1" "" csv --text texts.nc c --start 0,3 --count 1,3
 expect "no texts of shorts" 0 "dim,vx
 1,1
 3,1" "" csv --text tiny.nc vx --start 1 --stride 2
@@ -612,21 +616,24 @@ count "a name that isn't UTF-8" "3 tiny.nc: ok CDF-1 records 0 variables 1 error
 # ---- why something failed
 
 expect "no such file" 3 "" "error device
-ncc: not_there.nc: no such file" check --verbose not_there.nc
+ncc: not_there.nc: no such file or folder" check --verbose not_there.nc
 expect "a folder, told" 3 "" "error device
 ncc: .: is a folder" list --verbose .
 expect "a file in place of a folder, told" 3 "" "error device
-ncc: tiny.nc/x: no such file" csv --verbose tiny.nc/x v
+ncc: tiny.nc/x: no such file or folder" csv --verbose tiny.nc/x v
 expect "several files, told" 3 "tiny.nc: ok CDF-1 records 0 variables 1" "not_there.nc: error device
-ncc: not_there.nc: no such file" check --verbose not_there.nc tiny.nc
-expect "in brief, told" 3 "3${tab}error device${tab}not_there.nc" "ncc: not_there.nc: no such file" \
+ncc: not_there.nc: no such file or folder" check --verbose not_there.nc tiny.nc
+expect "in brief, told" 3 "3${tab}error device${tab}not_there.nc" "ncc: not_there.nc: no such file or folder" \
   check --brief --verbose not_there.nc
 expect "an OUT that is there, told" 3 "" "error device
 ncc: floats.nc: exists already" convert --verbose --to 2 tiny.nc floats.nc
 expect "a list of numbers, told" 2 "" "error usage
 ncc: --start: '1,,2' is no list of numbers" csv --verbose tiny.nc vx --start 1,,2
 expect "a list of names, told" 3 "" "error device
-ncc: not_there: no such file" list --verbose --files-from0 not_there
+ncc: not_there: no such file or folder" list --verbose --files-from0 not_there
+printf 'tiny.nc' > cut_list
+expect "a list without its last NUL byte, told" 3 "" "error device
+ncc: tiny.nc: no NUL byte stands after this name in the list" check --verbose --files-from0 cut_list
 mkfifo pipe
 expect "a pipe" 3 "" "error device
 ncc: pipe: is a pipe or device, not a file" check --verbose pipe
@@ -662,13 +669,13 @@ expect "check of values to a greater limit that are cut" 1 "fault EndsEarly at 4
   check --max-header 67108868 cut_past_the_limit.nc
 head_of $((67108864 - 48)) > at_the_limit.nc
 "$ncc" list at_the_limit.nc > out 2> err
-count "a header of 67,108,864 bytes" "0 67108864 $((67108864 - 48 + 57)) " \
+count "a header of 67108864 bytes" "0 67108864 $((67108864 - 48 + 57)) " \
   "$? $(wc -c < at_the_limit.nc | tr -d ' ') $(wc -c < out | tr -d ' ') $(cat err)"
 head_of $((67108864 - 44)) > past_the_limit.nc
 expect "a header of 67,108,868 bytes" 1 "fault HeaderTooLong at 67108864" "" list past_the_limit.nc
 converts at_the_limit.nc 1 at_the_limit.nc
 makes_none "convert a header of 67,108,868 bytes" past_the_limit.nc 1 1 "fault HeaderTooLong at 67108864" ""
-expect "check of a header of 67,108,864 bytes" 0 "ok CDF-1 records 0 variables 0" "" check at_the_limit.nc
+expect "check of a header of 67108864 bytes" 0 "ok CDF-1 records 0 variables 0" "" check at_the_limit.nc
 expect "check of a header of 67,108,868 bytes" 1 "fault HeaderTooLong at 67108864" "" check past_the_limit.nc
 expect "check of it with a greater limit" 0 "ok CDF-1 records 0 variables 0" "" \
   check --max-header 67108868 past_the_limit.nc

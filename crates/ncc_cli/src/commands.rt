@@ -15,7 +15,7 @@ refusals.
 
 Status:
   0  it passed
-  1  the file was refused
+  1  the file has a fault, or what is asked for is refused
   2  the command line is wrong
   3  a device or memory failed";
 
@@ -27,7 +27,7 @@ Of several files each line has the path, a colon and a space before it, and the 
 worst. A FILE - is standard input, where it is the only one. A list of names has a NUL byte after
 each, as `find -print0` writes them.
 
-A header may have 67,108,864 bytes; a longer one is the fault HeaderTooLong. `ncc help faults`
+A header may have 67108864 bytes; a longer one is the fault HeaderTooLong. `ncc help faults`
 lists all faults.
 
 Status:
@@ -48,7 +48,7 @@ Of several files each line has the path, a colon and a space before it, and the 
 worst. With --brief there is one line for each: the status, the answer and the path, with tabs
 between them. A list of names has a NUL byte after each, as `find -print0` writes them.
 
-A header may have 67,108,864 bytes, or as many as --max-header says; a longer one is the
+A header may have 67108864 bytes, or as many as --max-header says; a longer one is the
 fault HeaderTooLong.
 
 Status:
@@ -59,10 +59,11 @@ Status:
 
 /// What the help of `csv` says of its lists and statuses.
 const CSV_STATUSES: &str = "Example:
-  ncc csv --decimal ocean.nc temperature --start 0,0,0 --count 1,1,5
+  ncc csv --decimal ocean.nc temperature --start 0,0,0 --count 1,1,3
 
 A is a list of numbers with commas between them, one for each dimension. What isn't given
-is 0 for the start, 1 for the stride, and for the count as many indices as there are.
+is 0 for the start, 1 for the stride, and for the count as many as fit. VAR is the name as it is in
+the file, where `list` prints \\x20 for a space.
 
 The first row names the dimensions and the variable. Each other row has the indices of an
 element in the whole array, and its value; a char is the number of its byte, and a float or

@@ -11,7 +11,7 @@ pub const FAULTS: &str = "Faults of the header, at the offset of the field that 
   BadDimId           a variable names a dimension that isn't there
   RecordDimNotFirst  the record dimension isn't the variable's first
   NegativeOffset     a begin has its top bit set
-  HeaderTooLong      the header passes the limit of 67,108,864 bytes, or of --max-header
+  HeaderTooLong      the header passes the limit of 67108864 bytes, or of --max-header
   EndsEarly          the file ends inside the header
 
 Faults of the layout, at the begin field of the variable:

@@ -35,7 +35,7 @@ pub struct Folder<'a, R: Clock, E: Write> {
     /// How many files were opened, of how many.
     opened: u64,
     all: u64,
-    /// The number of a name that was cut: that file isn't there.
+    /// The number of a name that was cut: no file is opened for it.
     cut: Option<u64>,
     reason: Reason,
     failures: u64,
@@ -76,7 +76,7 @@ impl<'a, R: Files<File = File> + Clock, E: Write> Folder<'a, R, E> {
         self.opened = number.saturating_add(1);
         self.line.files(number, self.all);
         if self.cut == Some(number) {
-            return Err(Reason::Missing);
+            return Err(Reason::CutName);
         }
         open_store(self.files, path, false)
     }

@@ -14,6 +14,8 @@ pub enum Reason {
     ReadOnly,
     /// The name isn't UTF-8, which the library of the system's calls wants.
     NoText,
+    /// The list of names has no NUL byte after this one.
+    CutName,
     /// Nobody reads the output any more.
     Closed,
     Other,
@@ -45,7 +47,7 @@ pub fn reason_of(kind: ErrorKind) -> Reason {
 /// A reason in words.
 fn words(reason: Reason) -> &'static str {
     match reason {
-        Reason::Missing => "no such file",
+        Reason::Missing => "no such file or folder",
         Reason::Folder => "is a folder",
         Reason::Special => "is a pipe or device, not a file",
         Reason::Denied => "permission denied",
@@ -53,6 +55,7 @@ fn words(reason: Reason) -> &'static str {
         Reason::Full => "no space left",
         Reason::ReadOnly => "read-only file system",
         Reason::NoText => "the name isn't UTF-8",
+        Reason::CutName => "no NUL byte stands after this name in the list",
         Reason::Closed => "nobody reads it",
         Reason::Other => "can't be read or written",
     }

@@ -42,7 +42,7 @@ fn only_file<'a>(names: &'a FileNames, form: Form) -> Option<&'a [u8]> {
 
 /// Answers for a file whose name was cut.
 fn cut_off(name: &[u8]) -> Ended<'_> {
-    let reason = Reason::Missing;
+    let reason = Reason::CutName;
     Ended {
         answer: Answer::Device,
         trouble: Some(Trouble { name, reason }),
