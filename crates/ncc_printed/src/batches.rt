@@ -1,6 +1,6 @@
 //! What several files in one call print, in lines and in brief.
 
-ghost use Rattle.std.specs.Prelude.{◌≤◌, ◌==◌, true, length, drop, Some, None, if◌then◌else◌};
+ghost use Rattle.std.specs.Prelude.{◌≤◌, ◌==◌, false, length, Some, None, if◌then◌else◌};
 ghost use Rattle.ncc_values.specs.Failures.{last_count};
 
 use ncc_batch::{Form, Shelf, Work, answer_all, names_in};
@@ -11,15 +11,16 @@ use ncc_lines::FloatStyle;
 use ncc_store::MemStore;
 use ncc_values::count_failure;
 use std::alloc::{AllocError, Global};
+use std::mem::replace;
 use std::test::*;
 
 /// A path of one byte is that of a whole file, one of two bytes of a file that is cut; there is no other.
+#[derive(Drop)]
 struct Two {
     alloc: Global,
     whole: Vec<u8>,
     cut: Vec<u8>,
     paths: Seq<Seq<u8>>,
-    opened: usize,
     last_is_whole: bool,
     told: u64,
     failures: u64,
@@ -35,7 +36,6 @@ impl Two {
             whole,
             cut,
             paths: names_in(alloc, list)?.names,
-            opened: 0,
             last_is_whole: false,
             told: 0,
             failures: 0,
@@ -46,12 +46,12 @@ impl Two {
 impl Shelf for Two {
     type File = MemStore;
 
-    ghost tells = { true };
+    ghost tells = { false };
 
     ghost file = { λ s path. if length path == 1 then Some s.whole.items
         else (if length path == 2 then Some s.cut.items else None) };
 
-    ghost left = { λ s. drop s.opened s.paths };
+    ghost left = { λ s. s.paths };
 
     ghost held = { λ s. if s.last_is_whole then s.whole.items else s.cut.items };
 
@@ -60,7 +60,11 @@ impl Shelf for Two {
     ghost at_most_last = { λ s. s.counted };
 
     fn open(&mut self, path: &[u8]) -> Option<MemStore> {
-        self.opened = self.opened.saturating_add(1);
+        let mut paths = replace(&mut self.paths, Seq::new(self.alloc)).into_vec();
+        if !paths.is_empty() {
+            let _path = paths.remove(0);
+        }
+        self.paths = Seq::from_vec(paths);
         self.last_is_whole = path.len() == 1;
         let copy = if path.len() == 1 {
             self.whole.to_vec(self.alloc)

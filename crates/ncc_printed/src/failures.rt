@@ -67,14 +67,7 @@ fn failing_sources(rt: HostRuntime) -> Result<(), Fail> {
         });
         let mut sink = WriteSink::new(Vec::new(alloc));
         assert!(rt;
-            list_engine(
-                alloc,
-                &mut source,
-                LIMIT,
-                FloatStyle::Bits,
-                false,
-                &mut sink
-            ) == Answer::Device
+            list_engine(alloc, &mut source, LIMIT, FloatStyle::Bits, &mut sink) == Answer::Device
         );
         assert!(rt; sink.into_inner().is_empty());
     }
@@ -91,14 +84,7 @@ fn failing_sinks(rt: HostRuntime) -> Result<(), Fail> {
         let mut source = ReadSource::new(input.as_slice());
         let taken = Vec::new(alloc);
         let mut sink = WriteSink::new(FailingWriter { taken, left });
-        let answer = list_engine(
-            alloc,
-            &mut source,
-            LIMIT,
-            FloatStyle::Bits,
-            false,
-            &mut sink,
-        );
+        let answer = list_engine(alloc, &mut source, LIMIT, FloatStyle::Bits, &mut sink);
         let wanted = if left < text.len() {
             Answer::Device
         } else {
@@ -176,14 +162,7 @@ fn sinks_that_fail_once(rt: HostRuntime) -> Result<(), Fail> {
     let failed = false;
     let mut sink = WriteSink::new(FailsOnce { failed, taken });
     assert!(rt;
-        list_engine(
-            alloc,
-            &mut source,
-            LIMIT,
-            FloatStyle::Bits,
-            false,
-            &mut sink
-        ) == Answer::Device
+        list_engine(alloc, &mut source, LIMIT, FloatStyle::Bits, &mut sink) == Answer::Device
     );
     assert!(rt; sink.into_inner().taken.is_empty());
     let mut store = MemStore::new(bytes_of(alloc, &EACH_NOTE)?);

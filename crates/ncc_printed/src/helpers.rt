@@ -50,16 +50,7 @@ pub fn expect_within<R: Abort + AllocGlobal>(
 ) {
     let mut source = ReadSource::new(input);
     let mut sink = WriteSink::new(Vec::new(rt.alloc()));
-    assert!(rt;
-        list_engine(
-            rt.alloc(),
-            &mut source,
-            limit,
-            FloatStyle::Bits,
-            false,
-            &mut sink
-        ) == answer
-    );
+    assert!(rt; list_engine(rt.alloc(), &mut source, limit, FloatStyle::Bits, &mut sink) == answer);
     let written = sink.into_inner();
     assert!(rt; written.as_slice() == text.as_bytes());
 }

@@ -5,9 +5,10 @@ use Rattle.ncc_batch.proofs.batch.answer_all.Goals as goal
 
 pub answer_one-requires : goal.answer_one-requires
 answer_one-requires g c = λ tells.
-    let p = c.path-item.result in
-    (drop (c.loop-path.path-index + 1) c.args.paths.now,
-      rw c.as_slice.ensures (at_path c.args.paths.now _ c.loop-path.path-index p c.loop-path-test.true c.path-item.is (c.loop-path.invariant.left tells)))
+    let p = c.path-item.result in (
+      drop (c.loop-path.path-index + 1) c.args.paths.now,
+      rw c.as_slice.ensures (at_path c.args.paths.now _ c.loop-path.path-index p c.loop-path-test.true c.path-item.is (c.loop-path.invariant.left tells)),
+    )
 
 pub returns-in_err-next-clause-batch : goal.returns-in_err-next-clause-batch
 returns-in_err-next-clause-batch g c = λ tells.
