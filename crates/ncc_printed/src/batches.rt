@@ -1,6 +1,6 @@
 //! What several files in one call print, in lines and in brief.
 
-ghost use Rattle.std.specs.Prelude.{◌≤◌, ◌==◌, false, length, Some, None, if◌then◌else◌};
+ghost use Rattle.std.specs.Prelude.{◌≤◌, ◌==◌, ◌≡◌, true, length, Some, None, IfOk, if◌then◌else◌};
 ghost use Rattle.ncc_values.specs.Failures.{last_count};
 
 use ncc_batch::{Form, Shelf, Work, answer_all, names_in};
@@ -11,31 +11,32 @@ use ncc_lines::FloatStyle;
 use ncc_store::MemStore;
 use ncc_values::count_failure;
 use std::alloc::{AllocError, Global};
-use std::mem::replace;
 use std::test::*;
 
 /// A path of one byte is that of a whole file, one of two bytes of a file that is cut; there is no other.
 #[derive(Drop)]
-struct Two {
+struct Two<'a> {
     alloc: Global,
     whole: Vec<u8>,
     cut: Vec<u8>,
-    paths: Seq<Seq<u8>>,
+    paths: &'a [Seq<u8>],
     last_is_whole: bool,
     told: u64,
     failures: u64,
     ghost counted: { failures ≤ last_count },
 }
 
-impl Two {
-    fn new(alloc: Global, list: &[u8]) -> Result<Two, AllocError> {
+impl<'a> Two<'a> {
+    fn new(alloc: Global, paths: &'a [Seq<u8>]) -> Result<Two<'a>, AllocError>
+        ensures { IfOk result (λ t. t.paths.now ≡ paths.now) }
+    {
         let whole = bytes_of(alloc, &EMPTY)?;
         let cut = whole.split_at(30.min(whole.len())).0.to_vec(alloc)?;
         Ok(Two {
             alloc,
             whole,
             cut,
-            paths: names_in(alloc, list)?.names,
+            paths,
             last_is_whole: false,
             told: 0,
             failures: 0,
@@ -43,15 +44,15 @@ impl Two {
     }
 }
 
-impl Shelf for Two {
+impl<'a> Shelf for Two<'a> {
     type File = MemStore;
 
-    ghost tells = { false };
+    ghost tells = { true };
 
     ghost file = { λ s path. if length path == 1 then Some s.whole.items
         else (if length path == 2 then Some s.cut.items else None) };
 
-    ghost left = { λ s. s.paths };
+    ghost left = { λ s. s.paths.now };
 
     ghost held = { λ s. if s.last_is_whole then s.whole.items else s.cut.items };
 
@@ -60,11 +61,9 @@ impl Shelf for Two {
     ghost at_most_last = { λ s. s.counted };
 
     fn open(&mut self, path: &[u8]) -> Option<MemStore> {
-        let mut paths = replace(&mut self.paths, Seq::new(self.alloc)).into_vec();
-        if !paths.is_empty() {
-            let _path = paths.remove(0);
+        if let Some((_, rest)) = self.paths.split_first() {
+            self.paths = rest;
         }
-        self.paths = Seq::from_vec(paths);
         self.last_is_whole = path.len() == 1;
         let copy = if path.len() == 1 {
             self.whole.to_vec(self.alloc)
@@ -140,7 +139,7 @@ fn several_files(rt: HostRuntime) -> Result<(), Fail> {
     let list = names_in(alloc, names)?;
     assert!(rt; list.is_cut);
     for (work, form, answer, text) in ROWS {
-        let mut shelf = Two::new(alloc, names)?;
+        let mut shelf = Two::new(alloc, list.names.as_slice())?;
         let mut sink = WriteSink::new(Vec::new(alloc));
         let found = answer_all(
             alloc,
@@ -165,7 +164,7 @@ fn outputs_of_several_files_that_fail(rt: HostRuntime) -> Result<(), Fail> {
     let list = names_in(alloc, names)?;
     for (work, form, _, text) in ROWS {
         for calls in 0..8 {
-            let mut shelf = Two::new(alloc, names)?;
+            let mut shelf = Two::new(alloc, list.names.as_slice())?;
             let mut sink = FuseSink::new(WriteSink::new(Vec::new(alloc)), calls, 5);
             let found = answer_all(
                 alloc,
