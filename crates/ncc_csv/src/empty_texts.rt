@@ -81,7 +81,8 @@ fn send_empty_rows<W: Sink>(
     requires ranked { length heads.old ≡ length slab.now.count - 1 }
     requires fits { HasIndices slab.now }
     requires there { rows ≡ length (index_lists (take (length heads.old) slab.now.count)) }
-    ensures sent { SendsAll (W.put sink.old) (W.put sink.new) (first_rows (λ k. numbered_row slab.now k []) rows) result }
+    ensures sent { SendsAll (W.put sink.old) (W.put sink.new)
+        (first_rows (λ k. numbered_row slab.now k []) rows) result }
     ensures count { Blames (W.failures sink.old) (W.failures sink.new) result }
 {
     let mut shown = Vec::new(alloc);
