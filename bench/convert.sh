@@ -5,7 +5,7 @@
 # be the same; a sync of the new file follows each of the two, as `ncc` makes one. The runs go by turns, and medians of
 # five are told, with the peak memory. The program is the first word, or the ncc of the path: one that scripts/install.sh
 # built. TMPDIR says which disk: on one in memory syncs cost nothing. The aim is less than nccopy's time and less than
-# 16 MiB of memory, and for the first file at most 1.5 of cp's time.
+# 16 MiB of memory, and for the first file at most 1.3 of cp's time.
 set -euo pipefail
 ncc=${1:-ncc}
 here=$(cd "$(dirname "$0")" && pwd)

@@ -2,7 +2,7 @@
 # Times `ncc extend`: 1,000 records to a file of one lone record variable, a short, and 16 records of 65,536 shorts to
 # one of 512 MiB. Beside it stands a C program that makes the same writes and syncs (extend_writes.c), by heart, and
 # without a look at the file. The program is the first word, or the ncc of the path: one that scripts/install.sh built.
-# The file must lie on a disk whose syncs are real: TMPDIR says where. The aim is at most 1.2 of the C program's time.
+# The file must lie on a disk whose syncs are real: TMPDIR says where. The aim is at most 1.25 of the C program's time.
 set -euo pipefail
 ncc=${1:-ncc}
 here=$(cd "$(dirname "$0")" && pwd)
@@ -41,7 +41,7 @@ least_of() {
     echo "$best"
 }
 
-# Times N records more of so many bytes, from an offset on, behind so many records.
+# Times N records more of so many bytes, from an offset on, after so many records.
 extend() {
     local title=$1 file=$2 more=$3 size=$4 place=$5 first=$6 taken peer
     fresh "$file"

@@ -1,5 +1,5 @@
-/* The writes and syncs of `ncc extend` on a file of one short record variable with a 4-byte count: N records of SIZE
-   bytes from offset PLACE on, the first of them counted as FIRST + 1. */
+/* The writes and syncs of `ncc extend` on a file of one short record variable with a 4-byte count: a sync, and N records
+   of SIZE bytes from offset PLACE on, the first of them counted as FIRST + 1. */
 #include <fcntl.h>
 #include <stdio.h>
 #include <stdlib.h>
@@ -16,6 +16,7 @@ int main(int argc, char **argv) {
         record[i] = (char)0x80;
         record[i + 1] = 1;
     }
+    if (times > 0 && fsync(file)) return 3;
     for (long i = 0; i < times; i++) {
         unsigned count = first + i + 1;
         unsigned char field[4] = {count >> 24, count >> 16, count >> 8, count};

@@ -131,7 +131,7 @@ room_for=$(awk '/^MemAvailable/ { print int($2 / 4000000) }' /proc/meminfo)
 if [ "$idle" -gt "$room_for" ]; then idle=$room_for; fi
 if [ "$idle" -lt 1 ]; then idle=1; fi
 echo "Proving and building ncc: ${#crates[@]} crates, on $idle processors."
-echo "From nothing that is an hour of processor time, some 20 minutes on 4; with no change since, under a minute."
+echo "From nothing that is an hour of processor time, about half an hour on 4; with no change since, under a minute."
 echo "The log is $log"
 # No other run of rt works in these folders meanwhile.
 for name in $(printf '%s\n' "${crates[@]}" | sort); do

@@ -1,38 +1,62 @@
-// Refuses one allocation of a run, the one whose number the variable REFUSED has; or each sync, where UNSYNCED is there.
-// At the end of the run it writes how many allocations there were onto the file that COUNTED names. Preloaded by
-// refuse_memory.sh and refuse_test_memory.sh.
+// Refuses calls of a run. The variable REFUSED has the number of one allocation; FAILED has a call and a number, as
+// `fsync 2`: that one fails, and no other; UNSYNCED has a number: each sync from that one on; UNLINKED, where it is
+// there, means each second name of a file, as file systems do that have none. At the end of the run it writes how many
+// allocations there were onto the file that COUNTED names, and how many of the calls below onto the one that CALLS
+// names. Onto the one that TRACED names it writes each sync, link, unlink and rename as it comes, with its path.
+// Preloaded by refuse_memory.sh, refuse_test_memory.sh, reliability.sh and test_program.sh.
 #define _GNU_SOURCE
 #include <dlfcn.h>
 #include <errno.h>
 #include <stdio.h>
 #include <stdlib.h>
+#include <string.h>
+#include <sys/types.h>
+#include <unistd.h>
 
+enum { PWRITE, WRITE, FSYNC, LINK, UNLINK, RENAME, KINDS };
+
+static const char *const names[KINDS] = {"pwrite", "write", "fsync", "link", "unlink", "rename"};
+static long called[KINDS];
 static long allocations;
 static long refused;
 static int counts;
+static int failing = -1;
+static long failing_number;
 static void *(*given_malloc)(size_t);
 static void *(*given_realloc)(void *, size_t);
 static int (*given_memalign)(void **, size_t, size_t);
-static int (*given_fsync)(int);
+
+static void *given(const char *name) { return dlsym(RTLD_NEXT, name); }
 
 __attribute__((constructor)) static void begin(void) {
   const char *number = getenv("REFUSED");
+  const char *failed = getenv("FAILED");
   refused = number ? atol(number) : 0;
-  given_malloc = dlsym(RTLD_NEXT, "malloc");
-  given_realloc = dlsym(RTLD_NEXT, "realloc");
-  given_memalign = dlsym(RTLD_NEXT, "posix_memalign");
-  given_fsync = dlsym(RTLD_NEXT, "fsync");
+  for (int kind = 0; failed && kind < KINDS; kind++) {
+    size_t length = strlen(names[kind]);
+    if (strncmp(failed, names[kind], length) || failed[length] != ' ') continue;
+    failing = kind;
+    failing_number = atol(failed + length);
+  }
+  given_malloc = given("malloc");
+  given_realloc = given("realloc");
+  given_memalign = given("posix_memalign");
   counts = 1;
 }
 
 __attribute__((destructor)) static void end(void) {
   const char *path = getenv("COUNTED");
+  const char *calls = getenv("CALLS");
   counts = 0;
   FILE *file = path ? fopen(path, "w") : NULL;
   if (file) {
     fprintf(file, "%ld\n", allocations);
     fclose(file);
   }
+  file = calls ? fopen(calls, "w") : NULL;
+  if (!file) return;
+  for (int kind = 0; kind < KINDS; kind++) fprintf(file, "%s %ld\n", names[kind], called[kind]);
+  fclose(file);
 }
 
 static int is_refused(void) {
@@ -45,12 +69,86 @@ void *malloc(size_t size) { return is_refused() ? NULL : given_malloc(size); }
 
 void *realloc(void *old, size_t size) { return is_refused() ? NULL : given_realloc(old, size); }
 
+int posix_memalign(void **out, size_t align, size_t size) {
+  return is_refused() ? ENOMEM : given_memalign(out, align, size);
+}
+
+// Writes a call and its path onto the file that TRACED names.
+static void trace(int kind, const char *path) {
+  const char *traced = getenv("TRACED");
+  if (!counts || !traced) return;
+  counts = 0;
+  FILE *file = fopen(traced, "a");
+  if (file) {
+    fprintf(file, "%s %s\n", names[kind], path);
+    fclose(file);
+  }
+  counts = 1;
+}
+
+// The same of an open file.
+static void trace_file(int kind, int file) {
+  char link[64], path[4096];
+  snprintf(link, sizeof link, "/proc/self/fd/%d", file);
+  ssize_t size = readlink(link, path, sizeof path - 1);
+  path[size < 0 ? 0 : size] = 0;
+  trace(kind, path);
+}
+
+// Counts a call, and tells whether it is the one that fails.
+static int fails(int kind) {
+  if (!counts) return 0;
+  called[kind]++;
+  if (kind != failing || called[kind] != failing_number) return 0;
+  errno = EIO;
+  return 1;
+}
+
+ssize_t pwrite(int file, const void *piece, size_t size, off_t place) {
+  if (fails(PWRITE)) return -1;
+  return ((ssize_t (*)(int, const void *, size_t, off_t))given("pwrite"))(file, piece, size, place);
+}
+
+ssize_t pwrite64(int file, const void *piece, size_t size, off_t place) { return pwrite(file, piece, size, place); }
+
+// Standard output and standard error aren't counted.
+ssize_t write(int file, const void *piece, size_t size) {
+  if (file > 2 && fails(WRITE)) return -1;
+  return ((ssize_t (*)(int, const void *, size_t))given("write"))(file, piece, size);
+}
+
 int fsync(int file) {
-  if (!getenv("UNSYNCED")) return given_fsync(file);
+  const char *first = getenv("UNSYNCED");
+  trace_file(FSYNC, file);
+  if (fails(FSYNC)) return -1;
+  if (!first || called[FSYNC] < atol(first)) return ((int (*)(int))given("fsync"))(file);
   errno = EIO;
   return -1;
 }
 
-int posix_memalign(void **out, size_t align, size_t size) {
-  return is_refused() ? ENOMEM : given_memalign(out, align, size);
+int link(const char *old, const char *new) {
+  trace(LINK, new);
+  if (fails(LINK)) return -1;
+  if (!getenv("UNLINKED")) return ((int (*)(const char *, const char *))given("link"))(old, new);
+  errno = EPERM;
+  return -1;
+}
+
+int linkat(int at, const char *old, int to, const char *new, int flags) {
+  if (fails(LINK)) return -1;
+  return ((int (*)(int, const char *, int, const char *, int))given("linkat"))(at, old, to, new, flags);
+}
+
+int unlink(const char *path) {
+  trace(UNLINK, path);
+  return fails(UNLINK) ? -1 : ((int (*)(const char *))given("unlink"))(path);
+}
+
+int unlinkat(int at, const char *path, int flags) {
+  return fails(UNLINK) ? -1 : ((int (*)(int, const char *, int))given("unlinkat"))(at, path, flags);
+}
+
+int rename(const char *old, const char *new) {
+  trace(RENAME, new);
+  return fails(RENAME) ? -1 : ((int (*)(const char *, const char *))given("rename"))(old, new);
 }

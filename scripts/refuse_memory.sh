@@ -1,7 +1,7 @@
 #!/usr/bin/env bash
 # Refuses each allocation, one in each run, of a run of each command, of `ncc check` over a file with a note of each
 # kind. Each run must write the whole text with status 0, and leave the files of a run with memory; or less than the text
-# and `error memory` with status 3. Then each sync: what wants one must write nothing and `error device` with status 3.
+# and `error memory` with status 3, and leave the files as they were. Then each sync: what wants one must write nothing and `error device` with status 3.
 # The program is the first word, or the one that scripts/test.sh left. It needs a C compiler.
 set -uo pipefail
 top=$(cd "$(dirname "$0")/.." && pwd)
@@ -26,6 +26,7 @@ is_less() {
 refuse() {
   local text=$1 memory=0 count n out status
   shift
+  rm -rf before && mkdir before && cp "$top"/examples/*.nc before
   COUNTED=$folder/counted run "$@" || exit 1
   count=$(cat counted)
   rm -rf whole && mv run whole
@@ -34,7 +35,7 @@ refuse() {
     status=$?
     out=$(cat out)
     if [ "$status" = 0 ] && [ "$out" = "$text" ] && diff -r run whole > differs; then continue; fi
-    if [ "$status" = 3 ] && [ "$(cat err)" = 'error memory' ] && is_less "$out" "$text"; then
+    if [ "$status" = 3 ] && [ "$(cat err)" = 'error memory' ] && is_less "$out" "$text" && diff -r run before > differs; then
       memory=$((memory + 1))
       continue
     fi

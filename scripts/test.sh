@@ -10,10 +10,21 @@ passed=0
 failed=0
 status=0
 
+# Puts before the lines that name a crate how many seconds went by.
+timed() {
+  local line
+  while IFS= read -r line; do
+    case $line in
+      'rt: '* | '== '*) printf '%5d s  %s\n' "$SECONDS" "$line" ;;
+      *) printf '%s\n' "$line" ;;
+    esac
+  done
+}
+
 # Runs a part, and adds the numbers of its last line. A part that ends badly without a failure is one.
 part() {
   local before=$failed last
-  "$@" 2>&1 | tee "$log"
+  "$@" 2>&1 | timed | tee "$log"
   local ended=${PIPESTATUS[0]}
   last=$(tail -n 1 "$log")
   if [[ $last =~ ^([0-9]+)\ passed,\ ([0-9]+)\ failed$ ]]; then

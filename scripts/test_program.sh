@@ -165,18 +165,21 @@ expect "csv of a fault" 1 "fault Truncated at 60" "" csv bad_truncated_1.nc v
 } > long.nc
 count "check of 100,000 shorts" "ok CDF-1 records 0 variables 1" "$("$ncc" check long.nc)"
 cat > slow.py <<'END'
-import os, pty, subprocess, sys, time
+import os, pty, select, subprocess, sys, time
 
 terminal, told = pty.openpty()
 errors = subprocess.PIPE if sys.argv[1] == "pipe" else told
 run = subprocess.Popen(sys.argv[2:], stdin=subprocess.DEVNULL, stdout=subprocess.PIPE, stderr=errors)
 time.sleep(1.5)
 rows = run.stdout.read().count(b"\n")
-shown = run.stderr.read() if sys.argv[1] == "pipe" else os.read(terminal, 65536)
+status = run.wait()
+shown = run.stderr.read() if sys.argv[1] == "pipe" else b""
+while sys.argv[1] != "pipe" and select.select([terminal], [], [], 0.5)[0]:
+    shown += os.read(terminal, 65536)
 kind = "nothing"
 if shown:
     kind = "rows" if b" of 100000 rows" in shown and shown.endswith(b"\r\x1b[K") else repr(shown)
-print(run.wait(), rows, kind)
+print(status, rows, kind)
 END
 count "a terminal is told how far it is" "0 100001 rows" "$(python3 slow.py terminal "$ncc" csv long.nc v)"
 count "a pipe isn't" "0 100001 nothing" "$(python3 slow.py pipe "$ncc" csv long.nc v)"
@@ -250,6 +253,17 @@ expect "extend without record variables" 1 "refused NoRecordVariable" "" extend 
 expect "extend of a fault" 1 "fault Truncated at 60" "" extend bad_truncated_1.nc 0
 expect "extend of a fault by one" 1 "fault Truncated at 60" "" extend bad_truncated_1.nc 1
 expect "no such file to extend" 3 "" "error device" extend not_there.nc 1
+# Another has the lock: nobody else adds to the file, and all may read it.
+if command -v flock > /dev/null; then
+  cp two.nc locked.nc
+  count "extend of a locked file" "3  error device ncc: locked.nc: is being written" \
+    "$(flock locked.nc "$ncc" extend --verbose locked.nc 1 > out 2> err; echo "$? $(cat out) $(cat err | tr '\n' ' ' | sed 's/ $//')")"
+  count "extend of a locked file leaves it" "" "$(cmp locked.nc two.nc)"
+  count "extend of a locked file by none" "0 records 3" "$(flock locked.nc "$ncc" extend locked.nc 0 > out; echo "$? $(cat out)")"
+  count "check of a locked file" "0 ok CDF-1 records 3 variables 2" "$(flock locked.nc "$ncc" check locked.nc > out; echo "$? $(cat out)")"
+else
+  echo "skipped locks: there is no flock"
+fi
 # A file of the system that nobody may write: with none to add it is opened for reading.
 expect "a file that may not be written, by none" 1 "fault EndsEarly at 0" "" extend /proc/sys/kernel/osrelease 0
 expect "a file that may not be written, by one" 3 "" "error device" extend /proc/sys/kernel/osrelease 1
@@ -259,10 +273,16 @@ expect_first "help of extend" 0 "Adds records of fill values to a file" "" exten
 
 # ---- files in another version
 
+# The case NAME: neither FILE nor its part is there.
+neither() {
+  count "$1: no file is made" "absent absent" "$([ -e "$2" ] || echo absent) $([ -e "$2.part" ] || echo absent)"
+}
+
 # The case of a FILE that is converted to a VERSION: its line, and the bytes of another file.
 converts() {
   rm -f new.nc
   expect "convert $1 to CDF-$2" 0 "ok CDF-$2" "" convert --to "$2" "$1" new.nc
+  count "convert $1 to CDF-$2: no part is left" absent "$([ -e new.nc.part ] || echo absent)"
   count "convert $1 to CDF-$2: the bytes of $3" "" "$(cmp new.nc "$3" 2>&1)"
 }
 
@@ -279,7 +299,7 @@ there_and_back() {
 makes_none() {
   rm -f new.nc
   expect "$1" "$4" "$5" "$6" convert --to "$3" "$2" new.nc
-  count "$1: no file is made" absent "$([ -e new.nc ] || echo absent)"
+  neither "$1" new.nc
 }
 
 # A copy of a FILE, as the last word, with these bytes at an OFFSET.
@@ -411,12 +431,46 @@ expect "convert a file to itself" 3 "" "error device" convert --to 5 there.nc th
 expect "convert what is refused to a file that is there" 1 "refused TypeForVersion" "" convert --to 1 counts.nc there.nc
 expect "convert a fault to a file that is there" 1 "fault Truncated at 60" "" convert --to 1 bad_truncated_1.nc there.nc
 count "the file that is there" "" "$(cmp there.nc lone_5.nc 2>&1)"
+count "the file that is there: no part is made" absent "$([ -e there.nc.part ] || echo absent)"
 ln -s nowhere.nc link.nc
-expect "convert to a link to no file" 3 "" "error device" convert --to 2 tiny.nc link.nc
-count "convert to a link to no file: no file is made" absent "$([ -e nowhere.nc ] || echo absent)"
+expect "convert to a link to no file" 3 "" "error device
+ncc: link.nc: exists already" convert --verbose --to 2 tiny.nc link.nc
+neither "convert to a link to no file" nowhere.nc
+count "convert to a link to no file: no part is made" absent "$([ -e link.nc.part ] || echo absent)"
 expect "convert to a folder" 3 "" "error device" convert --to 2 tiny.nc .
-expect "convert into no folder" 3 "" "error device" convert --to 2 tiny.nc not_there/new.nc
+expect "convert into no folder" 3 "" "error device
+ncc: not_there/new.nc: no such file or folder" convert --verbose --to 2 tiny.nc not_there/new.nc
 expect "convert to an empty name" 3 "" "error device" convert --to 2 tiny.nc ""
+neither "convert to an empty name" ""
+
+# A part that is there stays as it is, and is what the reason names.
+rm -f new.nc
+cp tiny.nc new.nc.part
+expect "convert beside a part that is there" 3 "" "error device
+ncc: new.nc.part: exists already" convert --verbose --to 2 tiny.nc new.nc
+expect "convert a fault beside a part that is there" 1 "fault Truncated at 60" "" convert --to 1 bad_truncated_1.nc new.nc
+expect "convert a part to its file" 3 "" "error device" convert --to 2 new.nc.part new.nc
+count "the part that is there" "absent" "$([ -e new.nc ] || echo absent)$(cmp new.nc.part tiny.nc 2>&1)"
+rm -f new.nc.part
+
+# OUT in another folder, in this one by its path, and in one that can't be written.
+mkdir inside
+for name in inside/new.nc ./new.nc "$folder/inside/other.nc" inside/../second.nc; do
+  expect "convert to $name" 0 "ok CDF-5" "" convert --to 5 kinds_1.nc "$name"
+  count "convert to $name: the bytes" "absent" "$(cmp "$name" kinds_5.nc 2>&1)$([ -e "$name.part" ] || echo absent)"
+done
+count "names in the folder" "new.nc other.nc" "$(ls -A inside | paste -sd ' ')"
+rm -f new.nc second.nc
+chmod 555 inside
+if [ -w inside ]; then
+  echo "skipped a folder that can't be written: this user may write any"
+else
+  expect "convert into a folder that can't be written" 3 "" "error device
+ncc: inside/more.nc: permission denied" convert --verbose --to 5 kinds_1.nc inside/more.nc
+  neither "convert into a folder that can't be written" inside/more.nc
+fi
+chmod 755 inside
+expect "convert into a folder of the system" 3 "" "error device" convert --to 5 kinds_1.nc /proc/new.nc
 makes_none "convert no such file" not_there.nc 1 3 "" "error device"
 makes_none "convert a folder" . 1 3 "" "error device"
 
@@ -430,22 +484,17 @@ rm -f new.nc
 count "convert, closed input and output" "3 error device" "$? $(cat err)"
 count "convert, closed input and output: the file" "" "$(cmp new.nc kinds_5.nc 2>&1)"
 
-# The case of a file of 1 to so many bytes, which is a beginning of long.nc.
-begins() {
-  local length
-  length=$(wc -c < "$2" | tr -d ' ')
-  count "$1: its length" true "$([ "$length" -gt 0 ] && [ "$length" -le "$3" ] && echo true || echo "$length")"
-  count "$1: a beginning of the file" "" "$(cmp -n "$length" "$2" long.nc 2>&1)"
-}
+# Where OUT can't be written whole nothing is left.
 converts long.nc 1 long.nc
 rm -f new.nc
 (trap '' XFSZ; ulimit -f 100; "$ncc" convert --to 1 long.nc new.nc > out 2> err)
 count "convert past the limit of files" "3  error device" "$? $(cat out) $(cat err)"
-begins "convert past the limit of files" new.nc 102400
+neither "convert past the limit of files" new.nc
 mkdir full
 if mount -t tmpfs -o size=64k tmpfs full 2> /dev/null; then
-  expect "convert to a full disk" 3 "" "error device" convert --to 1 long.nc full/new.nc
-  begins "convert to a full disk" full/new.nc 65536
+  expect "convert to a full disk" 3 "" "error device
+ncc: full/new.nc: no space left" convert --verbose --to 1 long.nc full/new.nc
+  neither "convert to a full disk" full/new.nc
   umount full
 else
   echo "skipped a full disk: none can be mounted"
@@ -462,9 +511,20 @@ if cc -O1 -shared -fPIC -o refuse.so "$top/scripts/refuse_calls.c" -ldl 2> /dev/
   count "extend, no sync: the count" "$(bytes_from two.nc 4 4)" "$(bytes_from unsynced.nc 4 4)"
   UNSYNCED=1 LD_PRELOAD=$folder/refuse.so "$ncc" convert --to 5 kinds_1.nc unsynced_5.nc > out 2> err
   count "convert, no sync" "3  error device" "$? $(cat out) $(cat err)"
-  count "convert, no sync: the file" "" "$(cmp unsynced_5.nc kinds_5.nc 2>&1)"
+  neither "convert, no sync" unsynced_5.nc
+  # The second sync is that of the folder.
+  UNSYNCED=2 LD_PRELOAD=$folder/refuse.so "$ncc" convert --to 5 kinds_1.nc unsynced_5.nc > out 2> err
+  count "convert, no sync of the folder" "3  error device" "$? $(cat out) $(cat err)"
+  neither "convert, no sync of the folder" unsynced_5.nc
+  # A file system on which a file has one name.
+  UNLINKED=1 LD_PRELOAD=$folder/refuse.so "$ncc" convert --to 5 kinds_1.nc unlinked_5.nc > out 2> err
+  count "convert, no link" "0 ok CDF-5 " "$? $(cat out) $(cat err)"
+  count "convert, no link: the bytes" "absent" "$(cmp unlinked_5.nc kinds_5.nc 2>&1)$([ -e unlinked_5.nc.part ] || echo absent)"
+  UNLINKED=1 UNSYNCED=2 LD_PRELOAD=$folder/refuse.so "$ncc" convert --to 5 kinds_1.nc unsynced_5.nc > out 2> err
+  count "convert, no link and no sync of the folder" "3  error device" "$? $(cat out) $(cat err)"
+  neither "convert, no link and no sync of the folder" unsynced_5.nc
 else
-  echo "skipped syncs that fail: there is no C compiler"
+  echo "skipped syncs and links that fail: there is no C compiler"
 fi
 
 # A million records of two variables, of which a run is stopped for a while: only a terminal is told how far it is.
@@ -476,7 +536,7 @@ fi
 } > many.nc
 count "check of a million records" "ok CDF-1 records 1000000 variables 2" "$("$ncc" check many.nc | head -n 1)"
 cat > stopped.py <<'END'
-import os, pty, re, signal, subprocess, sys, time
+import os, pty, re, select, signal, subprocess, sys, time
 
 terminal, told = pty.openpty()
 errors = subprocess.PIPE if sys.argv[1] == "pipe" else told
@@ -488,12 +548,8 @@ run.send_signal(signal.SIGCONT)
 line = run.stdout.read().decode().strip()
 status = run.wait()
 shown = run.stderr.read() if sys.argv[1] == "pipe" else b""
-if sys.argv[1] == "terminal":
-    os.set_blocking(terminal, False)
-    try:
-        shown = os.read(terminal, 65536)
-    except BlockingIOError:
-        pass
+while sys.argv[1] == "terminal" and select.select([terminal], [], [], 0.5)[0]:
+    shown += os.read(terminal, 65536)
 print(status, line, "bytes" if re.fullmatch(rb"(\r\d+ of 8000120 bytes)+\r\x1b\[K", shown) else shown or "nothing")
 END
 count "a terminal is told how far convert is" "0 ok CDF-2 bytes" \
@@ -605,13 +661,36 @@ count "names from standard input" "1 tiny.nc: ok CDF-1 records 0 variables 1 bad
   "$(printf 'tiny.nc\0bad_truncated_1.nc\0' | "$ncc" check --files-from0 - > out 2> err; echo "$?" $(cat out) $(cat err))"
 count "list of standard input" "0 format CDF-1 records 0 dimension 0 dim 5 variable 0 vx short fixed begin 80 dims 1 dim" \
   "$(cat tiny.nc | "$ncc" list - > out; echo "$?" $(cat out))"
+# Only a FILE - that is given alone is standard input.
+expect "list of standard input and of another" 3 "tiny.nc: format CDF-1
+tiny.nc: records 0
+tiny.nc: dimension 0 dim 5
+tiny.nc: variable 0 vx short fixed begin 80 dims 1 dim" "-: error device" list - tiny.nc
+printf -- '-\0' > names
+count "a list that names -" "3 error device" "$("$ncc" list --files-from0 names < tiny.nc > out 2> err; echo $? $(cat out err))"
+count "check of standard input" "3 error device" "$("$ncc" check - < tiny.nc > out 2> err; echo $? $(cat out err))"
 for n in $(seq 300); do printf 'tiny.nc\0'; done > names
 count "300 files, and a reader that goes" "tiny.nc: ok CDF-1 records 0 variables 1 0" \
   "$("$ncc" check --files-from0 names 2> err | head -n 1) $(wc -c < err | tr -d ' ')"
+"$ncc" check --files-from0 names > /dev/full 2> err
+count "300 files, full output" "3 error device" "$? $(cat err)"
+"$ncc" check tiny.nc not_there.nc > /dev/full 2> err
+count "several files, one of them not there, full output" "3 not_there.nc: error device error device" "$? $(echo $(cat err))"
+mkdir "$(printf '%0200d' 0)"
+long=$(printf '%0200d' 0)/$(printf '%0100d' 0)
+cp tiny.nc "$long"
+expect "a name of 301 bytes" 0 "ok CDF-1 records 0 variables 1" "" check "$long"
+expect "a word of 108893 bytes" 1 "refused RankMismatch" "" csv tiny.nc vx --start "$(seq -s , 20000)"
+count "300 files in words" "0 300" \
+  "$("$ncc" check $(for n in $(seq 300); do echo tiny.nc; done) > out 2> err; echo "$? $(grep -c '^tiny.nc: ok CDF-1 ' out)$(cat err)")"
 latin=$(printf 'caf\351.nc')
 cp tiny.nc "$latin"
 count "a name that isn't UTF-8" "3 tiny.nc: ok CDF-1 records 0 variables 1 error device ncc: the name isn't UTF-8" \
   "$("$ncc" check --verbose "$latin" tiny.nc > out 2> err; echo "$?" $(cat out) $(LC_ALL=C sed "s/caf.*nc: //" err))"
+# That name as it is printed, which is UTF-8, is another file.
+cp tiny.nc 'caf\xe9.nc'
+count "a name that isn't UTF-8, and one as it is printed" "3 caf\xe9.nc: ok CDF-1 records 0 variables 1" \
+  "$("$ncc" check "$latin" 'caf\xe9.nc' > out 2> err; echo "$?" "$(cat out)")"
 
 # ---- why something failed
 
@@ -631,9 +710,36 @@ expect "a list of numbers, told" 2 "" "error usage
 ncc: --start: '1,,2' is no list of numbers" csv --verbose tiny.nc vx --start 1,,2
 expect "a list of names, told" 3 "" "error device
 ncc: not_there: no such file or folder" list --verbose --files-from0 not_there
+expect "a file that passes, told" 0 "ok CDF-1 records 0 variables 1" "" check --verbose tiny.nc
+expect "a file with a fault, told" 1 "fault Truncated at 60" "" check --verbose bad_truncated_1.nc
+expect "a selection that is refused, told" 1 "refused RankMismatch" "" csv --verbose tiny.nc vx --start 1,1
+# A file that can be opened and not read, after one that can't be opened.
+unread=/sys/kernel/mm/transparent_hugepage/enabled
+if [ "$(stat -c %s "$unread" 2> /dev/null)" = 4096 ]; then
+  expect "a file that isn't read, told" 3 "" "not_there.nc: error device
+ncc: not_there.nc: no such file or folder
+$unread: error device
+ncc: $unread: can't be read or written" check --verbose not_there.nc "$unread"
+else
+  echo "skipped a file that can be opened and not read: $unread isn't there"
+fi
+cat > errors.py <<'END'
+import os, pty, select, subprocess, sys
+
+terminal, told = pty.openpty()
+run = subprocess.run(sys.argv[1:], stdin=subprocess.DEVNULL, stdout=subprocess.PIPE, stderr=told)
+shown = b""
+while select.select([terminal], [], [], 0.5)[0]:
+    shown += os.read(terminal, 65536)
+print(run.returncode, shown.decode().split("\r\n"))
+END
+count "a terminal is told why" "3 ['error device', 'ncc: not_there.nc: no such file or folder', '']" \
+  "$(python3 errors.py "$ncc" check not_there.nc)"
 printf 'tiny.nc' > cut_list
 expect "a list without its last NUL byte, told" 3 "" "error device
 ncc: tiny.nc: no NUL byte stands after this name in the list" check --verbose --files-from0 cut_list
+expect "a list without its last NUL byte, in brief" 3 "3${tab}error device${tab}tiny.nc" "" \
+  check --brief --files-from0 cut_list
 mkfifo pipe
 expect "a pipe" 3 "" "error device
 ncc: pipe: is a pipe or device, not a file" check --verbose pipe
@@ -646,7 +752,7 @@ count "a reader that goes" "x,v 0" "$("$ncc" csv long.nc v 2> err | head -n 1) $
 "$ncc" help faults > out
 count "help of faults" "39 0" "$(grep -c '^  [A-Z]' out) $?"
 for word in $(grep -oh '^  [A-Z][A-Za-z]*' out); do count "a fault of the program: $word" yes \
-  "$(grep -qrE "\"$word ?\"" "$top"/crates/ncc_lines/src "$top"/crates/ncc_csv/src "$top"/crates/ncc_convert/src && echo yes)"; done
+  "$(grep -qrE "\"(refused )?$word( |\\\\n)?\"" "$top"/crates/ncc_lines/src "$top"/crates/ncc_csv/src "$top"/crates/ncc_convert/src && echo yes)"; done
 
 # ---- headers at the limit, and 4 bytes past it, where the last field is: its 48 bytes besides the values are
 # the fields, and the lines are 57 bytes besides them
@@ -667,6 +773,8 @@ for command in list check; do
 done
 expect "check of values to a greater limit that are cut" 1 "fault EndsEarly at 40" "" \
   check --max-header 67108868 cut_past_the_limit.nc
+expect "list of several files to the limit" 1 "cut_at_the_limit.nc: fault EndsEarly at 40
+cut_past_the_limit.nc: fault HeaderTooLong at 40" "" list cut_at_the_limit.nc cut_past_the_limit.nc
 head_of $((67108864 - 48)) > at_the_limit.nc
 "$ncc" list at_the_limit.nc > out 2> err
 count "a header of 67108864 bytes" "0 67108864 $((67108864 - 48 + 57)) " \

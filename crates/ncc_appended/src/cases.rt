@@ -38,7 +38,7 @@ pub const SHORTS: Case = Case {
     calls: 4,
 };
 
-/// The same, with bytes behind the records.
+/// The same, with bytes after the records.
 pub const LONGER: Case = Case {
     name: "bytes behind the records",
     file: File {
@@ -55,7 +55,7 @@ pub const LONGER: Case = Case {
     calls: 4,
 };
 
-/// The same of no record, which begins behind the end of the file.
+/// The same of no record, which begins after the end of the file.
 pub const NONE_YET: Case = Case {
     name: "no record yet",
     file: File {

@@ -1,4 +1,4 @@
-//! A store that fails once, and would pass the calls behind.
+//! A store that fails once, and would pass the calls after.
 
 ghost use Rattle.std.specs.Prelude.{◌≤◌, [], false};
 ghost use Rattle.ncc_values.specs.Failures.{last_count, Counts};
@@ -68,6 +68,8 @@ impl Store for FailsOnce {
 
     ghost reach = { λ s. 0 };
 
+    ghost are_bytes = { λ s told. untold told };
+
     ghost stands = { λ s told. untold told };
 
     ghost counts_now = { λ s t c le now. now };
@@ -122,7 +124,7 @@ fn opened(alloc: Global, case: &Case, fails_at: u64) -> Option<NcFile<FailsOnce>
     open(alloc, store, LIMIT).ok()
 }
 
-/// The records as the open file gives them: its bytes behind the header, up to this end.
+/// The records as the open file gives them: its bytes after the header, up to this end.
 fn records_of(alloc: Global, file: &mut NcFile<FailsOnce>, end: u64) -> Option<Vec<u8>> {
     let start = file.placed().header_length();
     let end = end.min(file.placed().file_length());

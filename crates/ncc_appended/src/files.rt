@@ -3,7 +3,7 @@
 use ncc_files::bytes_of;
 use std::alloc::{AllocError, Global};
 
-/// A file: words, of which some are others, with bytes behind them, up to a length.
+/// A file: words, of which some are others, with bytes after them, up to a length.
 #[derive(Clone, Copy)]
 pub struct File {
     pub words: &'static [u32],

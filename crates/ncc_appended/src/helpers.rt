@@ -1,4 +1,4 @@
-//! What a file answers to a record more, and what bytes hold.
+//! What a file answers to one more record, and what bytes hold.
 
 use crate::cases::{Case, added};
 use crate::files::file_of;
@@ -7,10 +7,10 @@ use ncc_files::LIMIT;
 use ncc_store::{MemStore, Store};
 use std::alloc::{AllocError, Global};
 
-/// An answer to a record more.
+/// An answer to one more record.
 pub type Answer = Result<(), AppendError>;
 
-/// What the file answers to a record more; where its device fails, also to the same record again, and else whether one
+/// What the file answers to one more record; where its device fails, also to the same record again, and else whether one
 /// could be added then.
 pub fn answers<S: Store>(file: &mut NcFile<S>, image: &[u8]) -> (Answer, Answer) {
     if let Err(refused) = file.appendable() {

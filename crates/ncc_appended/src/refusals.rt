@@ -26,7 +26,7 @@ const ROWS: [Row; 19] = [
     // Fixed variables alone.
     (&TINY, &[], 92, Err(NoRecordVariable)),
     (&EMPTY, &[], 32, Err(NoRecordVariable)),
-    // The second variable begins 2 bytes behind the first one's padding; the first record 4 bytes behind the end.
+    // The second variable begins 2 bytes after the first one's padding; the first record 4 bytes after the end.
     (&TWO_RECORD_VARIABLES, &[(28, 122)], 132, Err(NotPacked)),
     (&RECORDS, &[(1, 0), (19, 83)], 80, Ok(())),
     (&RECORDS, &[(1, 0), (19, 84)], 80, Err(NotPacked)),

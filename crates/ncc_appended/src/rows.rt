@@ -1,4 +1,4 @@
-//! Files with a record more, byte for byte.
+//! Files with one more record, byte for byte.
 
 use crate::cases::*;
 use crate::files::file_of;

@@ -20,6 +20,11 @@ abbrev pub TextsOf : Work → (bytes : List ℕ) → Texts
 TextsOf (Check limit strict) bytes = IsCheckText bytes limit strict
 TextsOf (Listing limit style) bytes = IsListText bytes limit style
 
+-- how many bytes a header may have
+abbrev pub limit_of : Work → ℕ
+limit_of (Check limit strict) = limit
+limit_of (Listing limit style) = limit
+
 -- an answer and its text; of a store that failed, or without memory, it is empty
 abbrev pub IsTextIn : Work → (bytes : List ℕ) → Answer → (text : List ℕ) → Type 0
 IsTextIn work b Passed text = TextsOf work b Passed text

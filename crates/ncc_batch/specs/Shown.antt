@@ -1,5 +1,5 @@
 -- What is shown of a file, where several are asked for in one call.
-use Rattle.std.specs.Prelude.{ℕ, suc, zero, Bool, true, false, ◌==◌, List, [], ◌∷◌, ◌++◌, if◌then◌else◌, codes, nat_le}
+use Rattle.std.specs.Prelude.{ℕ, suc, zero, Bool, true, ◌==◌, List, [], ◌∷◌, ◌++◌, if◌then◌else◌, codes, nat_le}
 use Rattle.ncc_engines.specs.declared.answer.Answer.{Answer}
 use Rattle.ncc_engines.specs.declared.answer.Answer.TheVariants.{Passed, Refused, Device, Memory}
 use Rattle.ncc_batch.specs.declared.form.Form.{Form}

@@ -1,11 +1,12 @@
 //! The answer of a file, and its text in memory.
 
-ghost use Rattle.std.specs.Prelude.{◌≡◌, ◌⊎◌, ◌≤◌, ◌∷◌, ℕ, List, drop, IsTrue};
+ghost use Rattle.std.specs.Prelude.{◌≡◌, ◌⊎◌, ◌+◌, ◌≤◌, ◌∷◌, max, ℕ, List, length, drop, IsTrue};
 ghost use Rattle.ncc_values.specs.Failures.{Rose};
 ghost use Rattle.ncc_schema.specs.Device.{Puts};
 ghost use Rattle.ncc_store.specs.Store.{KeepsImages, Unmoved};
+ghost use Rattle.ncc_check.specs.FromStore.{calls_for};
 ghost use Rattle.ncc_engines.specs.Answers.{Writes};
-ghost use Rattle.ncc_batch.specs.Answered.{TextsOf, IsTextIn, IsTextAt};
+ghost use Rattle.ncc_batch.specs.Answered.{TextsOf, IsTextIn, IsTextAt, limit_of};
 
 use crate::shelf::Shelf;
 use crate::work::Work;
@@ -24,6 +25,9 @@ fn write_text<S: Store, W: Sink>(alloc: Global, store: &mut S, work: Work, sink:
         → Rose (S.failures store.old) (S.failures store.new) ⊎ Rose (W.failures sink.old) (W.failures sink.new) }
     ensures unmoved { Unmoved S.bytes S.images S.moment S.images_since store.old store.new }
     ensures kept { KeepsImages (S.images store.old) (S.images store.new) }
+    ensures calls { IsTrue S.tells_bytes
+        → S.calls store.new ≤ S.calls store.old + calls_for (length (S.bytes store.old)) (limit_of work) }
+    ensures reach { S.reach store.new ≤ max (S.reach store.old) (limit_of work) }
 {
     match work {
         Work::Check { limit, strict } => check_engine(alloc, store, limit, strict, sink),
@@ -39,6 +43,9 @@ fn text_in<S: Store>(alloc: Global, store: &mut S, work: Work) -> (Answer, Vec<u
         → S.failures store.new ≡ S.failures store.old }
     ensures unmoved { Unmoved S.bytes S.images S.moment S.images_since store.old store.new }
     ensures kept { KeepsImages (S.images store.old) (S.images store.new) }
+    ensures calls { IsTrue S.tells_bytes
+        → S.calls store.new ≤ S.calls store.old + calls_for (length (S.bytes store.old)) (limit_of work) }
+    ensures reach { S.reach store.new ≤ max (S.reach store.old) (limit_of work) }
 {
     let mut sink = WriteSink::new(Vec::new(alloc));
     let answer = write_text(alloc, store, work, &mut sink);

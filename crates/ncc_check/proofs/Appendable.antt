@@ -1,4 +1,4 @@
--- What an open file with room for one record more keeps.
+-- What an open file with room for one more record keeps.
 use Rattle.std.proofs.Common.{◌≡◌, inl, inr, ℕ, ◌+◌, ◌≤◌, Bool, List, ◌++◌, length, map, Option, Some, None, refl, sym, ap, subst, ◌∙◌, length-append, arith}
 use Rattle.std.proofs.Math.Logic.{∥∥₁_elim}
 use Rattle.std.proofs.Props.{props}
@@ -35,7 +35,7 @@ pub has_room : (p : Placed) (more : ℕ) → KeepsRules p → (HasNoRecordVariab
 has_room p more keeps some room =
     with_one_more (header_length_of p) (file_length_of p) (record_size_of_file p) (records_of_file p) (extents_of_file p) keeps.rules (records_at p) (records_begin p some) more room
 
--- the records begin behind the header
+-- the records begin after the header
 pub behind_header : (p : Placed) → KeepsRules p → (HasNoRecordVariable p → ⊥) → header_length_of p ≤ records_at p
 behind_header p keeps some =
     let records = records_of (extents_of_file p) in
@@ -50,7 +50,7 @@ tag_long : (tag n : ℕ) (b : List ℕ) → list_tag tag n b → length b ≡ 4
 tag_long tag n b (inl is) = ap length is ∙ length-big_endian 4 tag
 tag_long tag n b (inr is) = ap length is.1 ∙ length-big_endian 4 0
 
--- behind the count field there is more than padding
+-- after the count field there is more than padding
 pub header_long : (s : Schema) (places : List Place) (b : List ℕ) → IsHeader s places b → 4 + count_width_of s.version + 3 ≤ length b
 header_long s places b h =
     let parts = parts_of s places b h in

@@ -1,4 +1,4 @@
--- The bytes of a file with a record more, and its header.
+-- The bytes of a file with one more record, and its header.
 use Rattle.std.proofs.Common.{◌≡◌, inl, inr, ℕ, ◌+◌, ◌-◌, ◌<◌, ◌≤◌, max, Bool, true, false, List, ◌++◌, length, take, drop, replicate, Some, None, refl, sym, ap, ◌∙◌, length-append, take-append-drop, arith}
 use Rattle.std.specs.Prelude.{ltb, if◌then◌else◌}
 use Rattle.std.proofs.lemmas.Bool.{ltb-true}

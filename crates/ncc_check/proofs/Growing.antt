@@ -1,4 +1,4 @@
--- An open file that has one record more.
+-- An open file that has one more record.
 use Rattle.std.proofs.Common.{◌≡◌, ℕ, ◌+◌, ◌*◌, ◌<◌, ◌≤◌, Bool, false, List, length, sym, ap, ap₂, subst, ◌∙◌, arith}
 use Rattle.std.specs.Prelude.{IsTrue}
 use Rattle.ncc_values.specs.Version.{count_width_of}
@@ -46,7 +46,7 @@ module _ (laws : Laws) (s : Schema) (p q : Placed) (image : List ℕ) (count pla
         long,
       )
 
-  -- the header of the bytes is that with one record more
+  -- the header of the bytes is that with one more record
   pub stands_with : (told : Bool) (old new : List ℕ) → 4 + count_width_of s.version ≤ file_length_of p → (IsTrue told → new ≡ with_record old s p image) → StandsIn told old s p
       → StandsIn told new (with_count s count) q
   stands_with told old new inside is st =

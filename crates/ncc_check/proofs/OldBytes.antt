@@ -24,7 +24,7 @@ in_front a b end place size same inside =
     let front = sym (take-take (place + size) end a inside) ∙ ap (take (place + size)) same ∙ take-take (place + size) end b inside in
     sym (drop-take place size a) ∙ ap (drop place) front ∙ drop-take place size b
 
--- what lies behind a piece that is written
+-- what lies after a piece that is written
 behind : (at : ℕ) (piece old : List ℕ) (place : ℕ) → at ≤ length old → at + length piece ≤ place → drop place (written old at piece) ≡ drop place old
 behind at piece old place there further =
     let past = at + length piece in
@@ -44,13 +44,13 @@ there at piece old inside =
     ∙ ap (take (length piece)) (drop_at (take at old) (piece ++ rest) at (length-take-le at old inside))
     ∙ take_at piece rest (length piece) refl
 
--- ---- a record more
+-- ---- one more record
 
 module _ (bytes image : List ℕ) (s : Schema) (p : Placed) where
   abbrev field : List ℕ
   field = count_field s.version (records_of_file p + 1)
 
-  -- behind the count field only the image is new
+  -- after the count field only the image is new
   behind_field : (place : ℕ) → 4 + count_width_of s.version ≤ place → place ≤ length (staged bytes (next_record_at p) image)
       → drop place (with_record bytes s p image) ≡ drop place (staged bytes (next_record_at p) image)
   behind_field place further inside =
@@ -75,7 +75,7 @@ module _ (bytes image : List ℕ) (s : Schema) (p : Placed) where
 -- ---- elements
 
 module _ (bytes image : List ℕ) (limit : ℕ) (s : Schema) (p : Placed) (o : Opens bytes limit s p) (takes : TakesRecord s p) (rules : KeepsRules p) where
-  -- the next record lies behind the count field
+  -- the next record lies after the count field
   pub next_behind : 4 + count_width_of s.version ≤ next_record_at p
   next_behind = omega (arith, field_within bytes limit s p o takes rules, before bytes limit s p o takes rules)
 

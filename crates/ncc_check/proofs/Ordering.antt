@@ -26,7 +26,7 @@ contains_from_in [] n h = absurd h
 contains_from_in (m ∷ ns) n (inl e) = (0, omega arith, e)
 contains_from_in (m ∷ ns) n (inr h) = let t = contains_from_in ns n h in (suc t.0, omega (arith, t.1), t.2)
 
--- each key is at most those behind it
+-- each key is at most those after it
 abbrev Sorted : List Note → Type 0
 Sorted [] = Unit {0}
 Sorted (n ∷ ns) = ((m : Note) → In ns m → key_of n ≤ key_of m) × Sorted ns
@@ -100,7 +100,7 @@ from : (next : ℕ) (ns : List Note) (m : Note) → In (distinct_from next ns) m
 from next [] m h = h
 from next (n ∷ ns) m h = from_by (leb next (key_of n)) next n ns m (from (key_of n + 1) ns m) (from next ns m) h
 
--- a note behind the first, of its key or a greater one
+-- a note after the first, of its key or a greater one
 behind : (n m : Note) (kept : List Note) → key_of n ≤ key_of m → (key_of n + 1 ≤ key_of m → In kept m) → (key_of n < key_of m) ⊎ (key_of m ≤ key_of n) → In (n ∷ kept) m
 behind n m kept order f (inl less) = inr (f (omega (arith, less)))
 behind n m kept order f (inr le) = inl (one_note n m (omega (arith, le, order)))

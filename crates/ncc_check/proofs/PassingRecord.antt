@@ -1,4 +1,4 @@
--- The bytes of an open file pass with a record more.
+-- The bytes of an open file pass with one more record.
 use Rattle.std.proofs.Common.{◌≡◌, inl, ℕ, ◌+◌, ◌*◌, ◌<◌, ◌≤◌, Bool, true, false, List, length, map, Option, Some, None, refl, sym, ap, ap₂, subst, ◌∙◌, arith}
 use Rattle.std.specs.Prelude.{IfSome, ltb, if◌then◌else◌}
 use Rattle.std.proofs.lemmas.Bool.{ltb-true}
@@ -27,7 +27,7 @@ use Rattle.ncc_check.proofs.Appended.{appended_long, field_long, field_written, 
 use Rattle.ncc_check.proofs.PassingOn.{before, field_within, known, within}
 use Rattle.ncc_check.proofs.Reopening.{OneHeader, can_grow, extents_there, moved, records_at_same, with_more}
 
--- of a header whose count field is written again, and of a record more
+-- of a header whose count field is written again, and of one more record
 pub record Laws : Type 0 where
   pub begun : (input : List ℕ) (limit : ℕ) (h : Header) (n : ℕ) → Begins input limit h → n < streaming_mark h.schema.version
       → Begins (with_count_field h.schema.version n input) limit (header_with_count h n)

@@ -179,6 +179,32 @@ impl<S: Store> NcFile<S> {
         }
     }
 
+    /// Brings to the disk what isn't there yet, by one sync; the bytes stay. It is refused as Reopen where the file must
+    /// be opened anew. After a failure of the device it must be.
+    pub fn settle(&mut self) -> Result<(), AppendError>
+        ensures reopen { must_reopen self.old ≡ true → (result ≡ Err AppendError.Reopen) × (self.new ≡ self.old) }
+        ensures answer { must_reopen self.old ≡ false → IfErr result (λ e. e ≡ AppendError.Device) }
+        ensures durable { OnOk result (Only (S.bytes (store_of self.new)) (S.images (store_of self.new))) }
+        ensures fresh { OnOk result (must_reopen self.new ≡ false) }
+        ensures err { OnErr result (must_reopen self.new ≡ true) }
+        ensures schema { schema_of self.new ≡ schema_of self.old }
+        ensures placed { placed_of self.new ≡ placed_of self.old }
+        ensures unmoved { Unmoved S.bytes S.images S.moment S.images_since (store_of self.old) (store_of self.new) }
+        ensures kept { OnErr result (KeepsImages (S.images (store_of self.old)) (S.images (store_of self.new))) }
+        ensures count { CountsDevice (S.failures (store_of self.old)) (S.failures (store_of self.new)) result }
+        ensures calls { S.calls (store_of self.new) ≤ S.calls (store_of self.old) + 1 }
+        ensures reach { S.reach (store_of self.new) ≤ S.reach (store_of self.old) }
+    {
+        if self.must_reopen {
+            return Err(AppendError::Reopen);
+        }
+        match self.store.sync() {
+            Ok(()) => return Ok(()),
+            Err(_) => self.must_reopen = true,
+        }
+        Err(AppendError::Device)
+    }
+
     /// The store, with all that was done to it.
     pub fn into_store(self) -> S
         ensures { result ≡ store_of self }

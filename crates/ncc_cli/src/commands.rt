@@ -84,8 +84,8 @@ Status:
 const EXTEND_STATUSES: &str = "Example:
   ncc extend series.nc 1
 
-N records of fill values are added, each with its own syncs: whatever stops it, the file passes
-with those that were added. It prints how many records there are then. A refusal is the only line,
+N records of fill values are added, each with its own syncs: whatever stops it, a file that was
+whole on the disk passes with those that were added. It prints how many records there are then. A refusal is the only line,
 and leaves the records before it. With N 0 nothing is written.
 
 It prints `refused NoRecordVariable` where no variable has records, `refused NotPacked` where the
@@ -103,8 +103,9 @@ const CONVERT_STATUSES: &str = "Example:
   ncc convert --to 5 ocean.nc ocean_5.nc
 
 The new file has the same dimensions, attributes, variables and values, each in a place of its
-own, and is on the disk when the line is printed. A refusal is the only line, and then no
-file is made; after a failure the new file is a beginning of what it would be.
+own, and is on the disk when the line is printed. It is written as OUT.part, and gets its name
+once it is whole. A failure leaves neither, a kill or Ctrl-C at most OUT.part: remove it. A refusal
+is the only line, and then no file is made.
 
 It prints `refused TypeForVersion`, `refused CountForVersion`, `refused SizeForVersion` or `refused
 OffsetForVersion` where the version has no such type, or can't count or place so much, and

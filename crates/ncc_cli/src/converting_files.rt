@@ -2,11 +2,11 @@
 
 ghost use Rattle.std.specs.Prelude.{◌≡◌, codes};
 
-use crate::converting::convert_store;
 use crate::finishing::{Ended, flushed};
+use crate::limited::converted;
+use crate::new_file::NewFile;
 use crate::paths::open_store;
 use crate::reasons::{Reason, Trouble};
-use crate::target::NewFile;
 use ncc_engines::Answer;
 use ncc_header::WriteSink;
 use ncc_lines::Progress;
@@ -38,15 +38,17 @@ pub fn convert<'a, R: Files<File = File> + AllocGlobal, O: Write, P: Progress>(
             };
         }
     };
-    let Ok(writer) = BufWriter::new(rt.alloc(), out) else {
+    let (Ok(writer), Ok(mut target)) = (
+        BufWriter::new(rt.alloc(), out),
+        NewFile::new(rt.alloc(), rt, to),
+    ) else {
         return Ended {
             answer: Answer::Memory,
             trouble: None,
         };
     };
     let mut sink = WriteSink::new(writer);
-    let mut target = NewFile::new(rt, to);
-    let (_, answer) = convert_store(rt.alloc(), store, version, &mut target, &mut sink, progress);
+    let (_, answer) = converted(rt.alloc(), store, version, &mut target, &mut sink, progress);
     if let Some(reason) = target.reason() {
         trouble = Trouble { name: to, reason };
     }

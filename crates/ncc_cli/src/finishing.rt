@@ -1,6 +1,6 @@
 //! What a run leaves: its status, and what is still to be written.
 
-ghost use Rattle.std.specs.Prelude.{◌≡◌, ◌≢◌, []};
+ghost use Rattle.std.specs.Prelude.{◌≡◌, ◌≢◌, [], Some};
 ghost use Rattle.std.specs.Io.Buffered.{writer_buffer};
 ghost use Rattle.clap.specs.Values.{kind_of};
 ghost use Rattle.ncc_batch.specs.Shown.{status_of};
@@ -21,7 +21,8 @@ pub const USAGE: u8 = 2;
 /// Says on `err` what kept the command from its end, as far as that can be written, and gives the
 /// status.
 pub fn finish<E: Write>(answer: Answer, err: &mut E) -> u8
-    ensures { result ≡ status_of answer }
+    ensures status { result ≡ status_of answer }
+    ensures quiet { answer ≢ Answer.Device → answer ≢ Answer.Memory → err.new ≡ err.old }
 {
     match answer {
         Answer::Device => {
@@ -51,7 +52,9 @@ pub fn end<E: Write>(
     told: bool,
     err: &mut E,
 ) -> u8
-    ensures { result ≡ status_of answer }
+    ensures status { result ≡ status_of answer }
+    ensures quiet { answer ≢ Answer.Device → answer ≢ Answer.Memory → err.new ≡ err.old }
+    ensures closed { output ≡ Some Reason.Closed → err.new ≡ err.old }
 {
     if output == Some(Reason::Closed) {
         return status(answer);

@@ -2,20 +2,19 @@
 #![tactic(auto)]
 
 mod commands;
-mod converting;
 mod converting_files;
 mod faults;
 mod finishing;
 mod folder;
 mod limited;
 mod many;
+mod new_file;
 mod paths;
 mod picking;
 mod progress;
 mod reasons;
 mod run;
 mod single;
-mod target;
 #[cfg(test)]
 mod tests;
 mod watched;

@@ -1,13 +1,16 @@
 //! Opening files by their names.
 
-ghost use Rattle.std.specs.Prelude.{◌≡◌, IfOk};
-ghost use Rattle.ncc_store.specs.File.{file_writes, file_failures};
+ghost use Rattle.std.specs.Prelude.{◌≡◌, true, IfOk};
+ghost use Rattle.std.specs.Fs.{new_options, with_write, with_create_new};
+ghost use Rattle.ncc_store.specs.File.{file_of, file_ready, file_failures};
+ghost use Rattle.ncc_store.specs.DiskFile.{is_writable};
 
 use crate::reasons::{Reason, reason_of};
 use ncc_store::FileStore;
-use std::fs::{File, OpenOptions};
+use std::fs::{File, OpenOptions, TryLockError};
+use std::io::ErrorKind;
 use std::rt::Files;
-use std::{fs, str};
+use std::{fs, io, str};
 
 /// A name as the system's calls take it here, which is UTF-8.
 fn path_of(name: &[u8]) -> Result<&str, Reason> {
@@ -27,21 +30,27 @@ fn expect_file<R: Files<File = File>>(rt: &R, path: &str) -> Result<(), Reason> 
     }
 }
 
-/// Why the system doesn't open a file.
+/// Why a file can't be opened as a store.
 fn refusal<R: Files<File = File>>(rt: &R, path: &str, write: bool) -> Reason {
     match OpenOptions::new().read(true).write(write).open(rt, path) {
+        Ok(file) if write => match file.try_lock() {
+            Err(TryLockError::WouldBlock) => Reason::Locked,
+            _ => Reason::Other,
+        },
         Ok(_) => Reason::Other,
         Err(error) => reason_of(error.kind()),
     }
 }
 
-/// Opens a file that is there as a store. A pipe or device isn't waited for.
+/// Opens a file that is there as a store; one that is to be written is locked, so that no other `ncc` writes it
+/// meanwhile. A pipe or device isn't waited for.
 pub fn open_store<R: Files<File = File>>(
     rt: &R,
     name: &[u8],
     write: bool,
 ) -> Result<FileStore, Reason>
-    ensures writes { IfOk result (λ f. file_writes f ≡ write) }
+    ensures ready { IfOk result (λ f. file_ready f ≡ write) }
+    ensures writable { IfOk result (λ f. is_writable (file_of f) ≡ write) }
     ensures count { IfOk result (λ f. file_failures f ≡ 0) }
 {
     let path = path_of(name)?;
@@ -62,10 +71,72 @@ pub fn open_file<R: Files<File = File>>(rt: &R, name: &[u8]) -> Result<File, Rea
     }
 }
 
+/// What a file is opened with that is to be new: for writing, and only where nothing has its name.
+fn new_file_options() -> OpenOptions
+    ensures { result ≡ with_create_new (with_write new_options true) true }
+{
+    let mut options = OpenOptions::new();
+    options.write(true).create_new(true);
+    options
+}
+
 /// Makes a file that isn't there, and opens it for writing.
 pub fn make_file<R: Files<File = File>>(rt: &R, name: &[u8]) -> Result<File, Reason> {
-    match File::create_new(rt, path_of(name)?) {
+    match new_file_options().open(rt, path_of(name)?) {
         Ok(file) => Ok(file),
+        Err(error) => Err(reason_of(error.kind())),
+    }
+}
+
+/// Whether nothing has a name, not even a link that leads nowhere; or why it can't be had.
+pub fn expect_free<R: Files<File = File>>(rt: &R, name: &[u8]) -> Result<(), Reason> {
+    if name.is_empty() {
+        return Err(Reason::Missing);
+    }
+    match fs::symlink_metadata(rt, path_of(name)?) {
+        Ok(_) => Err(Reason::Exists),
+        Err(error) if error.kind() == ErrorKind::NotFound => Ok(()),
+        Err(error) => Err(reason_of(error.kind())),
+    }
+}
+
+/// What came of a call of the system.
+fn done(called: io::Result<()>) -> Result<(), Reason> {
+    match called {
+        Ok(()) => Ok(()),
+        Err(error) => Err(reason_of(error.kind())),
+    }
+}
+
+/// Gives a file another name too, which nothing has.
+pub fn link_file<R: Files<File = File>>(rt: &R, from: &[u8], to: &[u8]) -> Result<(), Reason> {
+    done(fs::hard_link(rt, path_of(from)?, path_of(to)?))
+}
+
+/// Gives a file another name, in place of the file that has it.
+pub fn rename_file<R: Files<File = File>>(rt: &R, from: &[u8], to: &[u8]) -> Result<(), Reason> {
+    done(fs::rename(rt, path_of(from)?, path_of(to)?))
+}
+
+/// Removes a name.
+pub fn remove_file<R: Files<File = File>>(rt: &R, name: &[u8]) -> Result<(), Reason> {
+    done(fs::remove_file(rt, path_of(name)?))
+}
+
+/// The folder of a name.
+fn folder_of(name: &[u8]) -> &[u8] {
+    match name.iter().rposition(|byte| *byte == b'/') {
+        Some(0) => b"/".as_slice(),
+        Some(at) => name.split_at(at).0,
+        None => b".".as_slice(),
+    }
+}
+
+/// Brings to the disk which names are in the folder of this one.
+pub fn sync_folder<R: Files<File = File>>(rt: &R, name: &[u8]) -> Result<(), Reason> {
+    let folder = path_of(folder_of(name))?;
+    match OpenOptions::new().read(true).open(rt, folder) {
+        Ok(folder) => done(folder.sync_all()),
         Err(error) => Err(reason_of(error.kind())),
     }
 }

@@ -10,8 +10,14 @@ pub enum Reason {
     Special,
     Denied,
     Exists,
+    /// The part of a new file has a name that is there already.
+    PartExists,
+    /// The part of a new file can't be removed.
+    PartStays,
     Full,
     ReadOnly,
+    /// Another program has the lock of a file that is to be written.
+    Locked,
     /// The name isn't UTF-8, which the library of the system's calls wants.
     NoText,
     /// The list of names has no NUL byte after this one.
@@ -20,6 +26,9 @@ pub enum Reason {
     Closed,
     Other,
 }
+
+/// What stands after the name of a new file in the name of its part.
+pub const PART: &[u8] = b".part";
 
 /// What failed, and why.
 #[derive(Clone, Copy)]
@@ -51,9 +60,11 @@ fn words(reason: Reason) -> &'static str {
         Reason::Folder => "is a folder",
         Reason::Special => "is a pipe or device, not a file",
         Reason::Denied => "permission denied",
-        Reason::Exists => "exists already",
+        Reason::Exists | Reason::PartExists => "exists already",
+        Reason::PartStays => "can't be removed",
         Reason::Full => "no space left",
         Reason::ReadOnly => "read-only file system",
+        Reason::Locked => "is being written",
         Reason::NoText => "the name isn't UTF-8",
         Reason::CutName => "no NUL byte stands after this name in the list",
         Reason::Closed => "nobody reads it",
@@ -65,6 +76,9 @@ fn words(reason: Reason) -> &'static str {
 pub fn tell_trouble<E: Write>(trouble: Trouble<'_>, err: &mut E) {
     let _ = err.write_all(b"ncc: ");
     let _ = err.write_all(trouble.name);
+    if matches!(trouble.reason, Reason::PartExists | Reason::PartStays) {
+        let _ = err.write_all(PART);
+    }
     let _ = err.write_all(b": ");
     let _ = err.write_all(words(trouble.reason).as_bytes());
     let _ = err.write_all(b"\n");

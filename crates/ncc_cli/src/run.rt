@@ -1,6 +1,6 @@
 //! Running a command.
 
-ghost use Rattle.std.specs.Prelude.{◌≤◌};
+ghost use Rattle.std.specs.Prelude.{◌≡◌, ◌≤◌, ℕ};
 
 use crate::commands::{LIMIT, command};
 use crate::converting_files::{convert, version_of};
@@ -118,7 +118,9 @@ fn answer_all_of<R: Files<File = File> + Clock + AllocGlobal, O: Write, E: Write
 }
 
 /// What is asked of files by `check` or `list`.
-fn work_given(command: &str, words: &ArgMatches) -> Work {
+fn work_given(command: &str, words: &ArgMatches) -> Work
+    ensures { (limit : ℕ) (style : FloatStyle) → result ≡ Work.List limit style → limit ≡ LIMIT }
+{
     if command == "check" {
         return Work::Check {
             limit: words.get_one("max-header").unwrap_or(LIMIT),

@@ -1,7 +1,7 @@
 //! The commands over one file of the system.
 
 use crate::finishing::{Ended, flushed};
-use crate::limited::{extended, listed, selected};
+use crate::limited::{extended_file, listed, selected};
 use crate::paths::{open_file, open_store};
 use crate::reasons::{Reason, Trouble};
 use ncc_csv::Pick;
@@ -137,7 +137,8 @@ pub fn extend<'a, R: Files<File = File> + AllocGlobal, O: Write>(
         return ended(name, Answer::Memory);
     };
     let mut sink = WriteSink::new(writer);
-    let (_, answer) = extended(rt.alloc(), store, more, &mut sink);
+    // (the store keeps the lock until the line is out)
+    let (_store, answer) = extended_file(rt.alloc(), store, more, &mut sink);
     let mut writer = sink.into_inner();
     ended(name, flushed(&mut writer, answer))
 }

@@ -1,7 +1,5 @@
 //! Runs whose outputs take nothing, and what is told of an answer.
 
-mod making;
-
 use crate::finishing::finish;
 use crate::progress::Terminals;
 use crate::run::run;

@@ -1,4 +1,4 @@
--- Adding one text behind another.
+-- Adding one text after another.
 use Rattle.std.proofs.Common.{◌≡◌, ℕ, ◌+◌, List, [], ◌++◌, Option, subst, add-one}
 use Rattle.csv.proofs.WriteFacts.{appends-more, appends-none}
 use Rattle.csv.specs.Writing.{text_written}

@@ -46,7 +46,7 @@ module _ (s : Slab) (first : ℕ) where
       ap (λ (l : List ℕ). numbered_row s (first + k) (take c l)) (drop-append-le (k * c) bytes more (omega (arith, ends)))
       ∙ ap (numbered_row s (first + k)) (take-append-le c (drop (k * c) bytes) more (omega (arith, ends, length-drop (k * c) bytes))))
 
-  -- what is left behind the full rows, and more
+  -- what is left after the full rows, and more
   pub left_with_more : (bytes more : List ℕ) (m : ℕ) → m * c ≤ length bytes → drop (m * c) (bytes ++ more) ≡ drop (m * c) bytes ++ more
   left_with_more bytes more m within = drop-append-le (m * c) bytes more within
 
@@ -84,7 +84,7 @@ fills_as s first bytes P Q turn f = record { rows = f.rows; within = f.within; f
 abbrev pub fills_none : (s : Slab) (first : ℕ) (bytes : List ℕ) (P : List ℕ → Type 0) → P [] → Fills s first bytes P
 fills_none s first bytes P nothing = record { rows = 0; within = omega arith; filled = nothing }
 
--- behind bytes that are gathered
+-- after bytes that are gathered
 abbrev pub fills_behind : (s : Slab) (first : ℕ) (bytes more : List ℕ) (g : Gathered) (P Q R : List ℕ → Type 0) → ((t u : List ℕ) → P t → Q u → R (t ++ u))
     → Gathers s first bytes g P → Fills s g.number (g.text.items ++ more) Q → Fills s first (bytes ++ more) R
 fills_behind s first bytes more g P Q R join a b =

@@ -14,3 +14,4 @@ pub mod EndNuls
 pub mod Filling
 pub mod TextRows
 pub mod TextParts
+pub mod Leading

@@ -30,7 +30,7 @@ map-flat_map : {A B C : Type 0} (g : B → C) (f : A → List B) (xs : List A) �
 map-flat_map g f [] = refl
 map-flat_map g f (x ∷ xs) = map-append g (f x) (flat_map f xs) ∙ ap (λ z. map g (f x) ++ z) (map-flat_map g f xs)
 
--- ---- one more dimension behind the others
+-- ---- one more dimension after the others
 
 -- the lists that begin with this one
 abbrev behind : (c : ℕ) → List ℕ → List (List ℕ)
@@ -130,7 +130,7 @@ index_of-none [] stride = refl
 index_of-none (s ∷ start) [] = refl
 index_of-none (s ∷ start) (d ∷ stride) = refl
 
--- one more index behind the others
+-- one more index after the others
 pub index_of-append : (start stride ks : List ℕ) (k : ℕ) → length ks < length start → length ks < length stride
     → index_of start stride (ks ++ k ∷ []) ≡ index_of start stride ks ++ (get_or start (length ks) 0 + k * get_or stride (length ks) 0) ∷ []
 index_of-append [] stride ks k a b = absurd (omega (arith, a))
@@ -138,7 +138,7 @@ index_of-append (s ∷ start) [] ks k a b = absurd (omega (arith, b))
 index_of-append (s ∷ start) (d ∷ stride) [] k a b = ap (λ (l : List ℕ). (s + k * d) ∷ l) (index_of-none start stride)
 index_of-append (s ∷ start) (d ∷ stride) (j ∷ ks) k a b = ap (λ (l : List ℕ). (s + j * d) ∷ l) (index_of-append start stride ks k (omega (arith, a)) (omega (arith, b)))
 
--- the same of a selection: the index along the dimension i behind those before it
+-- the same of a selection: the index along the dimension i after those before it
 pub next_index : (s : Slab) (i : ℕ) (ks : List ℕ) (k : ℕ) → HasIndices s → i < length s.count → length ks ≡ i
     → map decimal (index_of s.start s.stride (ks ++ k ∷ [])) ≡ map decimal (index_of s.start s.stride ks) ++ decimal (get_or s.start i 0 + k * get_or s.stride i 0) ∷ []
 next_index s i ks k has lt long =

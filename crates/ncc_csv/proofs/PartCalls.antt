@@ -62,7 +62,7 @@ module _ (size : ℕ) (some : 0 < 65536 / size) where
   at_first : (places : List ℕ) → stretches_in size places 0 ≡ part_stretches size places
   at_first places = ap (λ (n : ℕ). part_stretches size (drop n places)) (let none : 0 * room ≡ 0 = omega arith in none)
 
-  -- the first part's, and those of what is left behind it
+  -- the first part's, and those of what is left after it
   abbrev Behind : List ℕ → Type 0
   Behind places = part_stretches size places + all_stretches size (drop (part_count size places) places) ≤ all_stretches size places
 

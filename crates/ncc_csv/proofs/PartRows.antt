@@ -51,7 +51,7 @@ puts_no_front old text = ([], text, refl, puts_none old)
 pub front_of_more : (old new : Option (List ℕ)) (text a b : List ℕ) → text ≡ a ++ b → PutsFront old new a → PutsFront old new text
 front_of_more old new text a b e w = (w.0, w.1 ++ b, e ∙ ap (λ (z : List ℕ). z ++ b) w.2 ∙ append_assoc w.0 w.1 b, w.3)
 
--- behind a text that went out
+-- after a text that went out
 pub front_behind : (old mid new : Option (List ℕ)) (text a b : List ℕ) → text ≡ a ++ b → Puts old mid a → PutsFront mid new b → PutsFront old new text
 front_behind old mid new text a b e puts w = (a ++ w.0, w.1, e ∙ ap (λ (z : List ℕ). a ++ z) w.2 ∙ sym (append_assoc a w.0 w.1), puts_both old mid new a w.0 puts w.3)
 
@@ -64,7 +64,7 @@ module _ (style : FloatStyle) (file : List ℕ) (record_size : ℕ) (x : PlacedV
       let all : left ≡ n + (left - n) = omega arith in
       ap (part_rows style file record_size x s first) all ∙ rows_join style file record_size x s first n (left - n)
 
-  -- those of the first, and behind them those of the next
+  -- those of the first, and after them those of the next
   pub rows_so_far : (done n : ℕ) → part_rows style file record_size x s 0 (done + n) ≡ part_rows style file record_size x s 0 done ++ part_rows style file record_size x s done n
   rows_so_far done n =
       let same : 0 + done ≡ done = omega arith in

@@ -89,7 +89,7 @@ sends_items style text make shown counted old new s first v items xs result is s
 
 -- ---- block by block
 
--- a text goes out behind another, and there is more of it; or it doesn't
+-- a text goes out after another, and there is more of it; or it doesn't
 pub sends_front : (old mid new : Option (List ℕ)) (text a b c : List ℕ) → text ≡ (a ++ b) ++ c → Puts old mid a → PutsFront mid new b → PutsFront old new text
 sends_front old mid new text a b c e puts w = (
   a ++ w.0,
@@ -104,7 +104,7 @@ fails old new text (Ok x) e front = absurd (cc)
 fails old new text (Err h) e front = front
 
 module _ {A : Type 0} (text : A → List ℕ) (values : List A) (s : Slab) (first done k : ℕ) (piece : List A) (is : piece ≡ take k (drop done values)) (short : k ≤ length (drop done values)) where
-  -- the rows of a piece of the values, behind those before it
+  -- the rows of a piece of the values, after those before it
   pub piece_rows : first_rows (slab_row s first (map text values)) (done + length piece)
       ≡ first_rows (slab_row s first (map text values)) done ++ first_rows (slab_row s (first + done) (map text piece)) (length piece)
   piece_rows =
@@ -117,7 +117,7 @@ module _ {A : Type 0} (text : A → List ℕ) (values : List A) (s : Slab) (firs
       (sym (ap (λ l. get_or (map text l) j []) is ∙ ap (λ (l : List (List ℕ)). get_or l j []) (sym (take-map text k (drop done values)))
       ∙ get_or-take k (map text (drop done values)) j [] (omega (arith, lt, long))))))
 
-  -- and then those behind it
+  -- and then those after it
   pub all_rows : (m : ℕ) → done + length piece + m ≡ length values → first_rows (slab_row s first (map text values)) (length values)
       ≡ (first_rows (slab_row s first (map text values)) done ++ first_rows (slab_row s (first + done) (map text piece)) (length piece))
       ++ first_rows (λ j. slab_row s first (map text values) (done + length piece + j)) m

@@ -6,7 +6,7 @@ use Rattle.ncc_slab.specs.declared.slab.Slab.{Slab}
 use Rattle.ncc_csv.specs.Rows.{row_line, element_row}
 use Rattle.ncc_csv.specs.Runs.{slab_row, first_rows}
 
--- the first rows, and behind them others
+-- the first rows, and after them others
 pub first_rows-add : (row : ℕ → List (List ℕ)) (a b : ℕ) → first_rows row (a + b) ≡ first_rows row a ++ first_rows (λ k. row (a + k)) b
 first_rows-add row a zero =
     let e : a + zero ≡ a = omega arith in

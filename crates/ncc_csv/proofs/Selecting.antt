@@ -16,7 +16,7 @@ length-zero (x ∷ xs) e = absurd (omega (arith, e))
 length-selected : (s : Slab) → selected_count s ≡ length (index_lists s.count)
 length-selected s = length-map (index_lists s.count) (index_of s.start s.stride)
 
--- the last count, behind the others
+-- the last count, after the others
 last_count : (s : Slab) (r : ℕ) → length s.count ≡ r + 1 → s.count ≡ take r s.count ++ get_or s.count r 0 ∷ []
 last_count s r ranked = sym (take_all (r + 1) s.count (omega (arith, ranked))) ∙ one_more s.count r (r + 1) refl (omega (arith, ranked))
 

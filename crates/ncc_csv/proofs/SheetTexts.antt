@@ -88,7 +88,7 @@ pub fails_sheet : (cause : Option SlabFault) (old new : Option (List ℕ)) (shee
 fails_sheet cause old new sheet (Ok b) e front = absurd (cc)
 fails_sheet cause old new sheet (Err h) e front = front
 
--- a text goes out behind another, or a front of it
+-- a text goes out after another, or a front of it
 pub sends_behind : (old mid new : Option (List ℕ)) (a b : List ℕ) (result : Result (Unit {0}) Halt) → Puts old mid a → SendsAll mid new b result → SendsAll old new (a ++ b) result
 sends_behind old mid new a b (Ok u) puts sent = puts_both old mid new a b puts sent
 sends_behind old mid new a b (Err e) puts front = front_behind old mid new (a ++ b) a b refl puts front

@@ -24,7 +24,7 @@ abbrev pub PartIsOfElements : Type 0
 PartIsOfElements = (style : FloatStyle) (file : List ℕ) (record_size : ℕ) (x : PlacedVar) (s : Slab) (first n : ℕ) (values : Values) → first + n ≤ selected_count s → type_of values ≡ x.xtype
     → numbers_of values ≡ map (number_at file record_size x) (part_of s first n) → part_text style s first values ≡ rows_text style file record_size x (part_of s first n)
 
--- the rows of a part, and behind them those of the next one, are the rows of both
+-- the rows of a part, and after them those of the next one, are the rows of both
 abbrev pub RowsJoin : Type 0
 RowsJoin = (style : FloatStyle) (file : List ℕ) (record_size : ℕ) (x : PlacedVar) (s : Slab) (first m n : ℕ)
     → rows_text style file record_size x (part_of s first (m + n))

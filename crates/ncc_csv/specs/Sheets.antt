@@ -35,7 +35,7 @@ abbrev pub SendsSheet : Option SlabFault → (old new : Option (List ℕ)) → (
 SendsSheet fault old new sheet (Ok b) = Puts old new (sheet_or_line fault sheet)
 SendsSheet fault old new sheet (Err e) = PutsFront old new (sheet_or_line fault sheet)
 
--- the rows of so many elements of a selection, behind the first ones
+-- the rows of so many elements of a selection, after the first ones
 abbrev pub part_rows : FloatStyle → (file : List ℕ) → (record_size : ℕ) → PlacedVar → Slab → (first count : ℕ) → List ℕ
 part_rows style file record_size x s first n = rows_text style file record_size x (part_of s first n)
 

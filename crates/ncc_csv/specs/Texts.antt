@@ -17,7 +17,7 @@ use Rattle.ncc_csv.specs.Rows.{row_line, element_row}
 
 -- ---- a text
 
--- a byte, and what is left of the text behind it; a NUL before nothing is at the end
+-- a byte, and what is left of the text after it; a NUL before nothing is at the end
 abbrev pub keep_byte : (byte : ℕ) → (rest : List ℕ) → List ℕ
 keep_byte b (c ∷ rest) = b ∷ c ∷ rest
 keep_byte zero [] = []

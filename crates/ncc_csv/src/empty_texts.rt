@@ -1,6 +1,6 @@
 //! The rows of texts of no characters.
 
-ghost use Rattle.std.specs.Prelude.{◌≡◌, ◌<◌, ◌-◌, [], length, take, IfOk, IfSome};
+ghost use Rattle.std.specs.Prelude.{◌≡◌, ◌<◌, ◌-◌, ◌^◌, [], length, take, IfOk};
 ghost use Rattle.ncc_layout.specs.Sizes.{product};
 ghost use Rattle.ncc_lines.specs.Sends.{Blames, SendsAll};
 ghost use Rattle.ncc_slab.specs.Selection.{index_lists};
@@ -17,17 +17,18 @@ use ncc_lines::{Halt, send_page};
 use ncc_slab::{Slab, laws as slab_laws};
 use std::alloc::{AllocError, Global};
 
-/// The product of numbers, where it fits.
-fn product(numbers: &[u64]) -> Option<u64>
-    ensures { IfSome result (λ n. n ≡ product numbers.now) }
+/// The product of numbers. That of the last of them may be 2^64 or more, where one before these is 0.
+fn product(numbers: &[u64]) -> u64
+    requires { product numbers.now < 2 ^ 64 }
+    ensures { result ≡ product numbers.now }
 {
     let mut product: u64 = 1;
     let mut k = numbers.len();
     while k > 0 {
         k -= 1;
-        product = numbers[k].checked_mul(product)?;
+        product = numbers[k].saturating_mul(product);
     }
-    Some(product)
+    product
 }
 
 /// The row with this number and an empty text, in memory.
@@ -93,9 +94,10 @@ fn send_empty_rows<W: Sink>(
 }
 
 /// Sends the rows with an empty text, one for each list of the leading indices. After an `Err` a front of them is
-/// sent. Where there are 2^64 and more the answer is want of memory.
+/// sent.
 pub fn send_empty_texts<W: Sink>(alloc: Global, slab: &Slab, sink: &mut W) -> Result<(), Halt>
-    requires { HasIndices slab.now }
+    requires fits { HasIndices slab.now }
+    requires counted { product (but_last slab.now.count) < 2 ^ 64 }
     ensures sent { SendsAll (W.put sink.old) (W.put sink.new)
         (first_rows (λ k. numbered_row slab.now k []) (length (index_lists (but_last slab.now.count)))) result }
     ensures count { Blames (W.failures sink.old) (W.failures sink.new) result }
@@ -103,8 +105,6 @@ pub fn send_empty_texts<W: Sink>(alloc: Global, slab: &Slab, sink: &mut W) -> Re
     slab_laws::count_is_product();
     let leading = slab.count.len().saturating_sub(1);
     let mut heads = vec![in alloc; Word::unsigned(0); leading]?;
-    let Some(rows) = product(slab.count.as_slice().split_at(leading).0) else {
-        return Err(Halt::Memory);
-    };
+    let rows = product(slab.count.as_slice().split_at(leading).0);
     send_empty_rows(alloc, heads.as_mut_slice(), slab, rows, sink)
 }

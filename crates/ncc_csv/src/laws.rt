@@ -12,7 +12,7 @@ pub fn part_is_of_elements()
     ensures { PartIsOfElements }
 {}
 
-/// The rows of a part, and behind them those of the next one, are the rows of both.
+/// The rows of a part, and after them those of the next one, are the rows of both.
 pub fn rows_join()
     ensures { RowsJoin }
 {}

@@ -1,10 +1,11 @@
 //! Sending a selection of an open file.
 
-ghost use Rattle.std.specs.Prelude.{◌≡◌, ℕ, ◌+◌, ◌<◌, ◌≤◌, List, [], length, get_or, Option, Some, None, is_none, IsTrue, IfOk, true, ◌&&◌};
+ghost use Rattle.std.specs.Prelude.{◌≡◌, ℕ, ◌+◌, ◌^◌, ◌<◌, ◌≤◌, List, [], length, get_or, Option, Some, None, is_none, IsTrue, IfOk, true, ◌&&◌};
 ghost use Rattle.ncc_store.specs.Store.{Unmoved, KeepsImages};
 ghost use Rattle.ncc_values.specs.XType.{size_of};
 ghost use Rattle.ncc_layout.specs.Elements.{var_at};
 ghost use Rattle.ncc_layout.specs.Placed.{record_size_of_file, vars_of};
+ghost use Rattle.ncc_layout.specs.Sizes.{product};
 ghost use Rattle.ncc_check.specs.Files.{store_of, schema_of, placed_of, must_reopen};
 ghost use Rattle.ncc_lines.specs.Sends.{SendsAll};
 ghost use Rattle.ncc_slab.specs.Refusals.{slab_fault};
@@ -12,10 +13,11 @@ ghost use Rattle.ncc_slab.specs.Selected.{places_of};
 ghost use Rattle.ncc_slab.specs.SlabParts.{BeginsParts};
 ghost use Rattle.ncc_slab.specs.Stretches.{all_stretches};
 ghost use Rattle.ncc_slab.specs.declared.fault.SlabFault.{SlabFault as Fault};
+ghost use Rattle.ncc_slab.specs.declared.slab.Slab.{Slab};
 ghost use Rattle.ncc_csv.specs.Csv.{csv_text};
 ghost use Rattle.ncc_csv.specs.Named.{no_var};
 ghost use Rattle.ncc_csv.specs.Sheets.{BlamesOne, BlamesEither, IsCause, SendsSheet, sheet_text};
-ghost use Rattle.ncc_csv.specs.Texts.{has_texts, text_sheet};
+ghost use Rattle.ncc_csv.specs.Texts.{but_last, has_texts, text_sheet};
 
 use crate::laws::fitting_has_indices;
 use crate::names::{send_names, send_text_names};
@@ -23,9 +25,10 @@ use crate::parts::send_rows;
 use crate::refusals::send_refusal;
 use crate::text_parts::send_texts;
 use ncc_check::NcFile;
-use ncc_check::laws::open_file_places_all;
+use ncc_check::laws::{open_file_places_all, open_file_stands};
 use ncc_header::{Schema, Sink, Var, XType};
 use ncc_layout::Placed;
+use ncc_layout::laws::shape_is_in_file;
 use ncc_lines::{FloatStyle, Halt, Progress};
 use ncc_slab::laws::{lengths_fit, refused_unless_it_fits};
 use ncc_slab::{Slab, SlabFault, SlabParts};
@@ -55,6 +58,17 @@ fn var_of(schema: &Schema, var: usize) -> &Var
     ensures { result.now ≡ get_or schema.now.vars var no_var }
 {
     &schema.vars.as_slice()[var]
+}
+
+/// The texts of a selection that isn't refused, whatever its last count, are fewer than 2^64.
+fn texts_are_counted<S: Store>(file: &NcFile<S>)
+    ensures { (var : ℕ) (s : Slab) → slab_fault (vars_of (placed_of file.now)) var s ≡ None
+        → product (but_last s.count) < 2 ^ 64 }
+{
+    open_file_stands(file);
+    shape_is_in_file();
+    refused_unless_it_fits();
+    let _length = file.placed().file_length();
 }
 
 /// Sends the row of names and a row for each element of a selection that isn't refused. After an `Err` a front of
@@ -126,6 +140,7 @@ fn send_selected_texts<S: Store, W: Sink, P: Progress>(
         (places_of (record_size_of_file (placed_of file.old)) (var_at (vars_of (placed_of file.old)) var) slab.now) }
 {
     open_file_places_all(file);
+    texts_are_counted(file);
     lengths_fit(file.placed(), var);
     refused_unless_it_fits();
     fitting_has_indices();

@@ -7,6 +7,7 @@ ghost use Rattle.ncc_values.specs.declared.xtype.XType.TheVariants as types;
 ghost use Rattle.ncc_store.specs.Store.{Unmoved, KeepsImages};
 ghost use Rattle.ncc_layout.specs.Elements.{var_at};
 ghost use Rattle.ncc_layout.specs.Placed.{file_length_of, record_size_of_file, vars_of};
+ghost use Rattle.ncc_layout.specs.Sizes.{product};
 ghost use Rattle.ncc_layout.specs.declared.placed_var.PlacedVar.{PlacedVar};
 ghost use Rattle.ncc_check.specs.Files.{store_of, schema_of, placed_of, must_reopen};
 ghost use Rattle.ncc_lines.specs.Sends.{Blames, SendsAll};
@@ -17,7 +18,7 @@ ghost use Rattle.ncc_slab.specs.Stretches.{part_stretches, all_stretches};
 ghost use Rattle.ncc_slab.specs.SlabParts.{BeginsParts, parts_left, parts_length, parts_type};
 ghost use Rattle.ncc_csv.specs.Rows.{HasIndices};
 ghost use Rattle.ncc_csv.specs.Sheets.{BlamesEither};
-ghost use Rattle.ncc_csv.specs.Texts.{last_number, byte_of, texts_text};
+ghost use Rattle.ncc_csv.specs.Texts.{but_last, last_number, byte_of, texts_text};
 ghost use Rattle.ncc_csv.specs.TextRuns.{done_in, part_bytes, SendsFull, SendsTexts};
 
 use crate::empty_texts::send_empty_texts;
@@ -170,6 +171,7 @@ pub fn send_texts<S: Store, W: Sink, P: Progress>(
     requires typed { parts_type parts.old ≡ types.Char }
     requires fits { HasIndices slab.now }
     requires ranked { 0 < length slab.now.count }
+    requires counted { product (but_last slab.now.count) < 2 ^ 64 }
     ensures sent { IsTrue S.tells_bytes → (number : ℕ) → BeginsParts (placed_of file.old) number slab.now parts.old
         → SendsAll (W.put sink.old) (W.put sink.new) (texts_text (S.bytes (store_of file.old))
         (record_size_of_file (placed_of file.old)) (var_at (vars_of (placed_of file.old)) number) slab.now) result }

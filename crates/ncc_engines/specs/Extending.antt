@@ -79,10 +79,12 @@ pub record IsFilledUp (old : List ℕ) (limit more : ℕ) (new : List ℕ) : Typ
   pub grows : CanGrow filled.schema filled.placed
   pub full : IsFullFor filled.schema.version filled.placed (fits + 1)
 
--- so many at most were called, four for each of them and one more, and where there is room for none nothing was written
+-- the records for which there was room were added, by four calls each and two more at most; where there was room for
+-- none, nothing was written or synced
 abbrev pub FillsUp : (old : List ℕ) (limit more : ℕ) (new : List ℕ) → (unmoved : Type 0) → (before calls : ℕ) → Type 0
 FillsUp old limit more new unmoved before calls =
-    (u : IsFilledUp old limit more new) × (u.fits ≡ 0 → unmoved) × (calls ≤ before + 4 * u.fits + 1)
+    (u : IsFilledUp old limit more new) × (u.fits ≡ 0 → unmoved × (calls ≤ before))
+    × (calls ≤ before + 4 * u.fits + 2)
 
 -- the bytes don't pass, or they are of a file that takes no record, whatever room there is
 abbrev pub TakesNone : (bytes : List ℕ) (limit : ℕ) → Type 0

@@ -12,7 +12,7 @@ mod selecting;
 pub use answer::{Answer, answered};
 pub use checking::check_engine;
 pub use converting::convert_engine;
-pub use extending::extend_engine;
+pub use extending::{extend_engine, extend_file};
 pub use listing::{list_engine, list_store_engine};
 pub use planning::plan;
 pub use selecting::csv_engine;

@@ -1,5 +1,5 @@
 -- The line of a record that isn't added.
-use Rattle.std.specs.Prelude.{ℕ, List, ◌++◌, codes, decimal}
+use Rattle.std.specs.Prelude.{◌≡◌, ℕ, List, ◌++◌, codes, decimal}
 use Rattle.ncc_check.specs.declared.append_error.AppendError.{AppendError}
 use Rattle.ncc_check.specs.declared.append_error.AppendError.TheVariants as errors
 
@@ -16,3 +16,8 @@ append_words errors.Memory = codes "Memory"
 
 abbrev pub append_line : AppendError → List ℕ
 append_line e = codes "refused " ++ append_words e ++ codes "\n"
+
+-- this is the line, but for WrongValues, of which it is what stands before the number
+abbrev pub IsLineOf : AppendError → (text : List ℕ) → Type 0
+IsLineOf (errors.WrongValues k) text = text ≡ codes "refused WrongValues "
+IsLineOf e text = text ≡ append_line e

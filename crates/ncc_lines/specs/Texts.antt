@@ -105,7 +105,7 @@ var_type dims begin x =
 abbrev pub var_head : List Dim → (number begin : ℕ) → Var → List ℕ
 var_head dims number begin x = var_start number ++ (name_text x.name ++ var_type dims begin x)
 
--- the name of a dimension, behind a space
+-- the name of a dimension, after a space
 abbrev pub dim_word : List Dim → (number : ℕ) → List ℕ
 dim_word dims number = codes " " ++ name_text (name_of dims number)
 

@@ -33,7 +33,7 @@ escaped b = if is_plain b then b ∷ [] else 92 ∷ 120 ∷ byte_digits b
 abbrev pub name_text : List ℕ → List ℕ
 name_text name = flat_map escaped name
 
--- ---- values: a number is a word behind a space, and a text is one word
+-- ---- values: a number is a word after a space, and a text is one word
 
 abbrev pub signed_word : ℤ → List ℕ
 signed_word z = codes " " ++ signed_decimal z

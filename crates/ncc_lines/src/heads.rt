@@ -29,7 +29,7 @@ pub fn push_attr_start(out: &mut Vec<u8>, owner: Option<usize>) -> Result<(), Al
     Ok(())
 }
 
-/// Adds the line of an attribute from behind its name up to its values.
+/// Adds the line of an attribute after its name up to its values.
 #[tactic(auto, unfolding(crate::specs::Texts::attr_type))]
 pub fn push_attr_type(out: &mut Vec<u8>, values: &Values) -> Result<(), AllocError>
     ensures { OnOk result (out.new.items ≡ out.old.items ++ attr_type values.now) }
@@ -84,7 +84,7 @@ pub fn push_var_start(out: &mut Vec<u8>, number: usize) -> Result<(), AllocError
     Ok(())
 }
 
-/// Adds the line of a variable from behind its name up to the names of its dimensions.
+/// Adds the line of a variable after its name up to the names of its dimensions.
 #[tactic(auto, unfolding(crate::specs::Texts::var_type))]
 pub fn push_var_type(
     out: &mut Vec<u8>,

@@ -1,15 +1,20 @@
-//! The line of a record that isn't added, and that of how many there are.
+//! The line of a record that isn't added, and that of how many there are. Neither takes memory: by then records may
+//! be there.
 
-ghost use Rattle.std.specs.Prelude.{◌≡◌, ◌++◌, decimal, OnOk};
-ghost use Rattle.ncc_lines.specs.Refusals.{append_words, append_line};
+ghost use Rattle.std.specs.Prelude.{◌≡◌, ◌≢◌, ◌++◌, codes, decimal, Err, OnOk};
+ghost use Rattle.ncc_values.specs.Failures.{Counts};
+ghost use Rattle.ncc_schema.specs.Device.{WritesAll};
+ghost use Rattle.ncc_lines.specs.Refusals.{IsLineOf, append_line};
 ghost use Rattle.ncc_lines.specs.Sends.{SendsAll, Blames};
 ghost use Rattle.ncc_lines.specs.Texts.{records_line};
+ghost use Rattle.ncc_schema.specs.declared.schema.Count.TheVariants.{Known};
 
 use crate::halt::Halt;
-use crate::texts::{push_decimal, push_records};
+use crate::texts::push_decimal;
+use itoa::Buffer;
 use ncc_check::AppendError;
-use ncc_header::{Count, Sink, write_all};
-use std::alloc::{AllocError, Global};
+use ncc_header::{Failed, Sink, write_all};
+use std::alloc::AllocError;
 
 /// Adds a word, which ends with a space, and a number.
 pub fn push_numbered(out: &mut Vec<u8>, word: &str, number: usize) -> Result<(), AllocError>
@@ -19,53 +24,68 @@ pub fn push_numbered(out: &mut Vec<u8>, word: &str, number: usize) -> Result<(),
     push_decimal(out, number as u64)
 }
 
-/// Adds the words that name a refusal.
-fn push_append_error(out: &mut Vec<u8>, error: AppendError) -> Result<(), AllocError>
-    ensures { OnOk result (out.new.items ≡ out.old.items ++ append_words error) }
+/// Puts out a number and a line feed.
+fn put_number<W: Sink>(number: u64, sink: &mut W) -> Result<(), Failed>
+    ensures bytes { WritesAll (W.put sink.old) (W.put sink.new) result (decimal number ++ codes "\n") }
+    ensures count { Counts (W.failures sink.old) (W.failures sink.new) result }
+{
+    let mut buffer = Buffer::new();
+    write_all(sink, buffer.format(number).as_bytes())?;
+    write_all(sink, b"\n")
+}
+
+/// Puts out a word, a number and a line feed.
+fn put_numbered<W: Sink>(word: &[u8], number: u64, sink: &mut W) -> Result<(), Failed>
+    ensures bytes { WritesAll (W.put sink.old) (W.put sink.new) result (word.now ++ (decimal number ++ codes "\n")) }
+    ensures count { Counts (W.failures sink.old) (W.failures sink.new) result }
+{
+    write_all(sink, word)?;
+    put_number(number, sink)
+}
+
+/// The line of a refusal; of `WrongValues` what stands before its number.
+fn line_of(error: AppendError) -> &'static [u8]
+    ensures { IsLineOf error result.now }
 {
     match error {
-        AppendError::Reopen => out.extend_from_slice(b"Reopen"),
-        AppendError::NoRecordVariable => out.extend_from_slice(b"NoRecordVariable"),
-        AppendError::NotPacked => out.extend_from_slice(b"NotPacked"),
-        AppendError::Streaming => out.extend_from_slice(b"Streaming"),
-        AppendError::CountFull => out.extend_from_slice(b"CountFull"),
-        AppendError::WrongValues(number) => push_numbered(out, "WrongValues ", number),
-        AppendError::Device => out.extend_from_slice(b"Device"),
-        AppendError::Memory => out.extend_from_slice(b"Memory"),
+        AppendError::Reopen => b"refused Reopen\n",
+        AppendError::NoRecordVariable => b"refused NoRecordVariable\n",
+        AppendError::NotPacked => b"refused NotPacked\n",
+        AppendError::Streaming => b"refused Streaming\n",
+        AppendError::CountFull => b"refused CountFull\n",
+        AppendError::WrongValues(_) => b"refused WrongValues ",
+        AppendError::Device => b"refused Device\n",
+        AppendError::Memory => b"refused Memory\n",
     }
 }
 
-/// Adds the line of a refusal.
-fn push_append_line(out: &mut Vec<u8>, error: AppendError) -> Result<(), AllocError>
-    ensures { OnOk result (out.new.items ≡ out.old.items ++ append_line error) }
+/// Puts out the line of a refusal.
+fn put_append_line<W: Sink>(error: AppendError, sink: &mut W) -> Result<(), Failed>
+    ensures bytes { WritesAll (W.put sink.old) (W.put sink.new) result (append_line error) }
+    ensures count { Counts (W.failures sink.old) (W.failures sink.new) result }
 {
-    out.extend_from_slice(b"refused ")?;
-    push_append_error(out, error)?;
-    out.extend_from_slice(b"\n")
+    if let AppendError::WrongValues(number) = error {
+        return put_numbered(b"refused WrongValues ", number as u64, sink);
+    }
+    write_all(sink, line_of(error))
 }
 
-/// Sends the line of a record that isn't added. After an `Err` a front of it is sent.
-pub fn send_append_refusal<W: Sink>(
-    alloc: Global,
-    error: AppendError,
-    sink: &mut W,
-) -> Result<(), Halt>
+/// Sends the line of a record that isn't added, and takes no memory. After an `Err` a front of it is sent.
+pub fn send_append_refusal<W: Sink>(error: AppendError, sink: &mut W) -> Result<(), Halt>
     ensures sent { SendsAll (W.put sink.old) (W.put sink.new) (append_line error) result }
     ensures count { Blames (W.failures sink.old) (W.failures sink.new) result }
+    ensures never { result ≢ Err Halt.Memory }
 {
-    let mut line = Vec::new(alloc);
-    push_append_line(&mut line, error)?;
-    write_all(sink, &line)?;
+    put_append_line(error, sink)?;
     Ok(())
 }
 
-/// Sends the line of how many records there are. After an `Err` a front of it is sent.
-pub fn send_records<W: Sink>(alloc: Global, count: Count, sink: &mut W) -> Result<(), Halt>
-    ensures sent { SendsAll (W.put sink.old) (W.put sink.new) (records_line count) result }
+/// Sends the line of how many records there are, and takes no memory. After an `Err` a front of it is sent.
+pub fn send_records<W: Sink>(records: u64, sink: &mut W) -> Result<(), Halt>
+    ensures sent { SendsAll (W.put sink.old) (W.put sink.new) (records_line (Known records)) result }
     ensures count { Blames (W.failures sink.old) (W.failures sink.new) result }
+    ensures never { result ≢ Err Halt.Memory }
 {
-    let mut line = Vec::new(alloc);
-    push_records(&mut line, count)?;
-    write_all(sink, &line)?;
+    put_numbered(b"records ", records, sink)?;
     Ok(())
 }

@@ -91,7 +91,7 @@ fn send_attrs<W: Sink>(
     Ok(())
 }
 
-/// Sends the name of a dimension behind a space.
+/// Sends the name of a dimension after a space.
 fn send_dim_word<W: Sink>(
     dims: &[Dim],
     number: usize,

@@ -70,7 +70,7 @@ pub fn push_dim_start(out: &mut Vec<u8>, number: usize) -> Result<(), AllocError
     Ok(())
 }
 
-/// Adds the line of a dimension from behind its name.
+/// Adds the line of a dimension after its name.
 #[tactic(auto, unfolding(crate::specs::Texts::dim_end))]
 pub fn push_dim_end(out: &mut Vec<u8>, length: u64) -> Result<(), AllocError>
     ensures { OnOk result (out.new.items ≡ out.old.items ++ dim_end length) }

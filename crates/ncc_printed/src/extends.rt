@@ -1,9 +1,9 @@
 //! Files that are extended: what is printed, and what they are then.
 
-use ncc_engines::{Answer, extend_engine};
+use ncc_engines::{Answer, extend_engine, extend_file};
 use ncc_files::{FIXED, LIMIT, RECORDS, RECORDS_DATA, TWO_RECORD_VARIABLES, bytes_of, with_byte};
 use ncc_header::{FuseSink, WriteSink};
-use ncc_store::{FuseStore, MemStore};
+use ncc_store::{Call, FuseStore, LogFile, LogStore, MemStore};
 use std::alloc::{AllocError, Global};
 use std::test::*;
 
@@ -17,7 +17,7 @@ struct Row {
     after: Vec<u8>,
 }
 
-/// Three records of a short, and these bytes behind them, with this many records by the header.
+/// Three records of a short, and these bytes after them, with this many records by the header.
 fn records(alloc: Global, count: u8, behind: &[u8]) -> Result<Vec<u8>, AllocError> {
     let mut bytes = with_byte(alloc, &RECORDS, 7, count)?;
     bytes.extend_from_slice(&RECORDS_DATA)?;
@@ -25,7 +25,7 @@ fn records(alloc: Global, count: u8, behind: &[u8]) -> Result<Vec<u8>, AllocErro
     Ok(bytes)
 }
 
-/// Two records of a byte and of a short, which has no padding behind the last.
+/// Two records of a byte and of a short, which has no padding after the last.
 fn two_variables(alloc: Global, count: u8, behind: &[u8]) -> Result<Vec<u8>, AllocError> {
     let mut bytes = with_byte(alloc, &TWO_RECORD_VARIABLES, 7, count)?;
     bytes.truncate(130);
@@ -33,7 +33,7 @@ fn two_variables(alloc: Global, count: u8, behind: &[u8]) -> Result<Vec<u8>, All
     Ok(bytes)
 }
 
-/// Two records whose second variable begins two bytes behind the padding of the first.
+/// Two records whose second variable begins two bytes after the padding of the first.
 fn with_gap(alloc: Global) -> Result<Vec<u8>, AllocError> {
     with_byte(alloc, &TWO_RECORD_VARIABLES, 115, 122)
 }
@@ -172,21 +172,39 @@ fn outputs_that_fail(rt: HostRuntime) -> Result<(), Fail> {
     Ok(())
 }
 
-/// Two calls check the file; each record takes four, or five where bytes are missing before it.
+/// Two calls check the file, and a sync brings to the disk what may be pending; each record takes four calls, or five
+/// where bytes are missing before it.
 #[test]
 fn stores_that_fail(rt: HostRuntime) -> Result<(), Fail> {
     let alloc = rt.alloc();
-    for calls in 0..12 {
+    for calls in 0..13 {
         let store = FuseStore::new(MemStore::new(two_variables(alloc, 2, &[])?), calls);
         let mut sink = WriteSink::new(Vec::new(alloc));
         let (_, answer) = extend_engine(alloc, store, LIMIT, 2, &mut sink);
-        let (wanted, text) = if calls < 11 {
+        let (wanted, text) = if calls < 12 {
             (Answer::Device, "")
         } else {
             (Answer::Passed, "records 4\n")
         };
         assert!(rt; answer == wanted);
         assert!(rt; sink.into_inner().as_slice() == text.as_bytes());
+    }
+    Ok(())
+}
+
+/// What was pending at the start goes to the disk before the first record is written; with none to add nothing is done.
+#[test]
+fn syncs_first(rt: HostRuntime) -> Result<(), Fail> {
+    let alloc = rt.alloc();
+    for (more, calls) in [(0, 0), (1, 6)] {
+        let log = LogStore::new(alloc, two_variables(alloc, 2, &[])?);
+        let mut sink = WriteSink::new(Vec::new(alloc));
+        let file = LogFile::new(log, 65_536, 100);
+        let (file, answer) = extend_file(alloc, file, LIMIT, more, &mut sink);
+        assert!(rt; answer == Answer::Passed);
+        let log = file.into_log();
+        assert_eq!(rt; log.calls().len(), calls);
+        assert!(rt; matches!(log.calls().first(), Some(Call::Sync) | None));
     }
     Ok(())
 }

@@ -8,7 +8,7 @@ use ncc_files::{
 use std::alloc::{AllocError, Global};
 use std::test::*;
 
-/// The bytes of words with values behind them.
+/// The bytes of words with values after them.
 fn with_values(alloc: Global, words: &[u32], values: &[u8]) -> Result<Vec<u8>, AllocError> {
     let mut bytes = bytes_of(alloc, words)?;
     bytes.extend_from_slice(values)?;

@@ -212,7 +212,7 @@ fn longest_elements_have_their_bytes(rt: HostRuntime) {
     );
 }
 
-// The values of the bytes have these bytes, and behind the first value the later ones.
+// The values of the bytes have these bytes, and after the first value the later ones.
 fn through_values(
     rt: &impl Abort,
     alloc: Global,

@@ -1,4 +1,4 @@
--- All parts of a selection, one behind the other.
+-- All parts of a selection, one after the other.
 use Rattle.std.proofs.Common.{◌≡◌, ℕ, List, [], ◌∷◌, take, drop, sym, ap, subst, ◌∙◌}
 use Rattle.std.proofs.lemmas.List.{take-append-drop}
 use Rattle.ncc_values.proofs.ValuesLemmas.{type_of-no_values, type_of-with_bytes}

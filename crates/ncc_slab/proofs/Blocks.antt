@@ -1,4 +1,4 @@
--- Elements that lie one behind the other, by the axes of a grid.
+-- Elements that lie one after the other, by the axes of a grid.
 use Rattle.std.proofs.Common.{◌≡◌, ℕ, suc, ◌+◌, ◌-◌, ◌*◌, ◌/◌, ◌%◌, ◌<◌, ◌≤◌, inl, inr, ltb, Bool, true, false, List, [], ◌∷◌, length, get_or, drop, drop-cons, refl, sym, ap, subst, ◌∙◌, arith, mod-lt}
 use Rattle.std.proofs.Math.Nat.{mul_assoc, add-mul, eq-or-lt_of_le}
 use Rattle.std.proofs.lemmas.Bool.{ltb-true, ltb-false}
@@ -46,7 +46,7 @@ module _ (size : ℕ) (axes : List Axis) (k : ℕ) (lt : k < length axes) (wide 
         ap (λ (m : ℕ). m * size) (div-add-mod' n a.width),
       )
 
-  -- so far as the index along it doesn't change, only what is behind it tells
+  -- so far as the index along it doesn't change, only what is after it tells
   pub same_index : (n i : ℕ) → i < a.width - n % a.width → offset_at rest (n % a.width + i) ≡ offset_at rest (n % a.width) + i * size
       → offset_at (drop k axes) (n + i) ≡ offset_at (drop k axes) n + i * size
   same_index n i below same =
@@ -68,11 +68,11 @@ module _ (size : ℕ) (axes : List Axis) (k : ℕ) (lt : k < length axes) (wide 
       subst (λ (m : ℕ). i < m - n % m → offset_at rest (n % m + i) ≡ offset_at rest (n % m) + i * size → offset_at (drop k axes) (n + i) ≡ offset_at (drop k axes) n + i * size)
       (sym is) (same_index n i)
 
--- behind all axes but those without a gap
+-- after all axes but those without a gap
 pub dense_goes_on : (size : ℕ) (axes : List Axis) → IsDense size axes → (n i : ℕ) → offset_at axes (n + i) ≡ offset_at axes n + i * size
 dense_goes_on size axes dense n i = omega (arith, dense (n + i), dense n, add-mul n i size)
 
--- elements that adjoin, and behind them others
+-- elements that adjoin, and after them others
 module _ (f : ℕ → ℕ) (n count more place size : ℕ) (one : (i : ℕ) → i < count → f (n + i) ≡ place + i * size) (next : f (n + count) ≡ place + count * size)
     (two : (i : ℕ) → i < more → f (n + count + i) ≡ f (n + count) + i * size) where
   by_test : (b : Bool) (i : ℕ) → ltb i count ≡ b → i < count + more → f (n + i) ≡ place + i * size

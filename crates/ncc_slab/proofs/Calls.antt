@@ -32,7 +32,7 @@ stretches_grow size f a (suc k) m =
 abbrev one_if : Bool → ℕ
 one_if b = cond b 0 1
 
--- a stretch behind one that doesn't go on
+-- a stretch after one that doesn't go on
 breaks_more : (size : ℕ) (f : ℕ → ℕ) (a k m : ℕ) → (f (a + 1 + k) ≡ f (a + k) + size → ⊥)
     → breaks size (f a) (map f (range_with_len (a + 1) k)) + 1 ≤ breaks size (f a) (map f (range_with_len (a + 1) (k + suc m)))
 breaks_more size f a zero m apart =
@@ -48,7 +48,7 @@ breaks_more size f a (suc k) m apart =
     apart (ap f (let same : a + 1 + suc k ≡ a + 1 + 1 + k = omega arith in same) ∙ is ∙ ap (λ (n : ℕ). f n + size) (let same : a + 1 + k ≡ a + suc k = omega arith in same)) in
     rw one (let more = breaks_more size f (a + 1) k m next in omega (arith, more))
 
--- the places of k elements from the a-th on, and behind them some that don't adjoin
+-- the places of k elements from the a-th on, and after them some that don't adjoin
 pub one_more : (size : ℕ) (f : ℕ → ℕ) (a k m : ℕ) → 0 < m → (0 < k → f (a + k) ≡ f (a + k - 1) + size → ⊥)
     → stretches size (map f (range_with_len a k)) + 1 ≤ stretches size (map f (range_with_len a (k + m)))
 one_more size f a k zero some apart = absurd (omega (arith, some))

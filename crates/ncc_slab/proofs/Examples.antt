@@ -52,7 +52,7 @@ stride_first = refl
 no_variable : slab_fault [] 0 (one 0 1 1) ≡ Some NoVariable
 no_variable = refl
 
--- short m(y, x) of lengths 2 and 3, with the values 1 to 6, behind a header of 2 bytes
+-- short m(y, x) of lengths 2 and 3, with the values 1 to 6, after a header of 2 bytes
 abbrev m : PlacedVar
 m = record { xtype = Short; shape = 2 ∷ 3 ∷ []; extent = record { begin = 2; slab = 12; variable = 0; is_record = false } }
 

@@ -1,4 +1,4 @@
--- Parts of values, one behind the other.
+-- Parts of values, one after the other.
 use Rattle.std.proofs.Common.{◌≡◌, ℕ, zero, suc, ◌+◌, ◌-◌, ◌*◌, ◌/◌, ◌<◌, ◌≤◌, min, List, [], ◌∷◌, ◌++◌, map, take, drop, length, refl, sym, ap, subst, ◌∙◌, lit<, arith}
 use Rattle.std.specs.List.{range_with_len}
 use Rattle.std.proofs.lemmas.List.{length-append, length-take}
@@ -25,7 +25,7 @@ use Rattle.ncc_slab.proofs.Ranges.{drop-map-range}
 pub no_part : (file : List ℕ) (size : ℕ) (v : Values) → AddsPlaces file size [] v v
 no_part file size v = record { is = sym (with_bytes-nil v); whole = let zeroed : 0 ≡ 0 * size = omega arith in zeroed }
 
--- a part, and behind it the next one, are one part
+-- a part, and after it the next one, are one part
 pub places_join : (file : List ℕ) (size : ℕ) (ps qs : List ℕ) (old mid new : Values) → size_of (type_of old) ≡ size
     → AddsPlaces file size ps old mid → AddsPlaces file size qs mid new → AddsPlaces file size (ps ++ qs) old new
 places_join file size ps qs old mid new sized one two =

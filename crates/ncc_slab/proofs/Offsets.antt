@@ -25,7 +25,7 @@ split true = inl refl
 split false = inr refl
 
 module _ (axes : List Axis) (a : Axis) (c : ℕ) where
-  -- the n-th element, by its index along the dimension and its number behind it
+  -- the n-th element, by its index along the dimension and its number after it
   at_index : (k r : ℕ) → k < c → r < a.width → offset_at (cond (eqb c 1) axes (a ∷ axes)) (k * a.width + r) ≡ k * a.step + offset_at axes r
   at_index k r less below =
       elim (split (eqb c 1)) [

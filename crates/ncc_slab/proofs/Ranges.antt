@@ -3,7 +3,7 @@ use Rattle.std.proofs.Common.{◌≡◌, ℕ, zero, suc, ◌+◌, ◌-◌, ◌*�
 use Rattle.std.specs.List.{AllByRecursion, range_with_len}
 use Rattle.std.proofs.lemmas.List.FromFn.{take-map-range_with_len}
 
--- a run, and behind it the next one
+-- a run, and after it the next one
 pub map-range_split : {A : Type 0} (f : ℕ → A) (x y z next : ℕ) → x + y ≡ next → map f (range_with_len x (y + z)) ≡ map f (range_with_len x y) ++ map f (range_with_len next z)
 map-range_split f x zero z next e =
     ap (λ (n : ℕ). map f (range_with_len x n)) (let same : zero + z ≡ z = omega arith in same)
@@ -54,7 +54,7 @@ last_and_one (suc m) size some =
     let less : suc m - 1 ≡ m = omega arith in
     ap (λ (n : ℕ). n * size + size) less ∙ omega arith
 
--- what is left behind the next ones
+-- what is left after the next ones
 pub rest_behind : {A : Type 0} (f : ℕ → A) (taken count n : ℕ) → map f (range_with_len (taken + n) (count - (taken + n))) ≡ drop n (map f (range_with_len taken (count - taken)))
 rest_behind f taken count n =
     let same : count - taken - n ≡ count - (taken + n) = omega arith in

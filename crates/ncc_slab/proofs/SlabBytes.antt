@@ -128,7 +128,7 @@ module _ (record_size : ℕ) (x : PlacedVar) (number : ℕ) (some : x.extent.is_
 
 -- ---- its bytes
 
--- those of elements that lie one behind the other, from the a-th on
+-- those of elements that lie one after the other, from the a-th on
 run_bytes : (file : List ℕ) (begin size a n : ℕ) → bytes_at_places file size (map (λ (k : ℕ). begin + k * size) (range_with_len a n)) ≡ bytes_at file (begin + a * size) (n * size)
 run_bytes file begin size a zero =
     let none : 0 ≡ zero * size = omega arith in

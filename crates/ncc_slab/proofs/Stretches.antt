@@ -1,4 +1,4 @@
--- The bytes of elements that lie one behind the other.
+-- The bytes of elements that lie one after the other.
 use Rattle.std.proofs.Common.{◌≡◌, ℕ, zero, suc, ◌+◌, ◌-◌, ◌*◌, ◌/◌, ◌<◌, ◌≤◌, min, List, ◌++◌, map, length, take, drop, refl, sym, ap, ◌∙◌, arith}
 use Rattle.std.specs.List.{range_with_len}
 use Rattle.std.proofs.Math.Seq.{take-add}
@@ -25,7 +25,7 @@ stretch_bytes file size f n (suc m) place adjoin =
     ∙ ap (λ (l : List ℕ). take size (drop place file) ++ l) (stretch_bytes file size f (n + 1) m (place + size) more)
     ∙ ap (λ (p : ℕ). bytes_at file p size ++ bytes_at_places file size (map f (range_with_len (n + 1) m))) (sym here)
 
--- some elements, and behind them a stretch
+-- some elements, and after them a stretch
 pub bytes_so_far : (file : List ℕ) (size : ℕ) (f : ℕ → ℕ) (first rest done more place : ℕ) → done + more ≤ rest → ((i : ℕ) → i < more → f (first + done + i) ≡ place + i * size)
     → bytes_at_places file size (take done (map f (range_with_len first rest))) ++ take (more * size) (drop place file)
     ≡ bytes_at_places file size (take (done + more) (map f (range_with_len first rest)))

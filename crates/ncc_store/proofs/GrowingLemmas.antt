@@ -1,4 +1,4 @@
--- What stands while bytes are put behind the old ones.
+-- What stands while bytes are put after the old ones.
 use Rattle.std.proofs.Common.{◌≡◌, ℕ, ◌≤◌, min, List, length, take, sym, ◌∙◌, ap, arith, length-take}
 use Rattle.std.proofs.lemmas.List.{take-take, take_all}
 use Rattle.ncc_store.specs.Store.{Unsynced, AfterWrite}

@@ -1,7 +1,10 @@
+pub mod Bytes
+pub mod DiskFile
 pub mod File
 pub mod Fuse
 pub mod Growing
 pub mod Log
+pub mod LogFile
 pub mod LogLaws
 pub mod Long
 pub mod Memory

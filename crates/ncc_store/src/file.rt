@@ -1,63 +1,102 @@
 //! A file of the system as a store.
 
-ghost use Rattle.std.specs.Prelude.{◌≡◌, ◌+◌, ◌<◌, ◌≤◌, ◌^◌, [], true, false, length, take, drop, IfOk, IfSome, IsErr, IsTrue, OnOk};
-ghost use Rattle.ncc_values.specs.Failures.{last_count, Counts};
+ghost use Rattle.std.specs.Prelude.{◌≡◌, ◌+◌, ◌<◌, ◌≤◌, ◌^◌, true, false, length, take, drop, IfOk, IsErr, IsTrue, OnOk, OnErr};
+ghost use Rattle.ncc_values.specs.Failures.{last_count, Counts, Rose};
+ghost use Rattle.ncc_store.specs.Store.{written, FrontWritten, AfterWrite, Only, KeepsImages, Elapses, Unmoved};
 
 use crate::device::{Device, fail};
+use crate::disk_file::DiskFile;
 use crate::store::Store;
 use crate::system_file::{SystemFile, write_whole};
-use std::fs::{File, OpenOptions};
+use std::fs::File;
 use std::rt::Files;
 
-/// A file. The store doesn't tell its bytes. Each fault of the system is a failure, and so is a read past
-/// the end, and a write where the file wasn't opened for writing. A write may be done in part where it fails.
+/// A file. The store tells what the file below tells; a file of the disk tells nothing. It is ready for writes and
+/// syncs where it was opened for writing, until one of them fails: each later one fails without a call of the system.
+/// Each fault of the system is a failure, and so is a read past the end. A write may be done in part where it fails.
 #[derive(Drop)]
-pub struct FileStore<F = File> {
+pub struct FileStore<F: SystemFile = DiskFile> {
     file: F,
-    writes: bool,
+    ready: bool,
     failures: u64,
     ghost counted: { failures ≤ last_count },
+    ghost sound: { ready ≡ true → F.sound file ≡ true },
 }
 
-impl FileStore<File> {
-    ghost use Rattle.ncc_store.specs.File.{file_writes, file_failures};
+/// A failure after which nothing is written or synced, counted.
+fn end(ready: &mut bool, failures: &mut u64) -> Device
+    ensures ended { ready.new ≡ false }
+    ensures rose { Rose failures.old failures.new }
+    ensures end { failures.new ≤ last_count }
+{
+    *ready = false;
+    fail(failures)
+}
 
-    /// Opens a file that is there, for reading and, where `write` says so, for writing. `Device` comes
-    /// where the system refuses it, and where it isn't a regular file.
+impl FileStore<DiskFile> {
+    ghost use Rattle.ncc_store.specs.DiskFile.{is_writable};
+    ghost use Rattle.ncc_store.specs.File.{file_of, file_ready, file_failures};
+
+    /// Opens a file that is there, for reading and, where `write` says so, for writing; then it has the file's lock.
+    /// `Device` comes where the system refuses it, where it is no regular file, and where another has the lock.
     pub fn open<R: Files<File = File>>(
         rt: &R,
         path: &str,
         write: bool,
-    ) -> Result<FileStore<File>, Device>
-        ensures writes { IfOk result (λ f. file_writes f ≡ write) }
+    ) -> Result<FileStore<DiskFile>, Device>
+        ensures ready { IfOk result (λ f. file_ready f ≡ write) }
+        ensures writable { IfOk result (λ f. is_writable (file_of f) ≡ write) }
         ensures count { IfOk result (λ f. file_failures f ≡ 0) }
     {
-        match OpenOptions::new().read(true).write(write).open(rt, path) {
-            Ok(file) if file.metadata().is_ok_and(|metadata| metadata.is_file()) => Ok(FileStore {
-                file,
-                writes: write,
-                failures: 0,
-            }),
-            _ => Err(Device),
+        let file = DiskFile::open(rt, path, write)?;
+        Ok(FileStore::over(file, write))
+    }
+}
+
+impl<F: SystemFile> FileStore<F> {
+    ghost use Rattle.ncc_store.specs.File.{file_of, file_ready, file_failures};
+
+    /// The store of an open file, ready for writes and syncs or not.
+    pub fn over(file: F, ready: bool) -> FileStore<F>
+        requires { ready ≡ true → F.sound file ≡ true }
+        ensures file { file_of result ≡ file }
+        ensures ready { file_ready result ≡ ready }
+        ensures count { file_failures result ≡ 0 }
+    {
+        FileStore {
+            file,
+            ready,
+            failures: 0,
         }
+    }
+
+    /// The file, with all that was done to it.
+    pub fn into_file(self) -> F
+        ensures { result ≡ file_of self }
+    {
+        let FileStore {
+            file,
+            ready: _,
+            failures: _,
+        } = self;
+        file
     }
 }
 
 impl<F: SystemFile> Store for FileStore<F> {
-    ghost use Rattle.ncc_store.specs.File.{file_of, file_writes, file_failures, PutsWhole};
-    ghost use Rattle.ncc_store.specs.StoreLaws.{untold};
+    ghost use Rattle.ncc_store.specs.File.{file_of, file_ready, file_failures};
 
-    ghost tells_bytes = { false };
+    ghost tells_bytes = { F.tells_bytes };
 
-    ghost tells_images = { false };
+    ghost tells_images = { F.tells_images };
 
-    ghost bytes = { λ f. [] };
+    ghost bytes = { λ f. F.bytes (file_of f) };
 
-    ghost images = { λ f c. ⊥ };
+    ghost images = { λ f. F.images (file_of f) };
 
-    ghost moment = { λ f. 0 };
+    ghost moment = { λ f. F.moment (file_of f) };
 
-    ghost images_since = { λ f t c. ⊥ };
+    ghost images_since = { λ f. F.images_since (file_of f) };
 
     ghost failures = { file_failures };
 
@@ -65,19 +104,23 @@ impl<F: SystemFile> Store for FileStore<F> {
 
     ghost reach = { λ f. 0 };
 
-    ghost stands = { λ f told. untold told };
+    ghost are_bytes = { λ f. F.are_bytes (file_of f) };
 
-    ghost counts_now = { λ f t c le now. now };
+    ghost stands = { λ f. F.stands (file_of f) };
 
-    ghost only_now = { λ f c left. left };
+    ghost counts_now = { λ f. F.counts_now (file_of f) };
+
+    ghost only_now = { λ f. F.only_now (file_of f) };
 
     ghost at_most_last = { λ f. f.counted };
 
     fn len(&mut self) -> Result<u64, Device>
-        ensures told { IfSome (F.bytes (file_of self.old)) (λ b. IfOk result (λ n. n ≡ length b)) }
-        ensures same { F.bytes (file_of self.new) ≡ F.bytes (file_of self.old) }
-        ensures writes { file_writes self.new ≡ file_writes self.old }
+        ensures told { IsTrue F.tells_bytes → IfOk result (λ n. n ≡ length (F.bytes (file_of self.old))) }
+        ensures unmoved { Unmoved F.bytes F.images F.moment F.images_since (file_of self.old) (file_of self.new) }
+        ensures kept { KeepsImages (F.images (file_of self.old)) (F.images (file_of self.new)) }
+        ensures ready { file_ready self.new ≡ file_ready self.old }
         ensures once { OnOk result (F.failed (file_of self.new) ≡ F.failed (file_of self.old)) }
+        ensures one_call { F.calls (file_of self.new) ≤ F.calls (file_of self.old) + 1 }
         ensures count { Counts (file_failures self.old) (file_failures self.new) result }
     {
         match self.file.size() {
@@ -87,11 +130,13 @@ impl<F: SystemFile> Store for FileStore<F> {
     }
 
     fn read_at(&mut self, place: u64, out: &mut [u8]) -> Result<(), Device>
-        ensures told { IfSome (F.bytes (file_of self.old))
-            (λ b. OnOk result (out.new ≡ take (length out.old) (drop place b))) }
-        ensures same { F.bytes (file_of self.new) ≡ F.bytes (file_of self.old) }
-        ensures writes { file_writes self.new ≡ file_writes self.old }
+        ensures told { IsTrue F.tells_bytes
+            → OnOk result (out.new ≡ take (length out.old) (drop place (F.bytes (file_of self.old)))) }
+        ensures unmoved { Unmoved F.bytes F.images F.moment F.images_since (file_of self.old) (file_of self.new) }
+        ensures kept { KeepsImages (F.images (file_of self.old)) (F.images (file_of self.new)) }
+        ensures ready { file_ready self.new ≡ file_ready self.old }
         ensures once { OnOk result (F.failed (file_of self.new) ≡ F.failed (file_of self.old)) }
+        ensures one_call { F.calls (file_of self.new) ≤ F.calls (file_of self.old) + 1 }
         ensures count { Counts (file_failures self.old) (file_failures self.new) result }
     {
         match self.file.fill(place, out) {
@@ -101,33 +146,50 @@ impl<F: SystemFile> Store for FileStore<F> {
     }
 
     fn write_at(&mut self, place: u64, piece: &[u8]) -> Result<(), Device>
-        requires { place + length piece.now < 2 ^ 63 }
-        ensures refused { file_writes self.old ≡ false → IsErr result }
-        ensures untouched { file_writes self.old ≡ false → file_of self.new ≡ file_of self.old }
-        ensures bytes { PutsWhole (F.bytes (file_of self.old)) (F.bytes (file_of self.new)) place piece.now result }
-        ensures writes { file_writes self.new ≡ file_writes self.old }
+        requires end { place + length piece.now < 2 ^ 63 }
+        requires begin { IsTrue F.tells_bytes → place ≤ length (F.bytes (file_of self.old)) }
+        ensures refused { file_ready self.old ≡ false → IsErr result }
+        ensures untouched { file_ready self.old ≡ false → file_of self.new ≡ file_of self.old }
+        ensures ok { IsTrue F.tells_bytes
+            → OnOk result (F.bytes (file_of self.new) ≡ written (F.bytes (file_of self.old)) place piece.now) }
+        ensures err { IsTrue F.tells_bytes → OnErr result
+            (FrontWritten (F.bytes (file_of self.old)) place piece.now (F.bytes (file_of self.new))) }
+        ensures images { Elapses F.images F.moment F.images_since (file_of self.old) (file_of self.new)
+            (AfterWrite place piece.now (F.images (file_of self.old))) }
+        ensures ended { OnErr result (file_ready self.new ≡ false) }
+        ensures ready { OnOk result (file_ready self.new ≡ true) }
         ensures once { OnOk result (F.failed (file_of self.new) ≡ F.failed (file_of self.old)) }
+        ensures one_call { length piece.now ≤ 8 → F.calls (file_of self.new) ≤ F.calls (file_of self.old) + 1 }
+        ensures calls { F.calls (file_of self.new) ≤ F.calls (file_of self.old) + length piece.now }
         ensures count { Counts (file_failures self.old) (file_failures self.new) result }
     {
-        if !self.writes {
+        if !self.ready {
             return Err(fail(&mut self.failures));
         }
         match write_whole(&mut self.file, place, piece) {
             Ok(()) => Ok(()),
-            Err(_) => Err(fail(&mut self.failures)),
+            Err(_) => Err(end(&mut self.ready, &mut self.failures)),
         }
     }
 
     fn sync(&mut self) -> Result<(), Device>
-        ensures durable { OnOk result (F.settled (file_of self.new)) }
-        ensures same { F.bytes (file_of self.new) ≡ F.bytes (file_of self.old) }
-        ensures writes { file_writes self.new ≡ file_writes self.old }
+        ensures durable { OnOk result (Only (F.bytes (file_of self.new)) (F.images (file_of self.new))) }
+        ensures unmoved { Unmoved F.bytes F.images F.moment F.images_since (file_of self.old) (file_of self.new) }
+        ensures kept { OnErr result (KeepsImages (F.images (file_of self.old)) (F.images (file_of self.new))) }
+        ensures refused { file_ready self.old ≡ false → IsErr result }
+        ensures untouched { file_ready self.old ≡ false → file_of self.new ≡ file_of self.old }
+        ensures ended { OnErr result (file_ready self.new ≡ false) }
+        ensures ready { OnOk result (file_ready self.new ≡ true) }
         ensures once { OnOk result (F.failed (file_of self.new) ≡ F.failed (file_of self.old)) }
+        ensures one_call { F.calls (file_of self.new) ≤ F.calls (file_of self.old) + 1 }
         ensures count { Counts (file_failures self.old) (file_failures self.new) result }
     {
+        if !self.ready {
+            return Err(fail(&mut self.failures));
+        }
         match self.file.settle() {
             Ok(()) => Ok(()),
-            Err(_) => Err(fail(&mut self.failures)),
+            Err(_) => Err(end(&mut self.ready, &mut self.failures)),
         }
     }
 }

@@ -101,6 +101,8 @@ impl<S: Store> Store for FuseStore<S> {
 
     ghost reach = { λ f. S.reach (fuse_inner f) };
 
+    ghost are_bytes = { λ f. S.are_bytes (fuse_inner f) };
+
     ghost stands = { λ f. S.stands (fuse_inner f) };
 
     ghost counts_now = { λ f. S.counts_now (fuse_inner f) };

@@ -2,10 +2,12 @@
 #![tactic(auto)]
 
 mod device;
+mod disk_file;
 mod file;
 mod fuse;
 pub mod laws;
 mod log;
+mod log_file;
 mod logging;
 mod long;
 mod memory;
@@ -14,9 +16,11 @@ mod store;
 mod system_file;
 
 pub use device::Device;
+pub use disk_file::DiskFile;
 pub use file::FileStore;
 pub use fuse::FuseStore;
 pub use log::{Call, LogStore};
+pub use log_file::LogFile;
 pub use long::LongStore;
 pub use memory::MemStore;
 pub use store::Store;

@@ -2,11 +2,13 @@
 
 ghost use Rattle.std.specs.Prelude.{◌≡◌, ◌+◌, ◌-◌, ◌<◌, ◌≤◌, ◌^◌, [], ◌∷◌, ◌++◌, true, List, ℕ, length, take, drop, reverse, Ok, OnOk, OnErr};
 ghost use Rattle.ncc_values.specs.Failures.{last_count, Counts};
+ghost use Rattle.ncc_store.specs.Bytes.{AreBytes};
 ghost use Rattle.ncc_store.specs.Store.{written, FrontWritten, AfterWrite, Only, KeepsImages, Elapses, Unmoved};
 ghost use Rattle.ncc_store.specs.declared.log.Call.TheVariants.{Sync};
 
 use crate::device::{Device, fail};
 use crate::logging::{sync_logged, write_logged};
+use crate::putting::are_bytes;
 use crate::store::Store;
 use std::alloc::Global;
 
@@ -28,6 +30,7 @@ pub struct LogStore {
     replaced: Vec<Vec<u8>>,
     failures: u64,
     ghost counted: { failures ≤ last_count },
+    ghost bytes_in: { AreBytes bytes.items },
 }
 
 impl LogStore {
@@ -40,6 +43,7 @@ impl LogStore {
         ensures count { log_failures result ≡ 0 }
         ensures settled { Only (⟦<LogStore as Store>⟧.bytes result) (⟦<LogStore as Store>⟧.images result) }
     {
+        are_bytes(bytes.as_slice());
         LogStore {
             alloc,
             bytes,
@@ -73,6 +77,7 @@ impl LogStore {
 
 impl Store for LogStore {
     ghost use Rattle.ncc_store.specs.Log.{log_bytes, log_calls, log_replaced, log_failures, log_images, log_moment, log_images_since, LogsWrite, HoldsSame};
+    ghost use Rattle.ncc_values.specs.BigEndian.{bytes-by_index};
     ghost use Rattle.ncc_store.specs.LogLaws.{images_stand, back_now, back_only};
 
     ghost tells_bytes = { true };
@@ -92,6 +97,8 @@ impl Store for LogStore {
     ghost calls = { λ s. 0 };
 
     ghost reach = { λ s. 0 };
+
+    ghost are_bytes = { λ s told. bytes-by_index _ s.bytes_in };
 
     ghost stands = { λ s told. images_stand (reverse (log_calls s)) (reverse (log_replaced s)) (log_bytes s) };
 

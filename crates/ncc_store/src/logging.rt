@@ -1,6 +1,7 @@
 //! The log of a store: what was called, and what each write replaced.
 
 ghost use Rattle.std.specs.Prelude.{◌≡◌, ◌≤◌, [], ◌∷◌, ◌++◌, length, take, drop, IfOk, OnOk, OnErr};
+ghost use Rattle.ncc_store.specs.Bytes.{AreBytes};
 ghost use Rattle.ncc_store.specs.Store.{written};
 ghost use Rattle.ncc_store.specs.Log.{LogsWrite};
 ghost use Rattle.ncc_store.specs.declared.log.Call.TheVariants.{Sync};
@@ -55,6 +56,7 @@ pub(crate) fn write_logged(
     ensures written { OnOk result (bytes.new.items ≡ written bytes.old.items place piece.now) }
     ensures logged { OnOk result (LogsWrite place piece.now (take (length piece.now) (drop place bytes.old.items))
         calls.old.items calls.new.items replaced.old.items replaced.new.items) }
+    ensures are_bytes { AreBytes bytes.old.items → AreBytes bytes.new.items }
     ensures same_bytes { OnErr result (bytes.new.items ≡ bytes.old.items) }
     ensures same_calls { OnErr result (calls.new.items ≡ calls.old.items) }
     ensures same_replaced { OnErr result (replaced.new.items ≡ replaced.old.items) }

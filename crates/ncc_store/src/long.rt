@@ -78,6 +78,8 @@ impl Store for LongStore {
 
     ghost reach = { λ s. 0 };
 
+    ghost are_bytes = { λ s told. untold told };
+
     ghost stands = { λ s told. untold told };
 
     ghost counts_now = { λ s t c le now. now };

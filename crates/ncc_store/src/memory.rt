@@ -2,10 +2,11 @@
 
 ghost use Rattle.std.specs.Prelude.{◌≡◌, ◌+◌, ◌<◌, ◌≤◌, ◌^◌, true, false, length, take, drop, Ok, IsOk, OnOk, OnErr};
 ghost use Rattle.ncc_values.specs.Failures.{last_count, Counts};
+ghost use Rattle.ncc_store.specs.Bytes.{AreBytes};
 ghost use Rattle.ncc_store.specs.Store.{written, FrontWritten};
 
 use crate::device::{Device, fail};
-use crate::putting::put;
+use crate::putting::{are_bytes, put};
 use crate::store::Store;
 
 /// Bytes in memory. It tells them, and no images. Only a write past the end can fail, where it
@@ -15,6 +16,7 @@ pub struct MemStore {
     bytes: Vec<u8>,
     failures: u64,
     ghost counted: { failures ≤ last_count },
+    ghost bytes_in: { AreBytes bytes.items },
 }
 
 impl MemStore {
@@ -25,6 +27,7 @@ impl MemStore {
         ensures bytes { memory_bytes result ≡ bytes.items }
         ensures count { memory_failures result ≡ 0 }
     {
+        are_bytes(bytes.as_slice());
         MemStore { bytes, failures: 0 }
     }
 
@@ -40,6 +43,7 @@ impl MemStore {
 impl Store for MemStore {
     ghost use Rattle.ncc_store.specs.Memory.{memory_bytes, memory_failures};
     ghost use Rattle.ncc_store.specs.StoreLaws.{untold};
+    ghost use Rattle.ncc_values.specs.BigEndian.{bytes-by_index};
 
     ghost tells_bytes = { true };
 
@@ -58,6 +62,8 @@ impl Store for MemStore {
     ghost calls = { λ m. 0 };
 
     ghost reach = { λ m. 0 };
+
+    ghost are_bytes = { λ m told. bytes-by_index _ m.bytes_in };
 
     ghost stands = { λ m told. untold told };
 

@@ -2,6 +2,7 @@
 
 ghost use Rattle.std.specs.Prelude.{◌≡◌, ◌+◌, ◌<◌, ◌≤◌, ◌^◌, Bool, List, ℕ, max, length, take, drop, IsTrue, IfOk, OnOk, OnErr};
 ghost use Rattle.ncc_values.specs.Failures.{last_count, Counts};
+ghost use Rattle.ncc_values.specs.Numbers.{IsBytes};
 ghost use Rattle.ncc_store.specs.Store.{written, FrontWritten, AfterWrite, Only, KeepsImages, Elapses, Unmoved};
 
 use crate::device::Device;
@@ -15,7 +16,7 @@ use crate::device::Device;
 /// | `LogStore` | yes | yes | where it finds no memory to grow, or for its log |
 /// | `FuseStore<S>` | as `S` | as `S` | as `S` does, and after so many calls |
 /// | `LongStore` | no | no | past its end, and at each write and sync |
-/// | `FileStore` | no | no | where the system does, past the end, and at a write if opened for reading |
+/// | `FileStore<F>` | as `F`, over a file of the disk no | as `F` | as the file does, and once it isn't ready at each write and sync |
 pub trait Store {
     /// Whether it tells its bytes. Where it doesn't, nothing is said of them.
     ghost tells_bytes: { Bool };
@@ -86,6 +87,9 @@ pub trait Store {
         ensures count { Counts (failures self.old) (failures self.new) result }
         ensures calls { calls self.new ≤ calls self.old + 1 }
         ensures reach { reach self.new ≤ reach self.old };
+
+    /// What it tells are bytes.
+    ghost are_bytes: { (store : Self) → IsTrue tells_bytes → IsBytes (bytes store) };
 
     /// The bytes are one of the images.
     ghost stands: { (store : Self) → IsTrue tells_images → images store (bytes store) };

@@ -1,57 +1,123 @@
 //! What a store asks of a file of the system, call by call.
 
-ghost use Rattle.std.specs.Prelude.{◌≡◌, ◌+◌, ◌<◌, ◌^◌, List, ℕ, Option, None, length, take, drop, IfOk, IfSome, OnOk};
-ghost use Rattle.ncc_store.specs.File.{PutsSome, PutsWhole};
+ghost use Rattle.std.specs.Prelude.{◌≡◌, ◌+◌, ◌<◌, ◌≤◌, ◌^◌, [], true, false, Bool, List, ℕ, length, take, drop, IsTrue, IfOk, OnOk, OnErr};
+ghost use Rattle.ncc_values.specs.Numbers.{IsBytes};
+ghost use Rattle.ncc_store.specs.Store.{written, FrontWritten, AfterWrite, Only, KeepsImages, Elapses, Unmoved};
 
 use crate::device::Device;
-use std::fs::File;
-use std::io::ErrorKind;
-use std::os::unix::fs::FileExt;
 
-/// An open file. A call that fails answers `Device`. The file of the system tells nothing.
+/// The length of a piece, in bytes, that goes out by one call of the system.
+pub(crate) const WHOLE: usize = 8;
+
+/// An open file, by calls of the system. A call that fails answers `Device`. It is written and settled only where it
+/// may be, and not after a write or a `settle` that failed.
 pub trait SystemFile {
-    /// Its bytes, where it tells them.
-    ghost bytes: { Self → Option (List ℕ) };
+    /// Whether it tells its bytes.
+    ghost tells_bytes: { Bool };
 
-    /// Nothing is pending.
-    ghost settled: { Self → Type 0 };
+    /// Whether it tells what a stop may leave.
+    ghost tells_images: { Bool };
+
+    ghost bytes: { Self → List ℕ };
+
+    /// What a stop at this moment may leave.
+    ghost images: { Self → List ℕ → Type 0 };
+
+    /// The moment, as a number that doesn't fall.
+    ghost moment: { Self → ℕ };
+
+    /// What a stop at some moment from that one on might have left.
+    ghost images_since: { Self → ℕ → List ℕ → Type 0 };
+
+    /// It may be written: no write and no `settle` failed.
+    ghost sound: { Self → Bool };
 
     /// The calls that failed, where it tells them. A call that succeeds adds none.
     ghost failed: { Self → ℕ };
 
+    /// A number that grows by at most one at each call.
+    ghost calls: { Self → ℕ };
+
     /// The number of bytes.
     fn size(&mut self) -> Result<u64, Device>
+        ensures told { IsTrue tells_bytes → IfOk result (λ n. n ≡ length (bytes self.old)) }
+        ensures unmoved { Unmoved bytes images moment images_since self.old self.new }
+        ensures kept { KeepsImages (images self.old) (images self.new) }
+        ensures sound { sound self.old ≡ true → sound self.new ≡ true }
         ensures once { OnOk result (failed self.new ≡ failed self.old) }
-        ensures told { IfSome (bytes self.old) (λ b. IfOk result (λ n. n ≡ length b)) }
-        ensures same { bytes self.new ≡ bytes self.old };
+        ensures calls { calls self.new ≤ calls self.old + 1 };
 
     /// Fills `out` with the bytes from `place` on.
     fn fill(&mut self, place: u64, out: &mut [u8]) -> Result<(), Device>
+        ensures told { IsTrue tells_bytes
+            → OnOk result (out.new ≡ take (length out.old) (drop place (bytes self.old))) }
+        ensures unmoved { Unmoved bytes images moment images_since self.old self.new }
+        ensures kept { KeepsImages (images self.old) (images self.new) }
+        ensures sound { sound self.old ≡ true → sound self.new ≡ true }
         ensures once { OnOk result (failed self.new ≡ failed self.old) }
-        ensures told { IfSome (bytes self.old) (λ b. OnOk result (out.new ≡ take (length out.old) (drop place b))) }
-        ensures same { bytes self.new ≡ bytes self.old };
+        ensures calls { calls self.new ≤ calls self.old + 1 };
 
-    /// Writes a front of the piece, at least one byte where there is one, and answers how many.
+    /// Writes a front of the piece, at least one byte where there is one, and answers how many. Of at most 8
+    /// bytes it writes all, or it fails. After an `Err` a front is written, and of at most 8 bytes all or nothing.
     fn write_some(&mut self, place: u64, piece: &[u8]) -> Result<usize, Device>
-        ensures puts { PutsSome (bytes self.old) (bytes self.new) place piece.now result }
-        ensures once { OnOk result (failed self.new ≡ failed self.old) };
+        requires end { place + length piece.now < 2 ^ 63 }
+        requires begin { IsTrue tells_bytes → place ≤ length (bytes self.old) }
+        requires sound { sound self.old ≡ true }
+        ensures some { IfOk result (λ n. (n ≤ length piece.now) × (0 < length piece.now → 0 < n)) }
+        ensures short { length piece.now ≤ 8 → IfOk result (λ n. n ≡ length piece.now) }
+        ensures ok { IsTrue tells_bytes
+            → IfOk result (λ n. bytes self.new ≡ written (bytes self.old) place (take n piece.now)) }
+        ensures err { IsTrue tells_bytes
+            → OnErr result (FrontWritten (bytes self.old) place piece.now (bytes self.new)) }
+        ensures images { Elapses images moment images_since self.old self.new
+            (AfterWrite place piece.now (images self.old)) }
+        ensures sound { OnOk result (sound self.new ≡ true) }
+        ensures ended { OnErr result (sound self.new ≡ false) }
+        ensures once { OnOk result (failed self.new ≡ failed self.old) }
+        ensures calls { calls self.new ≤ calls self.old + 1 };
 
     /// Leaves nothing pending.
     fn settle(&mut self) -> Result<(), Device>
+        requires { sound self.old ≡ true }
+        ensures durable { OnOk result (Only (bytes self.new) (images self.new)) }
+        ensures unmoved { Unmoved bytes images moment images_since self.old self.new }
+        ensures kept { OnErr result (KeepsImages (images self.old) (images self.new)) }
+        ensures sound { OnOk result (sound self.new ≡ true) }
+        ensures ended { OnErr result (sound self.new ≡ false) }
         ensures once { OnOk result (failed self.new ≡ failed self.old) }
-        ensures settled { OnOk result (settled self.new) }
-        ensures same { bytes self.new ≡ bytes self.old };
+        ensures calls { calls self.new ≤ calls self.old + 1 };
+
+    /// What it tells are bytes.
+    ghost are_bytes: { (file : Self) → IsTrue tells_bytes → IsBytes (bytes file) };
+
+    /// The bytes are one of the images.
+    ghost stands: { (file : Self) → IsTrue tells_images → images file (bytes file) };
+
+    /// This moment is one of those since an earlier one.
+    ghost counts_now: { (file : Self) (t : ℕ) (c : List ℕ) → t ≤ moment file → images file c → images_since file t c };
+
+    /// Since this moment there is no other.
+    ghost only_now: { (file : Self) (c : List ℕ) → images_since file (moment file) c → images file c };
 }
 
-/// Writes the whole piece, by as many writes as it takes.
+/// Writes the whole piece, by as many writes as it takes: by one, where it has at most 8 bytes.
 pub(crate) fn write_whole<F: SystemFile>(
     file: &mut F,
     place: u64,
     piece: &[u8],
 ) -> Result<(), Device>
-    requires { place + length piece.now < 2 ^ 63 }
-    ensures puts { PutsWhole (F.bytes file.old) (F.bytes file.new) place piece.now result }
+    requires end { place + length piece.now < 2 ^ 63 }
+    requires begin { IsTrue F.tells_bytes → place ≤ length (F.bytes file.old) }
+    requires sound { F.sound file.old ≡ true }
+    ensures ok { IsTrue F.tells_bytes → OnOk result (F.bytes file.new ≡ written (F.bytes file.old) place piece.now) }
+    ensures err { IsTrue F.tells_bytes
+        → OnErr result (FrontWritten (F.bytes file.old) place piece.now (F.bytes file.new)) }
+    ensures images { Elapses F.images F.moment F.images_since file.old file.new
+        (AfterWrite place piece.now (F.images file.old)) }
+    ensures sound { OnOk result (F.sound file.new ≡ true) }
     ensures once { OnOk result (F.failed file.new ≡ F.failed file.old) }
+    ensures one_call { length piece.now ≤ 8 → F.calls file.new ≤ F.calls file.old + 1 }
+    ensures calls { F.calls file.new ≤ F.calls file.old + length piece.now }
 {
     let mut at = place;
     let mut rest = piece;
@@ -62,52 +128,4 @@ pub(crate) fn write_whole<F: SystemFile>(
         rest = after;
     }
     Ok(())
-}
-
-impl SystemFile for File {
-    ghost bytes = { λ f. None };
-
-    ghost settled = { λ f. Unit {0} };
-
-    ghost failed = { λ f. 0 };
-
-    fn size(&mut self) -> Result<u64, Device> {
-        match self.metadata() {
-            Ok(metadata) => Ok(metadata.len()),
-            Err(_) => Err(Device),
-        }
-    }
-
-    /// The system lets nothing be read anywhere, also past the end, so an empty read asks for the length.
-    fn fill(&mut self, place: u64, out: &mut [u8]) -> Result<(), Device> {
-        if out.is_empty() {
-            return if place <= self.size()? {
-                Ok(())
-            } else {
-                Err(Device)
-            };
-        }
-        match self.read_exact_at(out, place) {
-            Ok(()) => Ok(()),
-            Err(_) => Err(Device),
-        }
-    }
-
-    fn write_some(&mut self, place: u64, piece: &[u8]) -> Result<usize, Device> {
-        for _ in 0..u64::MAX {
-            match self.write_at(piece, place) {
-                Ok(n) if n > 0 || piece.is_empty() => return Ok(n),
-                Err(error) if error.kind() == ErrorKind::Interrupted => {}
-                _ => return Err(Device),
-            }
-        }
-        Err(Device)
-    }
-
-    fn settle(&mut self) -> Result<(), Device> {
-        match self.sync_all() {
-            Ok(()) => Ok(()),
-            Err(_) => Err(Device),
-        }
-    }
 }

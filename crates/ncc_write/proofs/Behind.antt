@@ -49,7 +49,7 @@ none_empty s sound =
     (all_filter (HasBytes s) (λ b. not (is_record_var s.dims b.var)) (slabs_from 0 0 s.vars)
     (all_from s s.version 0 0 s.vars sound.vars)) (all_records s 0 (known s.count) sound)
 
--- ---- each slab with those behind it
+-- ---- each slab with those after it
 
 abbrev pub Tails : (Slab → List Slab → Type 0) → List Slab → Type 0
 Tails P [] = Unit {0}

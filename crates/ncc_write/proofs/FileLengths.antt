@@ -30,7 +30,7 @@ pub length_header : (s : Schema) → length (header_of s) ≡ header_length s
 length_header s = length-canon s (standard_places s) (length-standard_from s 0 s.vars)
     ∙ sym (length-canon s (unplaced s.vars) (length-map s.vars (λ x. no_place)))
 
--- ---- slabs one behind the other
+-- ---- slabs one after the other
 
 pub length_whole : (s : Schema) (x : Var) (values : Values) → length (bytes_of values) ≡ slab s.dims x
     → length (with_padding s (x, values)) ≡ whole_size s x

@@ -83,7 +83,7 @@ fills_bytes (suc n) x = both_bytes (fill_bytes x) (fills n x) (bytes_by_attr x.x
 
 -- ---- one slab
 
--- nothing is filled in behind bytes that are there
+-- nothing is filled in after bytes that are there
 none_left : (t : XType) (size m : ℕ) → size ≤ m → (size - m) / size_of t ≡ 0
 none_left t size m enough =
     let none : size - m ≡ 0 = omega (arith, enough) in

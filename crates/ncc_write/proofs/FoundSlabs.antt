@@ -50,7 +50,7 @@ slab_stands s bytes x at are room =
 
 -- ---- those of one kind
 
--- each so many bytes behind its variable's begin
+-- each so many bytes after its variable's begin
 abbrev pub slabs_at : (kind : Var → Bool) → List Dim → (bytes : List ℕ) → (further : ℕ) → List Var → List Place
     → List Values
 slabs_at kind dims bytes further (x ∷ vars) (p ∷ places) =

@@ -39,7 +39,7 @@ use Rattle.ncc_write.proofs.Positions.{HaveElements, has_elements, moves_on, nex
 abbrev pub Holds : (start put : Option (List ℕ)) → (waits bytes : List ℕ) → Type 0
 Holds start put waits bytes = Went start put (λ out. out ++ waits ≡ bytes)
 
--- more bytes go behind them
+-- more bytes go after them
 pub holds_more : (start old new : Option (List ℕ)) (waits waiting bytes more : List ℕ) → Holds start old waits bytes → Streams old new waits waiting more (Ok tt) → Holds start new waiting (bytes ++ more)
 holds_more start old new waits waiting bytes more h s = (
   h.0 ++ s.0,
@@ -87,7 +87,7 @@ at_next s t c taken k next same built course less end is =
     let there : k + 1 < c.slabs = omega (arith, h, planned.slabs) in
     is there ∙ ap (λ (u : Turn). u.elements) (turn_is t c planned (k + 1) there))
 
--- ---- behind the exit of a `?`
+-- ---- after the exit of a `?`
 
 pub stops_at : {W : Type 0} (Q : Failed → Type 0) (start put : Option (List ℕ)) (x : FileWriter W) (w : Standing) (r : Result (Unit {0}) Failed) → IsErrAnd r Q → Stops start put x w → StandsOrStops start put x w r
 stops_at Q start put x w r exit stops =

@@ -190,7 +190,7 @@ module _ (s : Schema) (b : Slab) (slabs : List Slab) (taken bytes : List ℕ) (k
     next_is = first_next room;
   }
 
--- behind a slab that is full
+-- after a slab that is full
 module _ (s : Schema) (b : Slab) (slabs : List Slab) (taken bytes : List ℕ) (k : ℕ) (n : Next)
     (enough : slab s.dims b.var ≤ length taken) where
   abbrev size : ℕ

@@ -1,4 +1,4 @@
--- A file with one record more holds the dataset with it.
+-- A file with one more record holds the dataset with it.
 use Rattle.std.proofs.Common.{◌≡◌, ◌⊎◌, ℕ, zero, suc, ◌+◌, ◌*◌, ◌<◌, ◌≤◌, inl, inr, ⊎_elim, Bool, true, false, List, [], ◌∷◌, ◌++◌, length, take, get_or, refl, sym, ap, subst, ◌∙◌, arith}
 use Rattle.std.specs.Prelude.{if◌then◌else◌}
 use Rattle.std.proofs.lemmas.List.{take_at}
@@ -46,7 +46,7 @@ below_or_last (suc r) (suc k) le = ⊎_elim (λ less. inl (omega (arith, less)))
 
 -- ---- one variable
 
--- the bytes of each old element are as before, and the record's stand behind the old records
+-- the bytes of each old element are as before, and the record's stand after the old records
 pub record Grows (d : Dataset) (places : List Place) (old new : List ℕ) (begin : ℕ) (slabs : List Values) : Type 0 where
   pub same : (n : ℕ) (index : List ℕ) → n < length d.schema.vars → Inside (var_at (vars_of d places) n).shape index
       → stored_at new (record_size_of d.schema) (var_at (vars_of d places) n) index

@@ -1,5 +1,5 @@
 -- A file that holds a dataset, with some records of fill values more, and one more.
-use Rattle.std.proofs.Common.{◌≡◌, inl, inr, ℕ, zero, suc, ◌+◌, ◌<◌, List, [], ◌∷◌, length, sym, ap, subst, ◌∙◌, arith}
+use Rattle.std.proofs.Common.{◌≡◌, ◌⊎◌, inl, inr, ⊎_elim, ℕ, zero, suc, ◌+◌, ◌<◌, List, [], ◌∷◌, length, sym, ap, subst, ◌∙◌, arith}
 use Rattle.ncc_values.specs.declared.values.Values.{Values}
 use Rattle.ncc_schema.specs.declared.schema.Schema.{Schema}
 use Rattle.ncc_schema.specs.Schema.{Place, Sound}
@@ -23,6 +23,26 @@ pub at_start : {S : Type 0} (bytes : S → List ℕ) (images : S → List ℕ �
     → LeavesOnly moment images_since old old P
 at_start bytes images moment images_since old P now only p =
     started moment images_since old P (λ c left. subst P (sym (only c (now c left))) p)
+
+-- whatever is pending: what a stop might have left before, or P
+pub from_what_was : {S : Type 0} (images : S → List ℕ → Type 0) (moment : S → ℕ) (images_since : S → ℕ → List ℕ → Type 0)
+    (old : S) (P : List ℕ → Type 0) → ((c : List ℕ) → images_since old (moment old) c → images old c)
+    → LeavesOnly moment images_since old old (λ c. images old c ⊎ P c)
+from_what_was images moment images_since old P now =
+    started moment images_since old (λ c. images old c ⊎ P c) (λ c left. inl (now c left))
+
+-- where nothing was pending that is P alone
+pub only_what_follows : {S : Type 0} (bytes : S → List ℕ) (images : S → List ℕ → Type 0) (moment : S → ℕ)
+    (images_since : S → ℕ → List ℕ → Type 0) (old new : S) (P : List ℕ → Type 0) → Only (bytes old) (images old)
+    → P (bytes old) → LeavesOnly moment images_since old new (λ c. images old c ⊎ P c)
+    → LeavesOnly moment images_since old new P
+only_what_follows bytes images moment images_since old new P only p run =
+    let less : (c : List ℕ) → images old c ⊎ P c → P c = λ c either. ⊎_elim (λ was. subst P (sym (only c was)) p) (λ q. q) either in
+    record {
+      later = run.later;
+      each = λ c left. less c (run.each c left);
+      before = λ t c le left. ⊎_elim (λ was. inl was) (λ either. inr (less c either)) (run.before t c le left);
+    }
 
 -- ---- the laws of adding
 

@@ -175,7 +175,7 @@ module _ (s : Schema) (p : Placed) (k : ℕ) (t : Schema) (q : Placed) (has : Ha
   pub room_more : CanGrow s p → TakesRecord t q → TakesRecords s p (suc k)
   room_more can takes = (can, λ full. takes.room (full_then full))
 
-  -- ---- nothing is missing behind a record that was added
+  -- ---- nothing is missing after a record that was added
 
   reached : (k : ℕ) → 0 < k → record_at p (records_of_file p + k) ≤ length_with p k
   reached zero some = absurd (omega (arith, some))
@@ -248,7 +248,7 @@ pub extended_so : (failed : Bool) (s : Schema) (p : Placed) (n : ℕ) (e : Appen
 extended_so failed s p zero e some refused = absurd (omega (arith, some))
 extended_so failed s p (suc n) e some refused = refused
 
--- the first takes five calls at most, and each behind it four
+-- the first takes five calls at most, and each after it four
 pub calls_so : (k start now next : ℕ) → (k ≡ 0 → now ≤ start) → now ≤ start + 4 * k + 1 → next ≤ now + 5
     → (0 < k → next ≤ now + 4) → next ≤ start + 4 * k + 5
 calls_so zero start now next none so five four = omega (arith, none refl, five)

@@ -45,7 +45,7 @@ module _ (file : List ℕ) (places : List Place) (s : Schema) (cf df : List Valu
       → value_at c (var_at vars n) n index ≡ value_at d (var_at vars n) n index
   both_hold n index below inside = sym (c_holds n index below inside) ∙ d_holds n index below inside
 
-  -- of the variable x behind those of front
+  -- of the variable x after those of front
   module _ (front : List Var) (x : Var) (after : List Var) (joined : s.vars ≡ front ++ x ∷ after) where
     abbrev n : ℕ
     n = length front

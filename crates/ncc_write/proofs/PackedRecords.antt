@@ -51,7 +51,7 @@ packed_rest false e es b packed =
     let same : b ≡ b + 0 = omega arith in
     subst (λ (n : ℕ). PackedFrom n es) same packed
 
--- a record variable of packed ones begins behind those before it
+-- a record variable of packed ones begins after those before it
 pub packed_begin : (dims : List Dim) (m b : ℕ) (front : List Var) (x : Var) (after : List Var) (qs : List Place)
     (q : Place) (later : List Place) → length front ≡ length qs → is_record_var dims x ≡ true
     → PackedFrom b (records_of (extents_from dims m (front ++ x ∷ after) (qs ++ q ∷ later)))

@@ -108,7 +108,7 @@ bytes_more s vars rest x slabs later v old new all vars_are slabs_are so_far mor
 
 -- ---- judging
 
--- slabs behind the last
+-- slabs after the last
 pub wrong_past : (dims : List Dim) (vars : List Var) (slabs : List Values) (n : ℕ) → vars ≡ [] → n < length slabs
     → wrong_from dims n vars (drop n slabs) ≡ Some n
 wrong_past dims vars slabs n none there =

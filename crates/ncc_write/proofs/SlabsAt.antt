@@ -1,4 +1,4 @@
--- The slabs of a schema in writing order, by the variables before and behind their own; and a dataset's values of them.
+-- The slabs of a schema in writing order, by the variables before and after their own; and a dataset's values of them.
 use Rattle.std.proofs.Common.{◌≡◌, ◌⊎◌, inl, inr, ℕ, zero, suc, ◌+◌, ◌<◌, ◌≤◌, Bool, true, false, cond, not, List, [], ◌∷◌, ◌++◌, length, take, get_or, refl, sym, ap, subst, ◌∙◌, arith, append_assoc, length-append}
 use Rattle.std.specs.Prelude.{filter}
 use Rattle.std.specs.List.{AllByRecursion, AllZip, flat_map, range_with_len}
@@ -18,7 +18,7 @@ use Rattle.ncc_write.proofs.SlabPlaces.{fixed_placed, record_placed}
 
 -- ---- where a slab is
 
--- its variable behind those of front; a fixed variable has a slab in record 0 alone
+-- its variable after those of front; a fixed variable has a slab in record 0 alone
 pub record IsAmong (s : Schema) (b : Slab) : Type 0 where
   pub front : List Var
   pub after : List Var
@@ -66,7 +66,7 @@ filter_behind kind front x t is = ap length (filter-append kind front (x ∷ [])
     ∙ length-append (filter kind front) (filter kind (x ∷ []))
     ∙ ap (λ (b : Bool). length (filter kind front) + length (cond b (x ∷ []) [])) is
 
--- values of the slabs of these variables, behind those of front
+-- values of the slabs of these variables, after those of front
 abbrev AllBehind : (all : List Var) (kind : Var → Bool) (P : Slab → Values → Type 0) (r : ℕ) (given : List Values)
     → (front vars : List Var) → Type 0
 AllBehind all kind P r given front vars = (values : List Values) → length values ≡ length (filter kind vars)

@@ -1,4 +1,4 @@
--- Bytes on their way to a sink, one piece behind the other.
+-- Bytes on their way to a sink, one piece after the other.
 use Rattle.std.proofs.Common.{◌≡◌, ℕ, ◌+◌, ◌-◌, ◌*◌, ◌≤◌, replicate, List, [], ◌++◌, length, take, drop, Option, Result, Ok, Err, sym, ap, subst, ◌∙◌, append_assoc, arith}
 use Rattle.std.proofs.lemmas.List.{append-nil, length-drop, take_all, take-append-drop}
 use Rattle.std.proofs.lemmas.List.Edits.{take-paste}
@@ -14,7 +14,7 @@ use Rattle.ncc_schema.proofs.Writing.{puts_both, puts_none}
 use Rattle.ncc_write.specs.Streams.{Streams}
 use Rattle.ncc_write.proofs.ManyFills.{fills_join}
 
--- one piece, and behind it the next
+-- one piece, and after it the next
 pub streams_both : (old mid new : Option (List ℕ)) (waits between waiting a b : List ℕ) (r : Result (Unit {0}) Failed) → Streams old mid waits between a (Ok tt) → Streams mid new between waiting b r
     → Streams old new waits waiting (a ++ b) r
 streams_both old mid new waits between waiting a b (Ok x) one two = (
@@ -33,12 +33,12 @@ streams_both old mid new waits between waiting a b (Err e) one two = (
 pub streams_none : (old : Option (List ℕ)) (waits : List ℕ) → Streams old old waits waits [] (Ok tt)
 streams_none old waits = ([], puts_none old, append-nil waits)
 
--- a piece that failed fails with whatever would come behind it
+-- a piece that failed fails with whatever would come after it
 pub stream_fails : (old new : Option (List ℕ)) (waits waiting other a b : List ℕ) (e : Failed) → Streams old new waits waiting a (Err e) → Streams old new waits other (a ++ b) (Err e)
 stream_fails old new waits waiting other a b e s =
     (s.0, s.1 ++ b, s.2, sym (append_assoc waits a b) ∙ ap (λ (l : List ℕ). l ++ b) s.3 ∙ append_assoc s.0 s.1 b)
 
--- behind the exit of a `?`
+-- after the exit of a `?`
 pub stream_fails_at : (Q : Failed → Type 0) (old new : Option (List ℕ)) (waits waiting other a b : List ℕ) (r : Result (Unit {0}) Failed) (e : Failed) → IsErrAnd r Q → Streams old new waits waiting a (Err e)
     → Streams old new waits other (a ++ b) r
 stream_fails_at Q old new waits waiting other a b r e exit s =
@@ -68,7 +68,7 @@ bytes_fail_at Q old mid new waits between waiting bytes m n r e exit one two =
 
 -- ---- values, part after part
 
--- the first m values went, and behind them n more
+-- the first m values went, and after them n more
 pub next_part : (old mid new : Option (List ℕ)) (waits between waiting bytes : List ℕ) (m n size : ℕ) → Streams old mid waits between (take (m * size) bytes) (Ok tt)
     → Streams mid new between waiting (take (n * size) (drop (m * size) bytes)) (Ok tt) → Streams old new waits waiting (take ((m + n) * size) bytes) (Ok tt)
 next_part old mid new waits between waiting bytes m n size one two =

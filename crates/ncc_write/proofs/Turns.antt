@@ -31,7 +31,7 @@ numbered_behind n (x ∷ es) e h (inr there) = omega (arith, numbered_behind (su
 abbrev Turn : Extent → Extent → Type 0
 Turn d e = d.begin ≤ e.begin
 
--- by recursion: the first begins no later than each behind it
+-- by recursion: the first begins no later than each after it
 abbrev Turns : List Extent → Type 0
 Turns [] = Unit {0}
 Turns (x ∷ es) = ((e : Extent) → In es e → x.begin ≤ e.begin) × Turns es

@@ -48,8 +48,9 @@ fn add_one<S: Store>(file: &mut NcFile<S>, image: &[u8]) -> Result<(), AppendErr
     file.append_image(image)
 }
 
-/// Adds so many records of fill values, one append each, so that those added before an error stand. With none to add
-/// nothing is done. It is refused as `append` is: CountFull as soon as there is no room for the next record.
+/// Adds so many records of fill values, one append each, so that those added before an error stand. Before the first
+/// of them what may be pending is brought to the disk. With none to add nothing is done. It is refused as `append` is:
+/// CountFull as soon as there is no room for the next record.
 pub fn extend<S: Store>(alloc: Global, file: &mut NcFile<S>, more: u64) -> Result<(), AppendError>
     ensures answer { ExtendsAs (must_reopen file.old) (schema_of file.old) (placed_of file.old) more result }
     ensures added { OnOk result (HasRecords (schema_of file.old) (placed_of file.old) more
@@ -84,13 +85,17 @@ pub fn extend<S: Store>(alloc: Global, file: &mut NcFile<S>, more: u64) -> Resul
         → Contains (S.bytes (store_of file.old)) limit places d (schema_of file.old) (placed_of file.old)
         → LeavesOnly S.moment S.images_since (store_of file.old) (store_of file.new)
         (λ c. ∥ HoldsSome c limit places d more ∥₁) }
+    ensures whatever_was_pending { IsTrue S.tells_bytes → (limit : ℕ) (places : List Place) (d : Dataset)
+        → Contains (S.bytes (store_of file.old)) limit places d (schema_of file.old) (placed_of file.old)
+        → LeavesOnly S.moment S.images_since (store_of file.old) (store_of file.new)
+        (λ c. S.images (store_of file.old) c ⊎ (∥ HoldsSome c limit places d more ∥₁)) }
     ensures count { CountsDevice (S.failures (store_of file.old)) (S.failures (store_of file.new)) result }
-    ensures calls { S.calls (store_of file.new) ≤ S.calls (store_of file.old) + 4 * more + 1 }
+    ensures calls { S.calls (store_of file.new) ≤ S.calls (store_of file.old) + 4 * more + 2 }
     ensures calls_each { S.calls (store_of file.new) + 4 * records_of_file (placed_of file.old)
-        ≤ S.calls (store_of file.old) + 4 * records_of_file (placed_of file.new) + 5 }
+        ≤ S.calls (store_of file.old) + 4 * records_of_file (placed_of file.new) + 6 }
     ensures calls_added { (result ≡ Err AppendError.Device → ⊥)
         → S.calls (store_of file.new) + 4 * records_of_file (placed_of file.old)
-        ≤ S.calls (store_of file.old) + 4 * records_of_file (placed_of file.new) + 1 }
+        ≤ S.calls (store_of file.old) + 4 * records_of_file (placed_of file.new) + 2 }
     ensures reach { S.reach (store_of file.new) ≤ S.reach (store_of file.old) }
 {
     open_file_has_sizes(file);
@@ -108,6 +113,7 @@ pub fn extend<S: Store>(alloc: Global, file: &mut NcFile<S>, more: u64) -> Resul
         Ok(image) => image,
         Err(AllocError) => return Err(AppendError::Memory),
     };
+    file.settle()?;
     for _done in 0..more {
         add_one(file, image.as_slice())?;
     }

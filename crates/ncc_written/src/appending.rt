@@ -35,7 +35,7 @@ const WITH_7_AND_9: File = File {
     ..TWO
 };
 
-/// With a record behind the scalar.
+/// With a record after the scalar.
 const BEHIND_THE_SCALAR: File = File {
     changes: &[(1, 1), (27, 152), (36, 156)],
     data: &[1, 0x81, 0x81, 0x81, 7, 0x81, 0x81, 0x81, 0, 9, 0x80, 1],

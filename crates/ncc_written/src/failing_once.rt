@@ -1,4 +1,4 @@
-//! A sink that fails once, and would pass the calls behind.
+//! A sink that fails once, and would pass the calls after.
 
 use crate::helpers::Step::{Fill, Put};
 use crate::helpers::*;

@@ -1,4 +1,4 @@
-//! A file that has no room for a record more.
+//! A file that has no room for one more record.
 
 use crate::open_files::*;
 use ncc_check::{AppendError, NcFile, open};

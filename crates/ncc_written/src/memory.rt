@@ -53,7 +53,7 @@ fn is_finished(writer: Writer, length: usize) -> bool {
     }
 }
 
-/// Writes these values, and fill values behind them.
+/// Writes these values, and fill values after them.
 fn writes<R: Abort + AllocGlobal>(rt: &R, plan: &Plan, values: &Values, length: usize) {
     if let Some(writer) = start_in_room(rt, plan, length) {
         let mut writer = writer;

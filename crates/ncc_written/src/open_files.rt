@@ -7,7 +7,7 @@ use ncc_store::{MemStore, Store};
 use ncc_values::{Values, XType};
 use std::alloc::{AllocError, Global};
 
-/// A file: words, of which some are others, with bytes behind them, up to a length.
+/// A file: words, of which some are others, with bytes after them, up to a length.
 #[derive(Clone, Copy)]
 pub struct File {
     pub words: &'static [u32],
@@ -52,7 +52,7 @@ pub const TWO_MISSING: File = File {
     length: 130,
 };
 
-/// The same, where b begins behind more than a's padding.
+/// The same, where b begins after more than a's padding.
 pub const APART: File = File {
     words: &TWO_RECORD_VARIABLES,
     changes: &[(28, 122)],

@@ -52,12 +52,13 @@ fn fused(alloc: Global, passed: u64, front: usize) -> Option<NcFile<FuseStore<Me
     open(alloc, store, LIMIT).ok()
 }
 
-/// What is answered to 2 records more where so many calls pass, of 4 for each; how many records the file has then, and
-/// how many the store, where the count is the third call of the four.
+/// What is answered to 2 records more where so many calls pass, a sync first and then 4 for each; how many records the
+/// file has then, and how many the store, where the count is the third call of the four.
 fn wanted(passed: u64) -> (Result<(), AppendError>, u64, u64) {
-    let answer = if passed < 8 { Err(Device) } else { Ok(()) };
-    let added = passed.min(8) / 4;
-    let held = passed.min(8).saturating_add(1) / 4;
+    let settled = passed.saturating_sub(1).min(8);
+    let answer = if settled < 8 { Err(Device) } else { Ok(()) };
+    let added = settled / 4;
+    let held = settled.saturating_add(1) / 4;
     (answer, added + 1, held + 1)
 }
 
@@ -85,7 +86,7 @@ fn is_so(alloc: Global, passed: u64, front: usize) -> Option<bool> {
 #[test]
 fn each_call_in_turn(rt: HostRuntime) {
     for front in 0..13 {
-        for passed in 0..10 {
+        for passed in 0..11 {
             let so = is_so(rt.alloc(), passed, front);
             assert!(rt; so == Some(true), "{passed} calls, front {front}");
         }
@@ -129,12 +130,12 @@ fn after(alloc: Global, calls: &[Call]) -> Result<Vec<u8>, AllocError> {
 }
 
 /// After each front of the calls the records are there of which the count tells; a record is counted with the third
-/// call of its four.
+/// call of its four, and a sync comes first.
 #[test]
 fn stops_after_each_call(rt: HostRuntime) -> Result<(), Fail> {
     let store = logged(rt.alloc()).expect(&rt, "two records");
     let calls = store.calls();
-    assert!(rt; calls.len() == 8);
+    assert!(rt; calls.len() == 9);
     for length in 0..=calls.len() {
         let (front, _rest) = calls.split_at(length);
         let bytes = after(rt.alloc(), front)?;

@@ -7,7 +7,7 @@ use ncc_files::*;
 use ncc_values::XType;
 use ncc_write::WriteFault;
 
-/// A file, and the steps by which it is written. It is so many words and the data behind them.
+/// A file, and the steps by which it is written. It is so many words and the data after them.
 #[derive(Clone, Copy)]
 pub struct Row {
     pub name: &'static str,

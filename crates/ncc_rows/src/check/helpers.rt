@@ -34,7 +34,7 @@ pub fn front_of(alloc: Global, words: &[u32], length: usize) -> Result<Vec<u8>, 
     Ok(bytes)
 }
 
-/// A file in words, and bytes behind it.
+/// A file in words, and bytes after it.
 pub fn with_data(alloc: Global, words: &[u32], data: &[u8]) -> Result<Vec<u8>, AllocError> {
     let mut bytes = bytes_of(alloc, words)?;
     bytes.extend_from_slice(data)?;

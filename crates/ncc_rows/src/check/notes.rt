@@ -10,7 +10,7 @@ use std::alloc::Global;
 use std::process::Abort;
 use std::test::*;
 
-/// The length of a file behind each header, zeros up to there.
+/// The length of a file after each header, zeros up to there.
 const LENGTH: u64 = 1 << 40;
 
 /// The notes of a long file that begins with these words.

@@ -42,14 +42,14 @@ fn feed_all(decoder: &mut Decoder, pieces: &[&[u8]]) -> Option<Answer> {
     last
 }
 
-/// What is answered to the last of the pieces, and how many bytes are wanted behind it.
+/// What is answered to the last of the pieces, and how many bytes are wanted after it.
 fn fed(alloc: Global, limit: u64, pieces: &[&[u8]]) -> (Option<Answer>, u64) {
     let mut decoder = Decoder::new(alloc, limit);
     let last = feed_all(&mut decoder, pieces);
     (last, decoder.wants())
 }
 
-/// The length of the header, where the input ends behind the pieces.
+/// The length of the header, where the input ends after the pieces.
 fn finished(alloc: Global, limit: u64, pieces: &[&[u8]]) -> Result<u64, HeaderError> {
     let mut decoder = Decoder::new(alloc, limit);
     feed_all(&mut decoder, pieces);

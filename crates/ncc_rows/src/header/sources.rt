@@ -127,7 +127,7 @@ fn long_values(rt: HostRuntime) -> Result<(), Fail> {
 #[test]
 fn failing_sources(rt: HostRuntime) -> Result<(), Fail> {
     let bytes = bytes_of(rt.alloc(), &FIXED)?;
-    // Five bytes at a time, but no more than are surely still to come: 4 behind the first 40, until the
+    // Five bytes at a time, but no more than are surely still to come: 4 after the first 40, until the
     // number of variables is known, and the last 1. And a call for each byte.
     assert!(rt; calls_needed(&rt, &bytes, 5) == Some((17, 80)));
     assert!(rt; calls_needed(&rt, &bytes, 1) == Some((80, 80)));

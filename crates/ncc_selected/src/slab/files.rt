@@ -13,7 +13,7 @@ const MANY: u64 = 1_000_000;
 /// A name of one letter, with its padding.
 const NAME: [u8; 12] = [0, 0, 0, 0, 0, 0, 0, 1, b'v', 0, 0, 0];
 
-/// A variable: its dimensions by their numbers, the code of its type, and how far behind the header it begins.
+/// A variable: its dimensions by their numbers, the code of its type, and how far after the header it begins.
 pub type Var = (&'static [u64], u32, u64);
 
 /// A file of a few variables.
@@ -24,7 +24,7 @@ pub struct File {
     pub lengths: &'static [u64],
     pub vars: &'static [Var],
     pub data: &'static [u8],
-    /// So many bytes behind the data tell their places.
+    /// So many bytes after the data tell their places.
     pub places: u64,
 }
 

@@ -55,7 +55,7 @@ fn padded(bytes: u64) -> u64 {
     bytes.wrapping_add(3) / 4 * 4
 }
 
-/// The numbers behind so many.
+/// The numbers after so many.
 fn behind(numbers: &[u64], count: usize) -> &[u64] {
     numbers.split_at(numbers.len().min(count)).1
 }

@@ -19,7 +19,7 @@ const MIXED: File = File {
 };
 
 /// A variable and a record by their numbers, the starts, counts and strides of the slab or why there is none, and how
-/// far behind the header it begins.
+/// far after the header it begins.
 type Row = (usize, u64, [[u64; 2]; 3], Option<SlabFault>, Option<u64>);
 
 const NONE: [[u64; 2]; 3] = [[0, 0], [0, 0], [0, 0]];

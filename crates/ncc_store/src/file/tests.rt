@@ -1,8 +1,10 @@
+ghost use Rattle.std.specs.Prelude.{◌≡◌};
+
 use super::FileStore;
-use crate::putting::put;
 use crate::tests::steps::Step::{FailedRead, Len, Read, Sync, Write};
 use crate::tests::steps::{Step, takes, takes_all};
-use crate::{Device, Store, SystemFile};
+use crate::{Device, LogFile, LogStore, Store, SystemFile};
+use std::alloc::{AllocError, Global};
 use std::fs;
 use std::test::Fail;
 
@@ -16,13 +18,14 @@ const WRITES: [Step; 4] = [
 const READS: [Step; 3] = [Len(Ok(5)), Read(0, &[1, 7, 3, 4, 5]), Read(3, &[4, 5])];
 
 /// Of a file of three bytes that was opened for reading.
-const FAILS: [Step; 6] = [
+const FAILS: [Step; 7] = [
     Read(3, &[]),
     FailedRead(2, 2),
     FailedRead(4, 0),
     FailedRead(u64::MAX, 2),
     Write(0, &[1], Err(Device)),
     Write(0, &[], Err(Device)),
+    Sync(Err(Device)),
 ];
 
 #[test]
@@ -45,7 +48,7 @@ fn counts_each_failure(rt: HostRuntime) -> Result<(), Fail> {
     fs::write(&rt, path, [1, 2, 3].as_slice())?;
     let mut store = FileStore::open(&rt, path, false)?;
     takes_all(&rt, &mut store, &FAILS);
-    assert_eq!(rt; store.failures, 5);
+    assert_eq!(rt; store.failures, 6);
     fs::remove_file(&rt, path)?;
     Ok(())
 }
@@ -65,149 +68,82 @@ fn refused_paths(rt: HostRuntime) -> Result<(), Fail> {
     Ok(())
 }
 
-// The system syncs no such file.
+const UNSYNCED: Step = Sync(Err(Device));
+
+// The system syncs no such file, and after that nothing is written.
 #[test]
 fn sync_that_fails_is_counted(rt: HostRuntime) -> Result<(), Fail> {
-    let mut store = FileStore::open(&rt, "/proc/sys/kernel/osrelease", false)?;
+    let mut store = FileStore::open(&rt, "/proc/self/comm", true)?;
     for (step, failures) in [(UNSYNCED, 1), (Write(0, b"1", Err(Device)), 2)] {
         assert!(rt; takes(&mut store, None, step) && store.failures == failures);
     }
     Ok(())
 }
 
-/// A file that takes at most two bytes a call, and none past so many calls.
-#[derive(Drop)]
-struct ShortFile {
-    bytes: Vec<u8>,
+/// After the first of three bytes. Two bytes a call at most, and the last seven whole: three writes.
+const PIECE: [u8; 11] = [9, 8, 7, 6, 5, 4, 3, 2, 1, 0, 9];
+
+/// What a write and two syncs answer over a file that passes so many calls, and the bytes.
+fn synced_twice(
+    alloc: Global,
     calls: u64,
-    pending: bool,
+) -> Result<([Result<(), Device>; 3], Vec<u8>), AllocError> {
+    let log = LogStore::new(alloc, [1, 2, 3].to_vec(alloc)?);
+    let mut store = FileStore::over(LogFile::new(log, 2, calls), true);
+    let written = store.write_at(1, &PIECE);
+    let first = store.sync();
+    let second = store.sync();
+    let bytes = store.into_file().into_log().into_bytes();
+    Ok(([written, first, second], bytes))
 }
 
-impl SystemFile for ShortFile {
-    ghost use Rattle.std.specs.Prelude.{◌≡◌, Some, false};
+const PASSED: Result<(), Device> = Ok(());
 
-    ghost bytes = { λ f. Some f.bytes.items };
+const FAILED: Result<(), Device> = Err(Device);
 
-    ghost settled = { λ f. f.pending ≡ false };
-
-    ghost failed = { λ f. 0 };
-
-    fn size(&mut self) -> Result<u64, Device> {
-        Ok(self.bytes.len() as u64)
-    }
-
-    fn fill(&mut self, place: u64, out: &mut [u8]) -> Result<(), Device> {
-        let size = self.bytes.len() as u64;
-        if place > size || out.len() as u64 > size - place {
-            return Err(Device);
-        }
-        let place = place as usize;
-        out.copy_from_slice(&self.bytes[place..place + out.len()]);
-        Ok(())
-    }
-
-    fn write_some(&mut self, place: u64, piece: &[u8]) -> Result<usize, Device> {
-        if self.calls == 0 || place > self.bytes.len() as u64 {
-            return Err(Device);
-        }
-        let front = &piece[..piece.len().min(2)];
-        if put(&mut self.bytes, place as usize, front).is_err() {
-            return Err(Device);
-        }
-        self.calls -= 1;
-        self.pending = true;
-        Ok(front.len())
-    }
-
-    fn settle(&mut self) -> Result<(), Device> {
-        if self.calls == 0 {
-            return Err(Device);
-        }
-        self.pending = false;
-        Ok(())
-    }
-}
-
-const PIECE: [u8; 7] = [9, 8, 7, 6, 5, 4, 3];
-
-const ALL: [u8; 8] = [1, 9, 8, 7, 6, 5, 4, 3];
-
-const WRITTEN: Step = Write(1, &PIECE, Ok(()));
-
-const CUT: Step = Write(1, &PIECE, Err(Device));
-
-const UNSYNCED: Step = Sync(Err(Device));
-
-const SHORT: Step = FailedRead(0, 8);
-
-/// Over a file that takes so many calls: steps, each with whether the file is pending and how often the store failed
-/// after it, and the bytes.
-type Row = (u64, [(Step, bool, u64); 3], &'static [u8]);
-
-// Seven bytes take four writes of two bytes at most: with fewer, a front is there.
-const ROWS: [Row; 6] = [
-    (
-        0,
-        [(CUT, false, 1), (UNSYNCED, false, 2), (SHORT, false, 3)],
-        &[1, 2, 3],
-    ),
-    (
-        1,
-        [(CUT, true, 1), (UNSYNCED, true, 2), (SHORT, true, 3)],
-        &[1, 9, 8],
-    ),
-    (
-        2,
-        [(CUT, true, 1), (UNSYNCED, true, 2), (SHORT, true, 3)],
-        &[1, 9, 8, 7, 6],
-    ),
-    (
-        3,
-        [(CUT, true, 1), (UNSYNCED, true, 2), (SHORT, true, 3)],
-        &[1, 9, 8, 7, 6, 5, 4],
-    ),
-    (
-        4,
-        [
-            (WRITTEN, true, 0),
-            (UNSYNCED, true, 1),
-            (Read(0, &ALL), true, 1),
-        ],
-        &ALL,
-    ),
-    (
-        5,
-        [
-            (WRITTEN, true, 0),
-            (Sync(Ok(())), false, 0),
-            (Read(0, &ALL), false, 0),
-        ],
-        &ALL,
-    ),
+/// Of so many calls: the answers, and how many bytes of the piece are there.
+const ROWS: [(u64, [Result<(), Device>; 3], usize); 6] = [
+    (0, [FAILED, FAILED, FAILED], 0),
+    (1, [FAILED, FAILED, FAILED], 2),
+    (2, [FAILED, FAILED, FAILED], 4),
+    (3, [PASSED, FAILED, FAILED], 11),
+    (4, [PASSED, PASSED, FAILED], 11),
+    (5, [PASSED, PASSED, PASSED], 11),
 ];
 
 #[test]
-fn short_writes_go_on(rt: HostRuntime) -> Result<(), Fail> {
-    for (calls, steps, bytes) in ROWS {
-        let file = ShortFile {
-            bytes: [1, 2, 3].to_vec(rt.alloc())?,
-            calls,
-            pending: false,
-        };
-        let mut store = FileStore {
-            file,
-            writes: true,
-            failures: 0,
-        };
-        for (step, pending, failures) in steps {
-            assert!(rt; takes(&mut store, None, step), "{calls} calls");
-            assert!(rt;
-                store.file.pending == pending && store.failures == failures,
-                "{calls} calls"
-            );
+fn no_call_after_a_failed_one(rt: HostRuntime) -> Result<(), Fail> {
+    for (calls, answers, done) in ROWS {
+        let (answered, bytes) = synced_twice(rt.alloc(), calls)?;
+        assert!(rt; answered == answers, "{calls} calls");
+        let size = 3.max(1 + done);
+        assert!(rt; bytes.len() == size, "{calls} calls");
+        for (place, byte) in bytes.iter().enumerate() {
+            let wanted = if place == 0 || place > done {
+                place as u8 + 1
+            } else {
+                PIECE[(place - 1).min(10)]
+            };
+            assert!(rt; *byte == wanted, "{calls} calls, {place}");
         }
-        assert_eq!(rt; store.file.bytes.as_slice(), bytes);
     }
+    Ok(())
+}
+
+#[test]
+fn one_writer(rt: HostRuntime) -> Result<(), Fail> {
+    let path = "one_writer.nc";
+    fs::write(&rt, path, [1, 2, 3].as_slice())?;
+    fs::hard_link(&rt, path, "linked.nc")?;
+    let first = FileStore::open(&rt, path, true)?;
+    for name in [path, "linked.nc"] {
+        assert!(rt; FileStore::open(&rt, name, true).is_err(), "{name}");
+        assert!(rt; FileStore::open(&rt, name, false).is_ok(), "{name}");
+    }
+    drop(first);
+    assert!(rt; FileStore::open(&rt, path, true).is_ok());
+    fs::remove_file(&rt, path)?;
+    fs::remove_file(&rt, "linked.nc")?;
     Ok(())
 }
 
@@ -215,10 +151,13 @@ fn short_writes_go_on(rt: HostRuntime) -> Result<(), Fail> {
 #[derive(Drop)]
 struct FailsOnce {
     failed: bool,
+    sound: bool,
 }
 
 impl FailsOnce {
-    fn passes(&mut self) -> Result<(), Device> {
+    fn passes(&mut self) -> Result<(), Device>
+        ensures { self.new.sound ≡ self.old.sound }
+    {
         if self.failed {
             return Ok(());
         }
@@ -228,13 +167,34 @@ impl FailsOnce {
 }
 
 impl SystemFile for FailsOnce {
-    ghost use Rattle.std.specs.Prelude.{None};
+    ghost use Rattle.std.specs.Prelude.{[], true, false};
+    ghost use Rattle.ncc_store.specs.StoreLaws.{untold};
 
-    ghost bytes = { λ f. None };
+    ghost tells_bytes = { false };
 
-    ghost settled = { λ f. Unit {0} };
+    ghost tells_images = { false };
+
+    ghost bytes = { λ f. [] };
+
+    ghost images = { λ f c. ⊥ };
+
+    ghost moment = { λ f. 0 };
+
+    ghost images_since = { λ f t c. ⊥ };
+
+    ghost sound = { λ f. f.sound };
 
     ghost failed = { λ f. 0 };
+
+    ghost calls = { λ f. 0 };
+
+    ghost are_bytes = { λ f told. untold told };
+
+    ghost stands = { λ f told. untold told };
+
+    ghost counts_now = { λ f t c le now. now };
+
+    ghost only_now = { λ f c left. left };
 
     fn size(&mut self) -> Result<u64, Device> {
         self.passes()?;
@@ -246,36 +206,46 @@ impl SystemFile for FailsOnce {
     }
 
     fn write_some(&mut self, _place: u64, piece: &[u8]) -> Result<usize, Device> {
-        self.passes()?;
-        Ok(piece.len())
+        self.sound = self.passes().is_ok();
+        if self.sound {
+            Ok(piece.len())
+        } else {
+            Err(Device)
+        }
     }
 
     fn settle(&mut self) -> Result<(), Device> {
-        self.passes()
+        self.sound = self.passes().is_ok();
+        if self.sound { Ok(()) } else { Err(Device) }
     }
 }
 
 fn fails_once() -> FileStore<FailsOnce> {
-    FileStore {
-        file: FailsOnce { failed: false },
-        writes: true,
-        failures: 0,
-    }
+    FileStore::over(
+        FailsOnce {
+            failed: false,
+            sound: true,
+        },
+        true,
+    )
 }
 
-// A call that failed isn't tried again.
-const ONCE: [[Step; 2]; 4] = [
-    [Len(Err(Device)), Len(Ok(3))],
-    [FailedRead(0, 2), Read(0, &[9, 9])],
-    [Write(0, &[1], Err(Device)), Write(0, &[1], Ok(()))],
-    [Sync(Err(Device)), Sync(Ok(()))],
+// A call that failed isn't tried again, and after a write or a sync there is none that writes.
+const ONCE: [([Step; 2], u64); 4] = [
+    ([Len(Err(Device)), Len(Ok(3))], 1),
+    ([FailedRead(0, 2), Read(0, &[9, 9])], 1),
+    (
+        [Write(0, &[1], Err(Device)), Write(0, &[1], Err(Device))],
+        2,
+    ),
+    ([UNSYNCED, UNSYNCED], 2),
 ];
 
 #[test]
 fn errors_are_answered(rt: HostRuntime) {
-    for steps in ONCE {
+    for (steps, failures) in ONCE {
         let mut store = fails_once();
         takes_all(&rt, &mut store, &steps);
-        assert_eq!(rt; store.failures, 1);
+        assert_eq!(rt; store.failures, failures);
     }
 }

@@ -19,7 +19,7 @@ const LONG_DOUBLES: [u32; 21] = [
     0xffffffff, 0, 84,
 ];
 
-/// CDF-2: byte a(x) and b(x), with x of length 2^31 - 4, the second behind the first.
+/// CDF-2: byte a(x) and b(x), with x of length 2^31 - 4, the second after the first.
 const LONG_BYTES: [u32; 31] = [
     0x43444602, 0, 10, 1, 1, 0x78000000, 0x7ffffffc, 0, 0, 11, 2, 1, 0x61000000, 1, 0, 0, 0, 1,
     0x7ffffffc, 0, 124, 1, 0x62000000, 1, 0, 0, 0, 1, 0x7ffffffc, 0, 0x80000078,

@@ -1,4 +1,4 @@
-use Rattle.std.proofs.Common.{◌≡◌, List, ℕ, Option, Ok, Err, drop, ◌+◌, refl, sym, ap, subst, ◌∙◌, arith}
+use Rattle.std.proofs.Common.{List, ℕ, Option, Ok, Err, drop, ◌+◌, subst, ◌∙◌, arith}
 use Rattle.ncc_batch.specs.Answered.{SendsOne}
 use Rattle.ncc_batch.proofs.Batches.{answered_more, fails_batch, at_path, next_left, rose_more, quiet_more}
 use Rattle.ncc_batch.proofs.batch.answer_all.Goals as goal

@@ -1,4 +1,4 @@
-use Rattle.std.proofs.Common.{[], ◌∷◌, ◌++◌}
+use Rattle.std.proofs.Common.{[], ◌∷◌}
 use Rattle.ncc_schema.proofs.Writing.{writes_both, fails_at}
 use Rattle.ncc_batch.specs.Shown.{status_text, words_of}
 use Rattle.ncc_batch.proofs.sending.send_answer.Goals as goal

@@ -15,7 +15,8 @@ use Rattle.ncc_check.specs.Files.{store_of, schema_of, placed_of}
 use Rattle.ncc_check.specs.declared.fault.Refusal.{Refusal}
 use Rattle.ncc_write.specs.Additions.{HoldsAll}
 use Rattle.ncc_write.specs.Extends.{Contains, ExtendsAs, HoldsSome, LeavesFills, filled_bytes, with_fills}
-use Rattle.ncc_write.proofs.MoreFills.{at_start}
+use Rattle.ncc_schema.specs.Schema.{places_of}
+use Rattle.ncc_write.proofs.MoreFills.{at_start, from_what_was}
 use Rattle.ncc_engines.specs.declared.answer.Answer.{Answer}
 use Rattle.ncc_engines.proofs.Extended.{Told, fault_went, filled_up, is_full, nothing_added, some_filled, refused_for, none_more, takes_none, takes_none_too, whole_filled, passed_ok, went, nothing_put, refused_or_filled, fault_front}
 use Rattle.ncc_engines.proofs.extending.extend_engine.Goals as goal
@@ -66,6 +67,61 @@ returns-in-Ok-clause-any_moment g c = λ told only places d is all.
     (joined g.S.Store.moment g.S.Store.images_since c.args.store (store_of f) (store_of c.extend-extended.new.file) _ _ _
     (stays g.S.Store.moment g.S.Store.images_since g.S.Store.bytes g.S.Store.images c.args.store c.args.store (store_of f) _ first still)
     (c.extend-extended.ensures.any_moment told pending c.args.limit places d start) (λ i h. h) (λ i h. h))
+
+pub returns-in-Ok-clause-whatever_was_pending : goal.returns-in-Ok-clause-whatever_was_pending
+returns-in-Ok-clause-whatever_was_pending g c = λ told places d is all.
+    let f = c.in-Ok.opened in
+    let still = c.in-Ok.ensures.unmoved in
+    let X = λ (i : List ℕ). ∥ HoldsSome i c.args.limit places d c.args.more ∥₁ in
+    let start : Contains (g.S.Store.bytes (store_of f)) c.args.limit places d (schema_of f) (placed_of f) =
+    subst (λ (b : List ℕ). Contains b c.args.limit places d (schema_of f) (placed_of f)) (sym still.same)
+    (record { dataset = is; all = all; opens = c.in-Ok.ensures.passes told }) in
+    let first = from_what_was g.S.Store.images g.S.Store.moment g.S.Store.images_since c.args.store
+    X (λ i left. g.met.S.Store.only_now c.args.store i left) in
+    subst (λ s. LeavesOnly g.S.Store.moment g.S.Store.images_since c.args.store s (λ i. g.S.Store.images c.args.store i ⊎ X i)) (sym c.into_store.ensures)
+    (joined g.S.Store.moment g.S.Store.images_since c.args.store (store_of f) (store_of c.extend-extended.new.file) _ _ _
+    (stays g.S.Store.moment g.S.Store.images_since g.S.Store.bytes g.S.Store.images c.args.store c.args.store (store_of f) _ first still)
+    (c.extend-extended.ensures.whatever_was_pending told c.args.limit places d start) (λ i h. h)
+    (λ i either. ⊎_elim (λ was. inl (still.within i was)) (λ some. inr some) either))
+
+pub returns-in-Ok-clause-dataset : goal.returns-in-Ok-clause-dataset
+returns-in-Ok-clause-dataset g c = λ told s p o counted.
+    let x = c.passing_file_holds_a_dataset.ensures (g.S.Store.bytes c.args.store) c.args.limit s p o (g.met.S.Store.are_bytes c.args.store told) counted in
+    (places_of o.header.places, x.0, x.1, x.2)
+
+pub returns-in-Fault-clause-dataset : goal.returns-in-Fault-clause-dataset
+returns-in-Fault-clause-dataset g c = λ told s p o counted.
+    let x = c.passing_file_holds_a_dataset.ensures (g.S.Store.bytes c.args.store) c.args.limit s p o (g.met.S.Store.are_bytes c.args.store told) counted in
+    (places_of o.header.places, x.0, x.1, x.2)
+
+pub returns-in-Device-clause-dataset : goal.returns-in-Device-clause-dataset
+returns-in-Device-clause-dataset g c = λ told s p o counted.
+    let x = c.passing_file_holds_a_dataset.ensures (g.S.Store.bytes c.args.store) c.args.limit s p o (g.met.S.Store.are_bytes c.args.store told) counted in
+    (places_of o.header.places, x.0, x.1, x.2)
+
+pub returns-in-Memory-clause-dataset : goal.returns-in-Memory-clause-dataset
+returns-in-Memory-clause-dataset g c = λ told s p o counted.
+    let x = c.passing_file_holds_a_dataset.ensures (g.S.Store.bytes c.args.store) c.args.limit s p o (g.met.S.Store.are_bytes c.args.store told) counted in
+    (places_of o.header.places, x.0, x.1, x.2)
+
+pub returns-in-Device-clause-whatever_was_pending : goal.returns-in-Device-clause-whatever_was_pending
+returns-in-Device-clause-whatever_was_pending g c = λ told places d is all.
+    stays g.S.Store.moment g.S.Store.images_since g.S.Store.bytes g.S.Store.images c.args.store c.args.store c.in-Err.store _
+    (from_what_was g.S.Store.images g.S.Store.moment g.S.Store.images_since c.args.store
+    (λ i. ∥ HoldsSome i c.args.limit places d c.args.more ∥₁) (λ i left. g.met.S.Store.only_now c.args.store i left)) c.in-Err.ensures.unmoved
+
+pub returns-in-Memory-clause-whatever_was_pending : goal.returns-in-Memory-clause-whatever_was_pending
+returns-in-Memory-clause-whatever_was_pending g c = λ told places d is all.
+    stays g.S.Store.moment g.S.Store.images_since g.S.Store.bytes g.S.Store.images c.args.store c.args.store c.in-Err.store _
+    (from_what_was g.S.Store.images g.S.Store.moment g.S.Store.images_since c.args.store
+    (λ i. ∥ HoldsSome i c.args.limit places d c.args.more ∥₁) (λ i left. g.met.S.Store.only_now c.args.store i left)) c.in-Err.ensures.unmoved
+
+pub returns-in-Ok-clause-memory : goal.returns-in-Ok-clause-memory
+returns-in-Ok-clause-memory g c = λ is.
+    let memory = c.tell-answer.ensures.memory is in
+    let same = (rw memory at c.extend-extended.ensures.unchanged) (λ device. cc device) (λ full. cc full) in
+    subst (λ x. Unmoved g.S.Store.bytes g.S.Store.images g.S.Store.moment g.S.Store.images_since c.args.store x)
+    (sym (c.into_store.ensures ∙ ap (λ x. store_of x) same)) c.in-Ok.ensures.unmoved
 
 pub returns-in-Ok-clause-refused : goal.returns-in-Ok-clause-refused
 returns-in-Ok-clause-refused g c = λ told fails.
@@ -148,7 +204,10 @@ returns-in-Ok-clause-untouched g c = λ told refused.
     (schema_of new) (placed_of new) g.S.Store.tells_bytes (g.S.Store.bytes (store_of new)) told
     (subst (λ (b : List ℕ). LeavesFills b s p (schema_of new) (placed_of new) g.S.Store.tells_bytes c.args.more errors.CountFull (g.S.Store.bytes (store_of new))) same leaves) room in (
       up.0,
-      λ none. unmoved (up.2 none),
+      λ none. (
+        unmoved (up.2 none),
+        omega (arith, c.in-Ok.ensures.calls told, ap (λ f. g.S.Store.calls (store_of f)) ((rw is at c.extend-extended.ensures.full_at_once) (up.2 none))),
+      ),
       omega (arith, few, up.1, leaves.has.records_are, c.in-Ok.ensures.calls told),
     )))))
     (λ other. inl (
@@ -247,6 +306,26 @@ returns-in-Ok-clause-whole g c = λ told other.
     c.extend-extended.result (schema_of new) (placed_of new) g.S.Store.tells_bytes (g.S.Store.bytes (store_of new)) told
     (λ device. other (c.tell-answer.ensures.told device))
     (c.extend-extended.ensures.bytes told) c.extend-extended.ensures.partly) in
+    inr (subst (λ x. ∥ IsFilledWhole (g.S.Store.bytes c.args.store) c.args.limit c.args.more (g.S.Store.bytes x) ∥₁)
+    (sym c.into_store.ensures) filled)
+
+pub returns-in-Ok-clause-unprinted : goal.returns-in-Ok-clause-unprinted
+returns-in-Ok-clause-unprinted g c = λ told sound.
+    let f = c.in-Ok.opened in
+    let s = schema_of f in
+    let p = placed_of f in
+    let new = c.extend-extended.new.file in
+    let same = c.in-Ok.ensures.unmoved.same in
+    let no_device : c.extend-extended.result ≡ Err errors.Device → ⊥ = λ device.
+    let rose : Rose (g.S.Store.failures (store_of f)) (g.S.Store.failures (store_of new)) =
+    rw device at c.extend-extended.ensures.count in
+    sound (subst (λ x. Rose (g.S.Store.failures c.args.store) (g.S.Store.failures x)) (sym c.into_store.ensures)
+    (subst (λ (m : ℕ). Rose m (g.S.Store.failures (store_of new))) c.in-Ok.ensures.count rose)) in
+    let filled = subst (λ (b : List ℕ). ∥ IsFilledWhole b c.args.limit c.args.more (g.S.Store.bytes (store_of new)) ∥₁) same
+    (whole_filled (g.S.Store.bytes (store_of f)) c.args.limit s p
+    (subst (λ (b : List ℕ). Opens b c.args.limit s p) (sym same) (c.in-Ok.ensures.passes told)) c.args.more
+    c.extend-extended.result (schema_of new) (placed_of new) g.S.Store.tells_bytes (g.S.Store.bytes (store_of new)) told
+    no_device (c.extend-extended.ensures.bytes told) c.extend-extended.ensures.partly) in
     inr (subst (λ x. ∥ IsFilledWhole (g.S.Store.bytes c.args.store) c.args.limit c.args.more (g.S.Store.bytes x) ∥₁)
     (sym c.into_store.ensures) filled)
 

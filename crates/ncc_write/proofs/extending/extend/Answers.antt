@@ -1,15 +1,15 @@
-use Rattle.std.proofs.Common.{◌≡◌, ◌⊎◌, ◌+◌, inl, inr, ⊎_elim, ℕ, List, Bool, false, Err, length, refl, ap, sym, subst, ◌∙◌, arith, add-one, rules}
+use Rattle.std.proofs.Common.{◌≡◌, ◌⊎◌, ◌+◌, inr, ⊎_elim, ℕ, List, Bool, false, Err, length, ap, sym, subst, ◌∙◌, arith, add-one, rules}
 use Rattle.ncc_store.specs.Store.{LeavesOnly, Only}
-use Rattle.ncc_store.proofs.Moments.{joined}
+use Rattle.ncc_store.proofs.Moments.{joined, stays}
 use Rattle.ncc_check.specs.Appending.{HasRecordOrNot, TakesRecord}
 use Rattle.ncc_check.specs.Files.{store_of, schema_of, placed_of, must_reopen}
 use Rattle.ncc_check.specs.declared.append_error.AppendError.{AppendError}
 use Rattle.ncc_check.specs.declared.append_error.AppendError.TheVariants as error
 use Rattle.ncc_layout.specs.Placed.{record_size_of_file, records_of_file}
 use Rattle.ncc_write.specs.Additions.{HoldsAll}
-use Rattle.ncc_write.specs.Extends.{AddsAs, Contains, HasRecords, HoldsSome, TakesRecords, filled_bytes, with_fills}
+use Rattle.ncc_write.specs.Extends.{AddsAs, Contains, HasRecords, HoldsSome, LeavesFills, TakesRecords, filled_bytes, with_fills}
 use Rattle.ncc_write.specs.Records.{bytes_of_record, fill_values}
-use Rattle.ncc_write.proofs.MoreFills.{Laws, at_start, held_first, some_held, one_fill, fill_or_not}
+use Rattle.ncc_write.proofs.MoreFills.{Laws, at_start, from_what_was, only_what_follows, held_first, some_held, one_fill, fill_or_not}
 use Rattle.ncc_write.proofs.MoreRecords.{bytes_more, calls_so, fills_or_not, is_reached, no_records, none_left_out, as_first, one_record_more, room_more, refused_so, extended_so}
 use Rattle.ncc_write.proofs.extending.extend.Goals as goal
 
@@ -26,6 +26,11 @@ returns-then-more-eq0-clause-holds_some g c = λ told limit places d start.
       more = c.followed_twice.ensures.fills;
     } in
     some_held laws _ limit places d _ _ start c.args.more
+
+pub returns-then-more-eq0-clause-whatever_was_pending : goal.returns-then-more-eq0-clause-whatever_was_pending
+returns-then-more-eq0-clause-whatever_was_pending g c = λ told limit places d start.
+    from_what_was g.S.Store.images g.S.Store.moment g.S.Store.images_since (store_of c.args.file.now)
+    (λ i. ∥ HoldsSome i limit places d c.args.more ∥₁) (λ i left. g.met.S.Store.only_now (store_of c.args.file.now) i left)
 
 pub returns-then-more-eq0-clause-any_moment : goal.returns-then-more-eq0-clause-any_moment
 returns-then-more-eq0-clause-any_moment g c = λ told only limit places d start.
@@ -47,6 +52,11 @@ returns-in_err-appendable-clause-holds_some g c = λ told limit places d start.
     } in
     some_held laws _ limit places d _ _ start c.args.more
 
+pub returns-in_err-appendable-clause-whatever_was_pending : goal.returns-in_err-appendable-clause-whatever_was_pending
+returns-in_err-appendable-clause-whatever_was_pending g c = λ told limit places d start.
+    from_what_was g.S.Store.images g.S.Store.moment g.S.Store.images_since (store_of c.args.file.now)
+    (λ i. ∥ HoldsSome i limit places d c.args.more ∥₁) (λ i left. g.met.S.Store.only_now (store_of c.args.file.now) i left)
+
 pub returns-in_err-appendable-clause-any_moment : goal.returns-in_err-appendable-clause-any_moment
 returns-in_err-appendable-clause-any_moment g c = λ told only limit places d start.
     at_start g.S.Store.bytes g.S.Store.images g.S.Store.moment g.S.Store.images_since (store_of c.args.file.now)
@@ -67,6 +77,11 @@ returns-in-Err-clause-holds_some g c = λ told limit places d start.
     } in
     some_held laws _ limit places d _ _ start c.args.more
 
+pub returns-in-Err-clause-whatever_was_pending : goal.returns-in-Err-clause-whatever_was_pending
+returns-in-Err-clause-whatever_was_pending g c = λ told limit places d start.
+    from_what_was g.S.Store.images g.S.Store.moment g.S.Store.images_since (store_of c.args.file.now)
+    (λ i. ∥ HoldsSome i limit places d c.args.more ∥₁) (λ i left. g.met.S.Store.only_now (store_of c.args.file.now) i left)
+
 pub returns-in-Err-clause-any_moment : goal.returns-in-Err-clause-any_moment
 returns-in-Err-clause-any_moment g c = λ told only limit places d start.
     at_start g.S.Store.bytes g.S.Store.images g.S.Store.moment g.S.Store.images_since (store_of c.args.file.now)
@@ -76,16 +91,20 @@ returns-in-Err-clause-any_moment g c = λ told only limit places d start.
 pub loop-done-init : goal.loop-done-init
 loop-done-init g c =
     let takes : (must_reopen c.args.file.now ≡ false) × TakesRecord (schema_of c.args.file.now) (placed_of c.args.file.now) = c.in_ok-appendable.ensures in
+    let schema : schema_of c.settle.new.self ≡ schema_of c.args.file.now = c.settle.ensures.schema in
+    let placed : placed_of c.settle.new.self ≡ placed_of c.args.file.now = c.settle.ensures.placed in
+    let still = c.settle.ensures.unmoved in
     record {
-      fresh = takes.0;
-      has = no_records (schema_of c.args.file.now) (placed_of c.args.file.now);
+      fresh = c.in_ok-settle.ensures.fresh;
+      has = subst (λ q. HasRecords (schema_of c.args.file.now) (placed_of c.args.file.now) 0 (schema_of c.settle.new.self) q) (sym placed)
+          (subst (λ t. HasRecords (schema_of c.args.file.now) (placed_of c.args.file.now) 0 t (placed_of c.args.file.now)) (sym schema)
+          (no_records (schema_of c.args.file.now) (placed_of c.args.file.now)));
       room = tt;
-      bytes = λ told. refl;
+      bytes = λ told. still.same;
       few = omega arith;
       takes = takes.1;
       was_fresh = takes.0;
       image_is = c.in-Ok.ensures;
-      first = λ none. refl;
       holds = λ told limit places d start.
           let laws : Laws = record {
             grows = c.append_holds.ensures.grows;
@@ -97,28 +116,20 @@ loop-done-init g c =
             none = c.followed_twice.ensures.none;
             more = c.followed_twice.ensures.fills;
           } in
-          held_first laws _ limit places d _ _ start;
-      only = λ only. only;
-      settled = λ some. absurd (omega (arith, some));
-      rest = inl refl;
-      moments = λ told only limit places d start.
-          let laws : Laws = record {
-            grows = c.append_holds.ensures.grows;
-            dataset = c.append_holds.ensures.dataset;
-            stands = c.append_holds.ensures.stands;
-            opens = c.bytes_with_a_record_pass_on.ensures.opens;
-            schema = c.opens_with_its_schema.ensures;
-            fills = c.fills_are_a_record.ensures;
-            none = c.followed_twice.ensures.none;
-            more = c.followed_twice.ensures.fills;
-          } in
-          at_start g.S.Store.bytes g.S.Store.images g.S.Store.moment g.S.Store.images_since (store_of c.args.file.now)
-          (λ i. ∥ HoldsSome i limit places d c.args.more ∥₁) (λ i left. g.met.S.Store.only_now (store_of c.args.file.now) i left)
-          only (some_held laws _ limit places d _ _ start c.args.more);
-      failures = refl;
-      no_calls = λ none. omega arith;
-      calls = omega arith;
-      reach = omega arith;
+          let first = held_first laws _ limit places d _ _ start in
+          subst (λ b. Contains b limit places (with_fills d 0) (schema_of c.settle.new.self) (placed_of c.settle.new.self)) (sym still.same)
+          (subst (λ t. Contains (g.S.Store.bytes (store_of c.args.file.now)) limit places (with_fills d 0) t (placed_of c.settle.new.self)) (sym schema)
+          (subst (λ q. Contains (g.S.Store.bytes (store_of c.args.file.now)) limit places (with_fills d 0) (schema_of c.args.file.now) q) (sym placed) first));
+      only = c.in_ok-settle.ensures.durable;
+      moments = λ told limit places d start.
+          stays g.S.Store.moment g.S.Store.images_since g.S.Store.bytes g.S.Store.images (store_of c.args.file.now) (store_of c.args.file.now)
+          (store_of c.settle.new.self) (λ i. g.S.Store.images (store_of c.args.file.now) i ⊎ (∥ HoldsSome i limit places d c.args.more ∥₁))
+          (from_what_was g.S.Store.images g.S.Store.moment g.S.Store.images_since (store_of c.args.file.now)
+          (λ i. ∥ HoldsSome i limit places d c.args.more ∥₁) (λ i left. g.met.S.Store.only_now (store_of c.args.file.now) i left)) still;
+      failures = c.in_ok-settle.ensures.count;
+      no_calls = λ none. c.settle.ensures.calls;
+      calls = omega (arith, c.settle.ensures.calls);
+      reach = c.settle.ensures.reach;
     }
 
 pub returns-in_err-add_one-clause-answer : goal.returns-in_err-add_one-clause-answer
@@ -152,13 +163,12 @@ returns-in_err-add_one-clause-rest g c =
     let is : c.from_residual-in_err-add_one.result ≡ Err e = search rules in
     λ other.
     let same = c.in_err-add_one.ensures.unchanged (λ device. other (is ∙ ap (λ (x : AppendError). Err x) device)) in
-    subst (λ f. (f ≡ c.args.file.now) ⊎ Only (g.S.Store.bytes (store_of f)) (g.S.Store.images (store_of f))) (sym same)
-    c.loop-done.invariant.rest
+    inr (subst (λ f. Only (g.S.Store.bytes (store_of f)) (g.S.Store.images (store_of f))) (sym same) c.loop-done.invariant.only)
 
 pub returns-in_err-add_one-clause-calls : goal.returns-in_err-add_one-clause-calls
 returns-in_err-add_one-clause-calls g c =
     let at = c.loop-done.invariant in
-    let so = calls_so c.loop-done._done (g.S.Store.calls (store_of c.args.file.now)) (g.S.Store.calls (store_of c.loop-done.file))
+    let so = calls_so c.loop-done._done (g.S.Store.calls (store_of c.args.file.now) + 1) (g.S.Store.calls (store_of c.loop-done.file))
     (g.S.Store.calls (store_of c.add_one.new.file)) at.no_calls at.calls c.add_one.ensures.calls
     (λ some. c.add_one.ensures.calls_whole (is_reached (schema_of c.args.file.now) (placed_of c.args.file.now)
     c.loop-done._done (schema_of c.loop-done.file) (placed_of c.loop-done.file) at.has some)) in
@@ -167,7 +177,7 @@ returns-in_err-add_one-clause-calls g c =
 pub returns-in_err-add_one-clause-calls_each : goal.returns-in_err-add_one-clause-calls_each
 returns-in_err-add_one-clause-calls_each g c =
     let at = c.loop-done.invariant in
-    let so = calls_so c.loop-done._done (g.S.Store.calls (store_of c.args.file.now)) (g.S.Store.calls (store_of c.loop-done.file))
+    let so = calls_so c.loop-done._done (g.S.Store.calls (store_of c.args.file.now) + 1) (g.S.Store.calls (store_of c.loop-done.file))
     (g.S.Store.calls (store_of c.add_one.new.file)) at.no_calls at.calls c.add_one.ensures.calls
     (λ some. c.add_one.ensures.calls_whole (is_reached (schema_of c.args.file.now) (placed_of c.args.file.now)
     c.loop-done._done (schema_of c.loop-done.file) (placed_of c.loop-done.file) at.has some)) in
@@ -191,8 +201,8 @@ returns-in_err-add_one-clause-calls_added g c =
 pub returns-in_err-add_one-clause-full_at_once : goal.returns-in_err-add_one-clause-full_at_once
 returns-in_err-add_one-clause-full_at_once g c = λ full. absurd (c.loop-done.invariant.takes.room full)
 
-pub returns-in_err-add_one-clause-any_moment : goal.returns-in_err-add_one-clause-any_moment
-returns-in_err-add_one-clause-any_moment g c = λ told only limit places d start.
+pub returns-in_err-add_one-clause-whatever_was_pending : goal.returns-in_err-add_one-clause-whatever_was_pending
+returns-in_err-add_one-clause-whatever_was_pending g c = λ told limit places d start.
     let at = c.loop-done.invariant in
     let s = schema_of c.args.file.now in
     let p = placed_of c.args.file.now in
@@ -224,10 +234,27 @@ returns-in_err-add_one-clause-any_moment g c = λ told only limit places d start
     λ full. c.in_err-add_one.ensures.unchanged (λ device. cc (sym full ∙ device)) in
     ⊎_elim
     (λ device. joined g.S.Store.moment g.S.Store.images_since (store_of c.args.file.now) (store_of c.loop-done.file) (store_of c.add_one.new.file)
-    _ _ _ (at.moments told only limit places d start) (c.add_one.ensures.any_moment told (at.only only)) (λ i h. h) (λ i or_not. either i device or_not))
-    (λ full. subst (λ f. LeavesOnly g.S.Store.moment g.S.Store.images_since (store_of c.args.file.now) (store_of f) (λ i. ∥ HoldsSome i limit places d c.args.more ∥₁))
-    (sym (same full)) (at.moments told only limit places d start))
+    _ _ _ (at.moments told limit places d start) (c.add_one.ensures.any_moment told at.only) (λ i h. h) (λ i or_not. inr (either i device or_not)))
+    (λ full. subst (λ f. LeavesOnly g.S.Store.moment g.S.Store.images_since (store_of c.args.file.now) (store_of f)
+    (λ i. g.S.Store.images (store_of c.args.file.now) i ⊎ (∥ HoldsSome i limit places d c.args.more ∥₁)))
+    (sym (same full)) (at.moments told limit places d start))
     why.1
+
+pub returns-in_err-add_one-clause-any_moment : goal.returns-in_err-add_one-clause-any_moment
+returns-in_err-add_one-clause-any_moment g c = λ told only limit places d start.
+    let laws : Laws = record {
+      grows = c.append_holds.ensures.grows;
+      dataset = c.append_holds.ensures.dataset;
+      stands = c.append_holds.ensures.stands;
+      opens = c.bytes_with_a_record_pass_on.ensures.opens;
+      schema = c.opens_with_its_schema.ensures;
+      fills = c.fills_are_a_record.ensures;
+      none = c.followed_twice.ensures.none;
+      more = c.followed_twice.ensures.fills;
+    } in
+    only_what_follows g.S.Store.bytes g.S.Store.images g.S.Store.moment g.S.Store.images_since (store_of c.args.file.now) (store_of c.add_one.new.file)
+    (λ i. ∥ HoldsSome i limit places d c.args.more ∥₁) only (some_held laws _ limit places d _ _ start c.args.more)
+    (returns-in_err-add_one-clause-whatever_was_pending g c told limit places d start)
 
 pub returns-in_err-add_one-clause-holds_some : goal.returns-in_err-add_one-clause-holds_some
 returns-in_err-add_one-clause-holds_some g c = λ told limit places d start.
@@ -277,6 +304,22 @@ returns-clause-holds_some g c = λ told limit places d start.
     let at = c.loop-done.invariant in
     ∣ record { more = c.loop-done._done; few = at.few; holds = (at.holds told limit places d start).all } ∣₁
 
+pub returns-clause-any_moment : goal.returns-clause-any_moment
+returns-clause-any_moment g c = λ told only limit places d start.
+    let laws : Laws = record {
+      grows = c.append_holds.ensures.grows;
+      dataset = c.append_holds.ensures.dataset;
+      stands = c.append_holds.ensures.stands;
+      opens = c.bytes_with_a_record_pass_on.ensures.opens;
+      schema = c.opens_with_its_schema.ensures;
+      fills = c.fills_are_a_record.ensures;
+      none = c.followed_twice.ensures.none;
+      more = c.followed_twice.ensures.fills;
+    } in
+    only_what_follows g.S.Store.bytes g.S.Store.images g.S.Store.moment g.S.Store.images_since (store_of c.args.file.now) (store_of c.loop-done.file)
+    (λ i. ∥ HoldsSome i limit places d c.args.more ∥₁) only (some_held laws _ limit places d _ _ start c.args.more)
+    (c.loop-done.invariant.moments told limit places d start)
+
 pub loop-done-preserved : goal.loop-done-preserved
 loop-done-preserved g c =
     let at = c.loop-done.invariant in
@@ -305,7 +348,6 @@ loop-done-preserved g c =
       takes = at.takes;
       was_fresh = at.was_fresh;
       image_is = at.image_is;
-      first = λ none. absurd (omega (arith, none));
       holds = λ told limit places d start.
           let laws : Laws = record {
             grows = c.append_holds.ensures.grows;
@@ -320,10 +362,8 @@ loop-done-preserved g c =
           subst (λ (l : List ℕ). Contains l limit places (with_fills d (k + 1)) u r) (sym (c.in_ok-add_one.ensures.bytes told))
           (one_fill laws _ limit places d s p start k _ t q at.has (at.holds told limit places d start) takes.1
           c.as_slice.result.now image u r long c.in_ok-add_one.ensures.added.0);
-      only = λ only. c.in_ok-add_one.ensures.durable;
-      settled = λ some. c.in_ok-add_one.ensures.durable;
-      rest = inr c.in_ok-add_one.ensures.durable;
-      moments = λ told only limit places d start.
+      only = c.in_ok-add_one.ensures.durable;
+      moments = λ told limit places d start.
           let laws : Laws = record {
             grows = c.append_holds.ensures.grows;
             dataset = c.append_holds.ensures.dataset;
@@ -335,14 +375,14 @@ loop-done-preserved g c =
             more = c.followed_twice.ensures.fills;
           } in
           joined g.S.Store.moment g.S.Store.images_since (store_of c.args.file.now) (store_of c.loop-done.file) (store_of c.add_one.new.file)
-          _ _ _ (at.moments told only limit places d start) (c.add_one.ensures.any_moment told (at.only only)) (λ i h. h)
-          (λ i or_not. fill_or_not laws _ limit places d s p start k _ t q at.has (at.holds told limit places d start) takes.1
-          c.as_slice.result.now image c.args.more i c.loop-done-test.true or_not);
+          _ _ _ (at.moments told limit places d start) (c.add_one.ensures.any_moment told at.only) (λ i h. h)
+          (λ i or_not. inr (fill_or_not laws _ limit places d s p start k _ t q at.has (at.holds told limit places d start) takes.1
+          c.as_slice.result.now image c.args.more i c.loop-done-test.true or_not));
       failures = c.in_ok-add_one.ensures.count ∙ at.failures;
       no_calls = λ none. absurd (omega (arith, none));
       calls = omega (
         arith,
-        calls_so k (g.S.Store.calls (store_of c.args.file.now)) (g.S.Store.calls (store_of c.loop-done.file))
+        calls_so k (g.S.Store.calls (store_of c.args.file.now) + 1) (g.S.Store.calls (store_of c.loop-done.file))
             (g.S.Store.calls (store_of c.add_one.new.file)) at.no_calls at.calls c.add_one.ensures.calls
             (λ some. c.add_one.ensures.calls_whole (is_reached s p k t q at.has some)),
       );
@@ -388,3 +428,54 @@ returns-in_err-add_one-clause-partly g c =
       failed = λ told. fills_or_not s p k t q at.has (g.S.Store.bytes (store_of c.args.file.now)) (g.S.Store.bytes (store_of c.loop-done.file))
           (g.S.Store.bytes (store_of c.add_one.new.file)) c.as_slice.result.now (at.bytes told) image (c.in_err-add_one.ensures.front told);
     } ∣₁)
+
+pub returns-in_err-settle-clause-whatever_was_pending : goal.returns-in_err-settle-clause-whatever_was_pending
+returns-in_err-settle-clause-whatever_was_pending g c = λ told limit places d start.
+    stays g.S.Store.moment g.S.Store.images_since g.S.Store.bytes g.S.Store.images (store_of c.args.file.now) (store_of c.args.file.now)
+    (store_of c.settle.new.self) (λ i. g.S.Store.images (store_of c.args.file.now) i ⊎ (∥ HoldsSome i limit places d c.args.more ∥₁))
+    (from_what_was g.S.Store.images g.S.Store.moment g.S.Store.images_since (store_of c.args.file.now)
+    (λ i. ∥ HoldsSome i limit places d c.args.more ∥₁) (λ i left. g.met.S.Store.only_now (store_of c.args.file.now) i left)) c.settle.ensures.unmoved
+
+pub returns-in_err-settle-clause-any_moment : goal.returns-in_err-settle-clause-any_moment
+returns-in_err-settle-clause-any_moment g c = λ told only limit places d start.
+    let laws : Laws = record {
+      grows = c.append_holds.ensures.grows;
+      dataset = c.append_holds.ensures.dataset;
+      stands = c.append_holds.ensures.stands;
+      opens = c.bytes_with_a_record_pass_on.ensures.opens;
+      schema = c.opens_with_its_schema.ensures;
+      fills = c.fills_are_a_record.ensures;
+      none = c.followed_twice.ensures.none;
+      more = c.followed_twice.ensures.fills;
+    } in
+    only_what_follows g.S.Store.bytes g.S.Store.images g.S.Store.moment g.S.Store.images_since (store_of c.args.file.now) (store_of c.settle.new.self)
+    (λ i. ∥ HoldsSome i limit places d c.args.more ∥₁) only (some_held laws _ limit places d _ _ start c.args.more)
+    (returns-in_err-settle-clause-whatever_was_pending g c told limit places d start)
+
+pub returns-in_err-settle-clause-holds_some : goal.returns-in_err-settle-clause-holds_some
+returns-in_err-settle-clause-holds_some g c = λ told limit places d start.
+    let laws : Laws = record {
+      grows = c.append_holds.ensures.grows;
+      dataset = c.append_holds.ensures.dataset;
+      stands = c.append_holds.ensures.stands;
+      opens = c.bytes_with_a_record_pass_on.ensures.opens;
+      schema = c.opens_with_its_schema.ensures;
+      fills = c.fills_are_a_record.ensures;
+      none = c.followed_twice.ensures.none;
+      more = c.followed_twice.ensures.fills;
+    } in
+    subst (λ b. ∥ HoldsSome b limit places d c.args.more ∥₁) (sym c.settle.ensures.unmoved.same) (some_held laws _ limit places d _ _ start c.args.more)
+
+pub returns-in_err-settle-clause-partly : goal.returns-in_err-settle-clause-partly
+returns-in_err-settle-clause-partly g c =
+    let e = c.in_err-settle.field-0.0 in
+    let is : c.from_residual-in_err-settle.result ≡ Err e = search rules in
+    let old = g.S.Store.bytes (store_of c.args.file.now) in
+    let s = schema_of c.args.file.now in
+    let p = placed_of c.args.file.now in
+    let now = c.settle.new.self in
+    let told = g.S.Store.tells_bytes in
+    rw is (∣ subst (λ b. LeavesFills old s p (schema_of now) (placed_of now) told c.args.more e b) (sym c.settle.ensures.unmoved.same)
+    (subst (λ t. LeavesFills old s p t (placed_of now) told c.args.more e old) (sym c.settle.ensures.schema)
+    (subst (λ q. LeavesFills old s p s q told c.args.more e old) (sym c.settle.ensures.placed)
+    (none_left_out old s p told c.args.more e (omega (arith, c.if-more-eq0.false))))) ∣₁)

@@ -1,4 +1,4 @@
-use Rattle.std.proofs.Common.{◌≡◌, ◌⊎◌, ◌<◌, ◌≤◌, ◌+◌, ◌*◌, ℕ, List, false, IsTrue}
+use Rattle.std.proofs.Common.{◌≡◌, ◌⊎◌, ◌≤◌, ◌+◌, ◌*◌, ℕ, List, false, IsTrue}
 use Rattle.ncc_schema.specs.Schema.{Place}
 use Rattle.ncc_store.specs.Store.{LeavesOnly, Only}
 use Rattle.ncc_check.specs.Files.{store_of, schema_of, placed_of, must_reopen}
@@ -19,22 +19,16 @@ invariant-loop-done g l = record {
   takes : TakesRecord (schema_of l.fn.file) (placed_of l.fn.file);
   was_fresh : must_reopen l.fn.file ≡ false;
   image_is : l.image.items ≡ bytes_of_record (schema_of l.fn.file) (fill_values (schema_of l.fn.file));
-  first : l._done ≡ 0 → l.file ≡ l.fn.file;
   holds : IsTrue g.S.Store.tells_bytes → (limit : ℕ) (places : List Place) (d : Dataset)
       → Contains (g.S.Store.bytes (store_of l.fn.file)) limit places d (schema_of l.fn.file) (placed_of l.fn.file)
       → Contains (g.S.Store.bytes (store_of l.file)) limit places (with_fills d l._done) (schema_of l.file) (placed_of l.file);
-  only : Only (g.S.Store.bytes (store_of l.fn.file)) (g.S.Store.images (store_of l.fn.file))
-      → Only (g.S.Store.bytes (store_of l.file)) (g.S.Store.images (store_of l.file));
-  settled : 0 < l._done → Only (g.S.Store.bytes (store_of l.file)) (g.S.Store.images (store_of l.file));
-  rest : (l.file ≡ l.fn.file) ⊎ Only (g.S.Store.bytes (store_of l.file)) (g.S.Store.images (store_of l.file));
-  moments : IsTrue g.S.Store.tells_bytes
-      → Only (g.S.Store.bytes (store_of l.fn.file)) (g.S.Store.images (store_of l.fn.file))
-      → (limit : ℕ) (places : List Place) (d : Dataset)
+  only : Only (g.S.Store.bytes (store_of l.file)) (g.S.Store.images (store_of l.file));
+  moments : IsTrue g.S.Store.tells_bytes → (limit : ℕ) (places : List Place) (d : Dataset)
       → Contains (g.S.Store.bytes (store_of l.fn.file)) limit places d (schema_of l.fn.file) (placed_of l.fn.file)
       → LeavesOnly g.S.Store.moment g.S.Store.images_since (store_of l.fn.file) (store_of l.file)
-      (λ c. ∥ HoldsSome c limit places d l.more ∥₁);
+      (λ c. g.S.Store.images (store_of l.fn.file) c ⊎ (∥ HoldsSome c limit places d l.more ∥₁));
   failures : g.S.Store.failures (store_of l.file) ≡ g.S.Store.failures (store_of l.fn.file);
-  no_calls : l._done ≡ 0 → g.S.Store.calls (store_of l.file) ≤ g.S.Store.calls (store_of l.fn.file);
-  calls : g.S.Store.calls (store_of l.file) ≤ g.S.Store.calls (store_of l.fn.file) + 4 * l._done + 1;
+  no_calls : l._done ≡ 0 → g.S.Store.calls (store_of l.file) ≤ g.S.Store.calls (store_of l.fn.file) + 1;
+  calls : g.S.Store.calls (store_of l.file) ≤ g.S.Store.calls (store_of l.fn.file) + 1 + 4 * l._done + 1;
   reach : g.S.Store.reach (store_of l.file) ≤ g.S.Store.reach (store_of l.fn.file);
 }

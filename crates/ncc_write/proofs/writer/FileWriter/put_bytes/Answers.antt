@@ -1,6 +1,6 @@
 use Rattle.std.proofs.Common.{◌≡◌, ◌<◌, ℕ, List, false, refl, ap, sym, subst, ◌∙◌, arith, rules}
 use Rattle.ncc_schema.specs.declared.schema.Schema.{Schema}
-use Rattle.ncc_values.specs.Values.{count_of, type_of, values_of}
+use Rattle.ncc_values.specs.Values.{values_of}
 use Rattle.ncc_values.proofs.ValuesLemmas.{type_of-values_of, count_of-values_of, bytes_of-values_of}
 use Rattle.ncc_write.specs.Turns.{IsCourse}
 use Rattle.ncc_write.specs.Writer.{Stands, Stops, sink_in}

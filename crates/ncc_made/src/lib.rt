@@ -1,0 +1,10 @@
+//! Tests of conversions into a target that keeps its files in memory, and tells them.
+#![tactic(auto)]
+
+mod kept;
+mod step;
+#[cfg(test)]
+mod tests;
+
+pub use kept::{Fault, Kept};
+pub use step::Step;

@@ -1,0 +1,3 @@
+pub mod Against
+pub mod Made
+pub mod Naming

@@ -1,0 +1,269 @@
+//! Converting an open file, or a store, into a new file.
+
+ghost use Rattle.std.specs.Prelude.{◌≡◌, ◌≢◌, ◌⊎◌, ◌+◌, ◌≤◌, max, ℕ, List, Option, None, length, IsTrue, IsSome};
+ghost use Rattle.ncc_values.specs.Failures.{Rose};
+ghost use Rattle.ncc_schema.specs.Device.{Puts};
+ghost use Rattle.ncc_schema.specs.declared.schema.Schema.{Schema};
+ghost use Rattle.ncc_layout.specs.declared.placed_file.Placed.{Placed};
+ghost use Rattle.ncc_store.specs.Store.{Unmoved, KeepsImages};
+ghost use Rattle.ncc_layout.specs.Placed.{file_length_of, records_of_file};
+ghost use Rattle.ncc_check.specs.Checks.{Opens};
+ghost use Rattle.ncc_check.specs.FromStore.{calls_for};
+ghost use Rattle.ncc_check.specs.declared.fault.FileFault.{FileFault};
+ghost use Rattle.ncc_lines.specs.Verdicts.{file_fault_line};
+ghost use Rattle.ncc_build.specs.declared.fault.WriteFault.{WriteFault};
+ghost use Rattle.ncc_build.specs.Builds.{schema_of as planned_schema};
+ghost use Rattle.ncc_build.specs.Dataset.{slabs_of};
+ghost use Rattle.ncc_convert.specs.Copying.{pieces_of};
+ghost use Rattle.ncc_check.specs.Files.{store_of, schema_of, placed_of};
+ghost use Rattle.ncc_write.specs.Planned.{IsPlanned};
+ghost use Rattle.ncc_convert.specs.Lines.{converted_line, plan_line};
+ghost use Rattle.ncc_engines.specs.Converting.{IsRefusalLine, HasConvertedFront, HasRefusalFront};
+ghost use Rattle.ncc_lines.specs.Sends.{PutsFront};
+ghost use Rattle.ncc_engines.specs.Planning.{IsAgainst, IsConvertible, HaltsLine};
+ghost use Rattle.ncc_making.specs.Making.{in_version, IsFileOf, IsConverted, FewCalls};
+ghost use Rattle.ncc_making.specs.Names.{NameElapses, Rests, MayLeave, IsUnnamed, IsNoneOrWhole, IsPublished};
+
+use crate::closing::{close, make};
+use crate::entries::Entry;
+use crate::target::Target;
+use ncc_check::laws::appending::opens_as_one;
+use ncc_check::laws::passing_has_no_fault;
+use ncc_check::{NcFile, Refusal, open};
+use ncc_convert::laws::open_file_holds_a_dataset;
+use ncc_convert::send_converted;
+use ncc_engines::{Answer, answered, convert_engine, plan};
+use ncc_header::Sink;
+use ncc_lines::{Progress, send_file_fault};
+use ncc_store::{Device, Store};
+use ncc_values::Version;
+use ncc_write::Built;
+use std::alloc::Global;
+
+/// Writes what an open file holds into a new file, by a schema that was planned for it. Where it passed the file has
+/// the name and is on the disk; else it is taken away again, as far as that can be done.
+fn convert_into<S: Store, T: Target, P: Progress>(
+    alloc: Global,
+    file: &mut NcFile<S>,
+    built: Built,
+    target: &mut T,
+    progress: &mut P,
+) -> Answer
+    requires planned { IsPlanned (schema_of file.old) (placed_of file.old) (planned_schema built) }
+    ensures unrefused { result ≢ Answer.Refused }
+    ensures made { IsTrue T.tells_bytes → result ≡ Answer.Passed → IsFileOf S.tells_bytes
+        (S.bytes (store_of file.old)) (placed_of file.old) (planned_schema built) (T.named target.new) }
+    ensures durable { result ≡ Answer.Passed
+        → (c : Option (List ℕ)) → T.names target.new c → c ≡ T.named target.new }
+    ensures settled { result ≡ Answer.Passed → IsPublished (T.entries target.new) }
+    ensures unnamed { IsTrue T.tells_bytes → result ≢ Answer.Passed
+        → IsUnnamed (T.named target.old) (T.named target.new) (IsFileOf S.tells_bytes (S.bytes (store_of file.old))
+        (placed_of file.old) (planned_schema built)) (T.entries target.new) }
+    ensures spared { result ≡ Answer.Memory → T.named target.new ≡ T.named target.old }
+    ensures names { IsTrue T.tells_bytes → NameElapses T.names T.moment T.names_since target.old target.new
+        (MayLeave (T.names target.old) (IsFileOf S.tells_bytes (S.bytes (store_of file.old)) (placed_of file.old)
+        (planned_schema built)) (T.entries target.new)) }
+    ensures no_part { (T.entries target.old).part ≢ Entry.Made → (T.entries target.new).part ≢ Entry.Made }
+    ensures no_name { result ≢ Answer.Passed
+        → (T.entries target.old).name ≢ Entry.Made → (T.entries target.new).name ≢ Entry.Made }
+    ensures occupied { IsSome (T.named target.old) → (result ≡ Answer.Device) × (file.new ≡ file.old)
+        × Rests T.named T.names T.moment T.names_since T.entries T.makes target.old target.new }
+    ensures once { T.makes target.new ≤ T.makes target.old + 1 }
+    ensures quiet { result ≢ Answer.Device → (S.failures (store_of file.new) ≡ S.failures (store_of file.old))
+        × (T.failures target.new ≡ T.failures target.old) }
+    ensures device { result ≡ Answer.Device → Rose (S.failures (store_of file.old)) (S.failures (store_of file.new))
+        ⊎ Rose (T.failures target.old) (T.failures target.new) }
+    ensures unmoved { Unmoved S.bytes S.images S.moment S.images_since (store_of file.old) (store_of file.new) }
+    ensures kept { KeepsImages (S.images (store_of file.old)) (S.images (store_of file.new)) }
+    ensures calls { S.calls (store_of file.new) ≤ S.calls (store_of file.old)
+        + pieces_of (planned_schema built) (slabs_of (planned_schema built)) }
+    ensures reach { S.reach (store_of file.new)
+        ≤ max (S.reach (store_of file.old)) (file_length_of (placed_of file.old)) }
+{
+    let Ok(out) = make(target) else {
+        return Answer::Device;
+    };
+    let (out, answer) = convert_engine(alloc, file, built, out, progress);
+    let passed = answer == Answer::Passed;
+    match close(target, out, passed) {
+        Ok(()) => answer,
+        Err(Device) => Answer::Device,
+    }
+}
+
+/// Converts an open file, and writes the line that says so; or the line of what is against it, and then there is no new
+/// file.
+fn convert_file<S: Store, T: Target, W: Sink, P: Progress>(
+    alloc: Global,
+    file: &mut NcFile<S>,
+    version: Version,
+    target: &mut T,
+    sink: &mut W,
+    progress: &mut P,
+) -> Answer
+    ensures made { IsTrue T.tells_bytes → result ≡ Answer.Passed
+        → IsFileOf S.tells_bytes (S.bytes (store_of file.old)) (placed_of file.old)
+        (in_version version (schema_of file.old) (placed_of file.old)) (T.named target.new) }
+    ensures durable { result ≡ Answer.Passed
+        → (c : Option (List ℕ)) → T.names target.new c → c ≡ T.named target.new }
+    ensures settled { result ≡ Answer.Passed → IsPublished (T.entries target.new) }
+    ensures unnamed { IsTrue T.tells_bytes → result ≢ Answer.Passed
+        → IsUnnamed (T.named target.old) (T.named target.new) (IsFileOf S.tells_bytes (S.bytes (store_of file.old))
+        (placed_of file.old) (in_version version (schema_of file.old) (placed_of file.old))) (T.entries target.new)
+        ⊎ (Rose (W.failures sink.old) (W.failures sink.new) × IsFileOf S.tells_bytes (S.bytes (store_of file.old))
+        (placed_of file.old) (in_version version (schema_of file.old) (placed_of file.old)) (T.named target.new)) }
+    ensures names { IsTrue T.tells_bytes → NameElapses T.names T.moment T.names_since target.old target.new
+        (MayLeave (T.names target.old) (IsFileOf S.tells_bytes (S.bytes (store_of file.old)) (placed_of file.old)
+        (in_version version (schema_of file.old) (placed_of file.old))) (T.entries target.new)) }
+    ensures no_part { (T.entries target.old).part ≢ Entry.Made → (T.entries target.new).part ≢ Entry.Made }
+    ensures no_name { result ≢ Answer.Passed → (T.entries target.old).name ≢ Entry.Made
+        → ((T.entries target.new).name ≢ Entry.Made) ⊎ Rose (W.failures sink.old) (W.failures sink.new) }
+    ensures occupied { IsSome (T.named target.old) → (result ≢ Answer.Passed) × (file.new ≡ file.old)
+        × Rests T.named T.names T.moment T.names_since T.entries T.makes target.old target.new }
+    ensures unmade { (f : WriteFault) → IsAgainst version (schema_of file.old) (records_of_file (placed_of file.old)) f
+        → (target.new ≡ target.old) × (file.new ≡ file.old) }
+    ensures spared { result ≡ Answer.Memory → T.named target.new ≡ T.named target.old }
+    ensures once { T.makes target.new ≤ T.makes target.old + 1 }
+    ensures convertible { result ≡ Answer.Passed
+        → IsConvertible version (schema_of file.old) (records_of_file (placed_of file.old)) }
+    ensures passed { result ≡ Answer.Passed → Puts (W.put sink.old) (W.put sink.new) (converted_line version) }
+    ensures refused { result ≡ Answer.Refused → (f : WriteFault)
+        × IsAgainst version (schema_of file.old) (records_of_file (placed_of file.old)) f
+        × Puts (W.put sink.old) (W.put sink.new) (plan_line f) }
+    ensures order { (f : WriteFault) → IsAgainst version (schema_of file.old) (records_of_file (placed_of file.old)) f
+        → result ≡ Answer.Device → Rose (W.failures sink.old) (W.failures sink.new) }
+    ensures memory { result ≡ Answer.Memory → (W.put sink.new ≡ W.put sink.old) ⊎ ((f : WriteFault)
+        × IsAgainst version (schema_of file.old) (records_of_file (placed_of file.old)) f
+        × PutsFront (W.put sink.old) (W.put sink.new) (plan_line f)) }
+    ensures halted { result ≡ Answer.Device → (W.put sink.new ≡ W.put sink.old) ⊎ HaltsLine version
+        (schema_of file.old) (records_of_file (placed_of file.old)) (W.put sink.old) (W.put sink.new) }
+    ensures printed { result ≡ Answer.Device
+        → (W.put sink.new ≡ W.put sink.old) ⊎ Rose (W.failures sink.old) (W.failures sink.new) }
+    ensures quiet { result ≢ Answer.Device → (S.failures (store_of file.new) ≡ S.failures (store_of file.old))
+        × (T.failures target.new ≡ T.failures target.old) × (W.failures sink.new ≡ W.failures sink.old) }
+    ensures device { result ≡ Answer.Device → Rose (S.failures (store_of file.old)) (S.failures (store_of file.new))
+        ⊎ Rose (T.failures target.old) (T.failures target.new) ⊎ Rose (W.failures sink.old) (W.failures sink.new) }
+    ensures still { (S.failures (store_of file.new) ≡ S.failures (store_of file.old) → ⊥)
+        ⊎ (T.failures target.new ≡ T.failures target.old → ⊥) → W.calls sink.new ≡ W.calls sink.old }
+    ensures unmoved { Unmoved S.bytes S.images S.moment S.images_since (store_of file.old) (store_of file.new) }
+    ensures kept { KeepsImages (S.images (store_of file.old)) (S.images (store_of file.new)) }
+    ensures calls { S.calls (store_of file.new) ≤ S.calls (store_of file.old)
+        + pieces_of (in_version version (schema_of file.old) (placed_of file.old))
+        (slabs_of (in_version version (schema_of file.old) (placed_of file.old))) }
+    ensures reach { S.reach (store_of file.new)
+        ≤ max (S.reach (store_of file.old)) (file_length_of (placed_of file.old)) }
+{
+    let built = match plan(alloc, file, version, sink) {
+        Ok(built) => built,
+        Err(answer) => return answer,
+    };
+    let answer = convert_into(alloc, file, built, target, progress);
+    progress.end();
+    match answer {
+        Answer::Passed => answered(send_converted(version, sink), Answer::Passed),
+        answer => answer,
+    }
+}
+
+/// The line of a file that can't be opened, and what that comes to.
+fn refused<W: Sink>(alloc: Global, refusal: Refusal, sink: &mut W) -> Answer
+    ensures passed { result ≢ Answer.Passed }
+    ensures quiet { result ≢ Answer.Device → W.failures sink.new ≡ W.failures sink.old }
+    ensures device { result ≡ Answer.Device
+        → (refusal ≡ Refusal.Device) ⊎ Rose (W.failures sink.old) (W.failures sink.new) }
+    ensures store { refusal ≡ Refusal.Device → (result ≡ Answer.Device) × (sink.new ≡ sink.old) }
+    ensures told { result ≡ Answer.Refused → (f : FileFault) × (refusal ≡ Refusal.Fault f)
+        × Puts (W.put sink.old) (W.put sink.new) (file_fault_line f) }
+    ensures halted { result ≢ Answer.Refused → (W.put sink.new ≡ W.put sink.old) ⊎ ((f : FileFault)
+        × (refusal ≡ Refusal.Fault f) × PutsFront (W.put sink.old) (W.put sink.new) (file_fault_line f)) }
+    ensures fault { (f : FileFault) → refusal ≡ Refusal.Fault f → result ≡ Answer.Device
+        → Rose (W.failures sink.old) (W.failures sink.new) }
+{
+    match refusal {
+        Refusal::Fault(fault) => answered(send_file_fault(alloc, fault, sink), Answer::Refused),
+        Refusal::Device => Answer::Device,
+        Refusal::Memory => Answer::Memory,
+    }
+}
+
+/// Opens a store and converts its file; or writes the line of the file's fault. Whatever stops it, no file has the name,
+/// or the whole one. `Device` comes where the store, the target or the sink failed, also where a file has the name.
+pub fn convert_store<S: Store + Drop, T: Target, W: Sink, P: Progress>(
+    alloc: Global,
+    store: S,
+    limit: u64,
+    version: Version,
+    target: &mut T,
+    sink: &mut W,
+    progress: &mut P,
+) -> (S, Answer)
+    ensures made { IsTrue S.tells_bytes → IsTrue T.tells_bytes → result.1 ≡ Answer.Passed
+        → IsConverted S.tells_bytes (S.bytes store) limit version (T.named target.new) }
+    ensures durable { result.1 ≡ Answer.Passed
+        → (c : Option (List ℕ)) → T.names target.new c → c ≡ T.named target.new }
+    ensures settled { result.1 ≡ Answer.Passed → IsPublished (T.entries target.new) }
+    ensures any_moment { IsTrue S.tells_bytes → IsTrue T.tells_bytes
+        → ((c : Option (List ℕ)) → T.names target.old c → c ≡ None)
+        → (c : Option (List ℕ)) → T.names_since target.new (T.moment target.old) c
+        → IsNoneOrWhole (IsConverted S.tells_bytes (S.bytes store) limit version) (T.entries target.new) c }
+    ensures whatever_was_pending { IsTrue S.tells_bytes → IsTrue T.tells_bytes
+        → (c : Option (List ℕ)) → T.names_since target.new (T.moment target.old) c → MayLeave (T.names target.old)
+        (IsConverted S.tells_bytes (S.bytes store) limit version) (T.entries target.new) c }
+    ensures unnamed { IsTrue S.tells_bytes → IsTrue T.tells_bytes → result.1 ≢ Answer.Passed
+        → IsUnnamed (T.named target.old) (T.named target.new)
+        (IsConverted S.tells_bytes (S.bytes store) limit version) (T.entries target.new)
+        ⊎ (Rose (W.failures sink.old) (W.failures sink.new)
+        × IsConverted S.tells_bytes (S.bytes store) limit version (T.named target.new)) }
+    ensures no_part { (T.entries target.old).part ≢ Entry.Made → (T.entries target.new).part ≢ Entry.Made }
+    ensures no_name { result.1 ≢ Answer.Passed → (T.entries target.old).name ≢ Entry.Made
+        → ((T.entries target.new).name ≢ Entry.Made) ⊎ Rose (W.failures sink.old) (W.failures sink.new) }
+    ensures occupied { IsSome (T.named target.old) → (result.1 ≢ Answer.Passed)
+        × Rests T.named T.names T.moment T.names_since T.entries T.makes target.old target.new }
+    ensures occupied_calls { IsTrue S.tells_bytes → IsSome (T.named target.old)
+        → S.calls result.0 ≤ S.calls store + calls_for (length (S.bytes store)) limit }
+    ensures unmade { result.1 ≡ Answer.Refused → target.new ≡ target.old }
+    ensures unmade_where_refused { IsTrue S.tells_bytes → (text : List ℕ)
+        → IsRefusalLine (S.bytes store) limit version text → target.new ≡ target.old }
+    ensures spared { result.1 ≡ Answer.Memory → T.named target.new ≡ T.named target.old }
+    ensures once { T.makes target.new ≤ T.makes target.old + 1 }
+    ensures convertible { IsTrue S.tells_bytes → result.1 ≡ Answer.Passed → (s : Schema) × (p : Placed)
+        × Opens (S.bytes store) limit s p × IsConvertible version s (records_of_file p) }
+    ensures passed { result.1 ≡ Answer.Passed → Puts (W.put sink.old) (W.put sink.new) (converted_line version) }
+    ensures printed { result.1 ≡ Answer.Device
+        → (W.put sink.new ≡ W.put sink.old) ⊎ Rose (W.failures sink.old) (W.failures sink.new) }
+    ensures quiet { result.1 ≢ Answer.Device → (S.failures result.0 ≡ S.failures store)
+        × (T.failures target.new ≡ T.failures target.old) × (W.failures sink.new ≡ W.failures sink.old) }
+    ensures device { result.1 ≡ Answer.Device → Rose (S.failures store) (S.failures result.0)
+        ⊎ Rose (T.failures target.old) (T.failures target.new) ⊎ Rose (W.failures sink.old) (W.failures sink.new) }
+    ensures still { (S.failures result.0 ≡ S.failures store → ⊥)
+        ⊎ (T.failures target.new ≡ T.failures target.old → ⊥) → W.calls sink.new ≡ W.calls sink.old }
+    ensures unmoved { Unmoved S.bytes S.images S.moment S.images_since store result.0 }
+    ensures kept { KeepsImages (S.images store) (S.images result.0) }
+    ensures calls { IsTrue S.tells_bytes → FewCalls (S.bytes store) limit version (S.calls store) (S.calls result.0) }
+    ensures calls_refused { IsTrue S.tells_bytes → (text : List ℕ) → IsRefusalLine (S.bytes store) limit version text
+        → S.calls result.0 ≤ S.calls store + calls_for (length (S.bytes store)) limit }
+    ensures reach { IsTrue S.tells_bytes
+        → S.reach result.0 ≤ max (S.reach store) (max limit (length (S.bytes store))) }
+    ensures refused { IsTrue S.tells_bytes → result.1 ≡ Answer.Refused → (text : List ℕ)
+        × Puts (W.put sink.old) (W.put sink.new) text × IsRefusalLine (S.bytes store) limit version text }
+    ensures memory { IsTrue S.tells_bytes → result.1 ≡ Answer.Memory → (W.put sink.new ≡ W.put sink.old)
+        ⊎ HasRefusalFront (S.bytes store) limit version (W.put sink.old) (W.put sink.new) }
+    ensures halted { IsTrue S.tells_bytes → result.1 ≡ Answer.Device → (W.put sink.new ≡ W.put sink.old)
+        ⊎ HasRefusalFront (S.bytes store) limit version (W.put sink.old) (W.put sink.new)
+        ⊎ HasConvertedFront (S.bytes store) limit version (W.put sink.old) (W.put sink.new) }
+{
+    passing_has_no_fault();
+    opens_as_one();
+    open_file_holds_a_dataset();
+    match open(alloc, store, limit) {
+        Ok(opened) => {
+            let mut file = opened;
+            let answer = convert_file(alloc, &mut file, version, target, sink, progress);
+            (file.into_store(), answer)
+        }
+        Err((store, refusal)) => {
+            let answer = refused(alloc, refusal, sink);
+            (store, answer)
+        }
+    }
+}

@@ -1,0 +1,7 @@
+-- A file of the disk.
+use Rattle.std.specs.Prelude.{Bool}
+use Rattle.ncc_store.specs.declared.disk_file.DiskFile.{DiskFile}
+
+-- it was opened for writing, which takes the lock, and no write and no sync failed
+abbrev pub is_writable : DiskFile → Bool
+is_writable f = f.writable
