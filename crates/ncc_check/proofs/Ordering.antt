@@ -1,15 +1,17 @@
 -- Notes in order, each once.
-use Rattle.std.proofs.Common.{◌≡◌, ℕ, zero, suc, ◌+◌, ◌<◌, ◌≤◌, Bool, true, false, List, [], ◌∷◌, refl, sym, ap, subst, ◌∙◌, ◌⊎◌, inl, inr, arith, leb}
-use Rattle.std.specs.Prelude.{Contains, if◌then◌else◌}
-use Rattle.std.specs.List.{AllByRecursion}
+use Rattle.std.proofs.Common.{◌≡◌, ℕ, zero, suc, ◌<◌, ◌≤◌, Bool, true, false, List, [], ◌∷◌, refl, sym, ap, subst, ◌∙◌, ◌⊎◌, inl, inr, arith, cond, true≢false}
+use Rattle.std.specs.Prelude.{Contains}
+use Rattle.std.specs.List.{AllByRecursion, dedup, dedup_from}
+use Rattle.std.specs.List.Retain.{IsFiltered, DiffersFromLast}
 use Rattle.std.specs.List.Sorted.{IsNonDecreasingBy, IsPermutation}
-use Rattle.std.proofs.lemmas.Bool.{cases_lt, leb-true, leb-false}
+use Rattle.std.proofs.lemmas.Bool.{cases_lt}
+use Rattle.std.proofs.lemmas.List.Filters.{dedup_is}
 use Rattle.std.proofs.lemmas.List.Sorted.{Contains-permutation, IsPermutation-sym}
 use Rattle.ncc_check.specs.declared.note.Note.{Note}
 use Rattle.ncc_check.specs.declared.note.NoteKind.{NoteKind}
 use Rattle.ncc_check.specs.declared.note.NoteKind.TheVariants.{VsizeField, HeaderPadding, TaggedEmpty, NameRule, DuplicateName, UnalignedBegin, Order, LargeCount}
 use Rattle.ncc_check.specs.Notes.{rank, Precedes, AreInOrder}
-use Rattle.ncc_check.specs.Noting.{SameInOrder, distinct_from, key_of}
+use Rattle.ncc_check.specs.Noting.{SameInOrder, key_of}
 
 -- membership by recursion
 abbrev In : List Note → Note → Type 0
@@ -86,63 +88,77 @@ precedes m n less = by (cases_lt m.offset n.offset)
         let same : m.offset ≡ n.offset = omega (arith, h, less, small_rank m.kind, small_rank n.kind) in
         inr (same, omega (arith, same, less))
 
--- ---- the first note, kept or not
+-- ---- notes that are dropped where they follow the same one
 
-abbrev Pick : Bool → (next : ℕ) → Note → List Note → List Note
-Pick b next n ns = if b then n ∷ distinct_from (key_of n + 1) ns else distinct_from next ns
+module _ (E : Note → Note → Bool) (is_same : (m n : Note) → E m n ≡ true → m ≡ n) (is_itself : (n : Note) → E n n ≡ true) where
+  abbrev Next : Bool → (k n : Note) → List Note → List Note
+  Next b k n ns = cond b (dedup_from E k ns) (k ∷ dedup_from E n ns)
 
-from_by : (b : Bool) (next : ℕ) (n : Note) (ns : List Note) (m : Note) → (In (distinct_from (key_of n + 1) ns) m → In ns m) → (In (distinct_from next ns) m → In ns m) → In (Pick b next n ns) m → In (n ∷ ns) m
-from_by true next n ns m f g (inl e) = inl e
-from_by true next n ns m f g (inr h) = inr (f h)
-from_by false next n ns m f g h = inr (g h)
+  skip : (k n m : Note) (ns : List Note) → In (k ∷ ns) m → In (k ∷ n ∷ ns) m
+  skip k n m ns (inl e) = inl e
+  skip k n m ns (inr h) = inr (inr h)
 
-from : (next : ℕ) (ns : List Note) (m : Note) → In (distinct_from next ns) m → In ns m
-from next [] m h = h
-from next (n ∷ ns) m h = from_by (leb next (key_of n)) next n ns m (from (key_of n + 1) ns m) (from next ns m) h
+  from_by : (b : Bool) (k n m : Note) (ns : List Note) → (In (dedup_from E k ns) m → In (k ∷ ns) m) → (In (dedup_from E n ns) m → In (n ∷ ns) m) → In (Next b k n ns) m → In (k ∷ n ∷ ns) m
+  from_by true k n m ns f g h = skip k n m ns (f h)
+  from_by false k n m ns f g (inl e) = inl e
+  from_by false k n m ns f g (inr h) = inr (g h)
 
--- a note after the first, of its key or a greater one
-behind : (n m : Note) (kept : List Note) → key_of n ≤ key_of m → (key_of n + 1 ≤ key_of m → In kept m) → (key_of n < key_of m) ⊎ (key_of m ≤ key_of n) → In (n ∷ kept) m
-behind n m kept order f (inl less) = inr (f (omega (arith, less)))
-behind n m kept order f (inr le) = inl (one_note n m (omega (arith, le, order)))
+  from : (k m : Note) (ns : List Note) → In (dedup_from E k ns) m → In (k ∷ ns) m
+  from k m [] h = h
+  from k m (n ∷ ns) h = from_by (E n k) k n m ns (from k m ns) (from n m ns) h
 
-all_by : (b : Bool) (next : ℕ) (n : Note) (ns : List Note) (m : Note) → leb next (key_of n) ≡ b → ((k : Note) → In ns k → key_of n ≤ key_of k)
-    → (In ns m → key_of n + 1 ≤ key_of m → In (distinct_from (key_of n + 1) ns) m) → (In ns m → next ≤ key_of m → In (distinct_from next ns) m)
-    → In (n ∷ ns) m → next ≤ key_of m → In (Pick b next n ns) m
-all_by true next n ns m e order f g (inl is) low = inl is
-all_by true next n ns m e order f g (inr h) low = behind n m (distinct_from (key_of n + 1) ns) (order m h) (f h) (cases_lt (key_of n) (key_of m))
-all_by false next n ns m e order f g (inl is) low = let less = leb-false next (key_of n) e in let le = subst (λ (k : Note). next ≤ key_of k) (sym is) low in absurd (omega (arith, less, le))
-all_by false next n ns m e order f g (inr h) low = g h low
+  all_by : (b : Bool) (k n m : Note) (ns : List Note) → E n k ≡ b → (In (k ∷ ns) m → In (dedup_from E k ns) m) → (In (n ∷ ns) m → In (dedup_from E n ns) m) → In (k ∷ n ∷ ns) m → In (Next b k n ns) m
+  all_by true k n m ns e f g (inl is) = f (inl is)
+  all_by true k n m ns e f g (inr (inl is)) = f (inl (sym (is_same n k e) ∙ is))
+  all_by true k n m ns e f g (inr (inr h)) = f (inr h)
+  all_by false k n m ns e f g (inl is) = inl is
+  all_by false k n m ns e f g (inr h) = inr (g h)
 
-all : (next : ℕ) (ns : List Note) → Sorted ns → (m : Note) → In ns m → next ≤ key_of m → In (distinct_from next ns) m
-all next [] order m h low = h
-all next (n ∷ ns) order m h low = all_by (leb next (key_of n)) next n ns m refl order.0 (all (key_of n + 1) ns order.1 m) (all next ns order.1 m) h low
+  all : (k m : Note) (ns : List Note) → In (k ∷ ns) m → In (dedup_from E k ns) m
+  all k m [] h = h
+  all k m (n ∷ ns) h = all_by (E n k) k n m ns refl (all k m ns) (all n m ns) h
 
-low_by : (b : Bool) (next : ℕ) (n : Note) (ns : List Note) (m : Note) → leb next (key_of n) ≡ b → (In (distinct_from (key_of n + 1) ns) m → key_of n + 1 ≤ key_of m) → (In (distinct_from next ns) m → next ≤ key_of m) → In (Pick b next n ns) m → next ≤ key_of m
-low_by true next n ns m e f g (inl is) = subst (λ (k : Note). next ≤ key_of k) is (leb-true next (key_of n) e)
-low_by true next n ns m e f g (inr h) = let above = f h in let first = leb-true next (key_of n) e in omega (arith, above, first)
-low_by false next n ns m e f g h = g h
+  -- the first note of a list in order is the least
+  least : (n m : Note) (ns : List Note) → Sorted (n ∷ ns) → In (n ∷ ns) m → key_of n ≤ key_of m
+  least n m ns order (inl is) = subst (λ (x : Note). key_of n ≤ key_of x) is (omega arith)
+  least n m ns order (inr h) = order.0 m h
 
-low : (next : ℕ) (ns : List Note) (m : Note) → In (distinct_from next ns) m → next ≤ key_of m
-low next [] m h = absurd h
-low next (n ∷ ns) m h = low_by (leb next (key_of n)) next n ns m refl (low (key_of n + 1) ns m) (low next ns m) h
+  -- another one after it is greater
+  greater : (k n : Note) → key_of k ≤ key_of n → E n k ≡ false → (key_of k < key_of n) ⊎ (key_of n ≤ key_of k) → key_of k < key_of n
+  greater k n le other (inl less) = less
+  greater k n le other (inr ge) =
+      let same : n ≡ k = one_note n k (omega (arith, le, ge)) in
+      absurd (true≢false (sym (is_itself k) ∙ ap (λ (x : Note). E x k) (sym same) ∙ other))
 
-each : (n : Note) (ns : List Note) → ((m : Note) → In ns m → Precedes n m) → AllByRecursion (Precedes n) ns
-each n [] h = tt
-each n (m ∷ ns) h = (h m (inl refl), each n ns (λ k t. h k (inr t)))
+  each : (n : Note) (ns : List Note) → ((m : Note) → In ns m → Precedes n m) → AllByRecursion (Precedes n) ns
+  each n [] h = tt
+  each n (m ∷ ns) h = (h m (inl refl), each n ns (λ k t. h k (inr t)))
 
-order_by : (b : Bool) (next : ℕ) (n : Note) (ns : List Note) → AreInOrder (distinct_from (key_of n + 1) ns) → AreInOrder (distinct_from next ns) → AreInOrder (Pick b next n ns)
-order_by true next n ns a b = (each n (distinct_from (key_of n + 1) ns) (λ m h. let above = low (key_of n + 1) ns m h in precedes n m (omega (arith, above))), a)
-order_by false next n ns a b = b
+  order_by : (b : Bool) (k n : Note) (ns : List Note) → E n k ≡ b → Sorted (k ∷ n ∷ ns) → AreInOrder (dedup_from E k ns) → AreInOrder (dedup_from E n ns) → AreInOrder (Next b k n ns)
+  order_by true k n ns e order f g = f
+  order_by false k n ns e order f g =
+      let above = greater k n (order.0 n (inl refl)) e (cases_lt (key_of k) (key_of n)) in
+      (each k (dedup_from E n ns) (λ m h. let le = least n m ns order.1 (from n m ns h) in precedes k m (omega (arith, above, le))), g)
 
-ordered : (next : ℕ) (ns : List Note) → AreInOrder (distinct_from next ns)
-ordered next [] = tt
-ordered next (n ∷ ns) = order_by (leb next (key_of n)) next n ns (ordered (key_of n + 1) ns) (ordered next ns)
+  ordered : (k : Note) (ns : List Note) → Sorted (k ∷ ns) → AreInOrder (dedup_from E k ns)
+  ordered k [] order = (tt, tt)
+  ordered k (n ∷ ns) order = order_by (E n k) k n ns refl order (ordered k ns ((λ m h. order.0 m (inr h)), order.1.1)) (ordered n ns order.1)
 
-pub same_in_order : (notes ns kept : List Note) → IsPermutation notes ns → IsNonDecreasingBy key_of ns → kept ≡ distinct_from 0 ns → SameInOrder notes kept
-same_in_order notes ns kept p order e =
-    let kept_of = λ (n : Note) (h : Contains kept n). in_from_contains (distinct_from 0 ns) n (subst (λ xs. Contains xs n) e h) in
-    record {
-      from = λ n h. Contains-permutation ns notes n (IsPermutation-sym notes ns p) (contains_from_in ns n (from 0 ns n (kept_of n h)));
-      all = λ n h. subst (λ xs. Contains xs n) (sym e) (contains_from_in (distinct_from 0 ns) n (all 0 ns (sorted ns order) n (in_from_contains ns n (Contains-permutation notes ns n p h)) (omega arith)));
-      in_order = subst AreInOrder (sym e) (ordered 0 ns);
-    }
+  whole : (ns : List Note) → Sorted ns → SameInOrder ns (dedup E ns)
+  whole [] order = record { from = λ n h. h; all = λ n h. h; in_order = tt }
+  whole (k ∷ ns) order = record {
+    from = λ n h. contains_from_in (k ∷ ns) n (from k n ns (in_from_contains (dedup_from E k ns) n h));
+    all = λ n h. contains_from_in (dedup_from E k ns) n (all k n ns (in_from_contains (k ∷ ns) n h));
+    in_order = ordered k ns order;
+  }
+
+  -- notes that were sorted, and each kept where it differs from the last one kept
+  pub same_in_order : (notes ns kept : List Note) → IsPermutation notes ns → IsNonDecreasingBy key_of ns → IsFiltered (DiffersFromLast E) [] ns kept → SameInOrder notes kept
+  same_in_order notes ns kept p order filtered =
+      let all_of = whole ns (sorted ns order) in
+      let e = dedup_is E ns kept filtered in
+      record {
+        from = λ n h. Contains-permutation ns notes n (IsPermutation-sym notes ns p) (all_of.from n (subst (λ xs. Contains xs n) e h));
+        all = λ n h. subst (λ xs. Contains xs n) (sym e) (all_of.all n (Contains-permutation notes ns n p h));
+        in_order = subst AreInOrder (sym e) all_of.in_order;
+      }

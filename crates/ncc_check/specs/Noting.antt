@@ -1,7 +1,8 @@
 -- The notes of a header list by list, as they are found.
-use Rattle.std.specs.Prelude.{◌≡◌, ℕ, ◌+◌, ◌<◌, ◌-◌, ◌*◌, ◌%◌, ◌≢◌, ◌≤◌, ◌⊎◌, Bool, List, [], ◌∷◌, ◌++◌, length, map, drop, get_or, slice_get, Some, Contains, if◌then◌else◌, nat_le}
+use Rattle.std.specs.Prelude.{◌≡◌, ℕ, ◌+◌, ◌<◌, ◌-◌, ◌*◌, ◌%◌, ◌≢◌, ◌≤◌, ◌⊎◌, Bool, true, false, List, [], ◌∷◌, ◌++◌, length, map, drop, get_or, slice_get, Some, Contains, if◌then◌else◌}
 use Rattle.std.specs.Borrow.{Bor}
 use Rattle.ncc_values.specs.Name.{FitsAsName}
+use Rattle.ncc_values.specs.Numbers.{number_of}
 use Rattle.ncc_values.specs.Version.{count_width_of}
 use Rattle.ncc_values.specs.declared.version.Version.{Version}
 use Rattle.ncc_schema.specs.declared.schema.Attr.{Attr}
@@ -72,6 +73,17 @@ IsRepeated names k name = (j : ℕ) × (j < k) × (get_or names j [] ≡ name)
 
 abbrev pub Repeated : (names : List (List ℕ)) (offsets : List ℕ) → ℕ → Note → Type 0
 Repeated names offsets k n = NoteIf (IsRepeated names k (get_or names k [])) DuplicateName (get_or offsets k 0) n
+
+-- the last bytes of a name as a number, 8 of them at most
+abbrev pub key_of_name : List ℕ → ℕ
+key_of_name name = number_of (drop (length name - 8) name)
+
+abbrev pub keys_in : List Named → List ℕ
+keys_in xs = map (λ x. key_of_name x.name.now) xs
+
+-- the first n of these keys have taken their slots, of 61
+abbrev pub AreTaken : (keys : List ℕ) (n : ℕ) (taken : List Bool) → Type 0
+AreTaken keys n taken = (j : ℕ) → j < n → get_or taken (get_or keys j 0 % 61) false ≡ true
 
 -- the notes of a list of names
 abbrev pub NameNotes : (names : List (List ℕ)) (offsets : List ℕ) → Note → Type 0
@@ -188,11 +200,6 @@ pub record SameInOrder (notes ordered : List Note) : Type 0 where
   pub from : (n : Note) → Contains ordered n → Contains notes n
   pub all : (n : Note) → Contains notes n → Contains ordered n
   pub in_order : AreInOrder ordered
-
--- of notes in the order of their keys, each at its first place, from this key on
-abbrev pub distinct_from : (next : ℕ) → List Note → List Note
-distinct_from next [] = []
-distinct_from next (n ∷ ns) = if nat_le next (key_of n) then n ∷ distinct_from (key_of n + 1) ns else distinct_from next ns
 
 -- ---- a table of names
 

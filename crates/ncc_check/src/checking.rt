@@ -1,10 +1,11 @@
 //! The verdict on a file.
 
-ghost use Rattle.std.specs.Prelude.{ℕ, IfOk, ◌+◌, ◌≤◌, max, length, IsTrue, OnOk};
+ghost use Rattle.std.specs.Prelude.{◌≡◌, ℕ, IfOk, ◌+◌, ◌≤◌, max, length, IsTrue, OnOk};
 ghost use Rattle.ncc_store.specs.Store.{Unmoved, KeepsImages};
 ghost use Rattle.ncc_check.specs.Passes.{HasOwnElements};
 ghost use Rattle.ncc_check.specs.Checks.{Checks, CountsAs, Reports};
 ghost use Rattle.ncc_check.specs.FromStore.{calls_for, IsBegun};
+ghost use Rattle.ncc_layout.specs.Placed.{records_of_file};
 ghost use Rattle.ncc_schema.specs.declared.schema.Header.{Header as TheHeader};
 
 use crate::examining::examine;
@@ -12,9 +13,17 @@ use crate::fault::Refusal;
 use crate::laws::passing_elements_are_apart;
 use crate::notes::notes_of;
 use crate::report::Report;
+use ncc_layout::Placed;
 use ncc_store::Store;
 use ncc_values::Seq;
 use std::alloc::Global;
+
+/// The number of records. The places are dropped: the notes don't need them.
+fn records_of(placed: Placed) -> u64
+    ensures { result ≡ records_of_file placed }
+{
+    placed.records()
+}
 
 /// Whether the file in a store passes: its header, of at most `limit` bytes, is one by the grammar,
 /// and all layout rules hold. Then its report, with exactly the notes that are due; else its first
@@ -32,11 +41,13 @@ pub fn check<S: Store>(alloc: Global, store: &mut S, limit: u64) -> Result<Repor
 {
     passing_elements_are_apart();
     let found = examine(alloc, store, limit)?;
-    let notes = notes_of(alloc, &found.header, &found.sizes)?;
+    let (header, sizes) = (found.header, found.sizes);
+    let records = records_of(found.placed);
+    let notes = notes_of(alloc, &header, &sizes)?;
     Ok(Report {
-        version: found.header.schema.version,
-        records: found.placed.records(),
-        variables: found.header.schema.vars.len(),
+        version: header.schema.version,
+        records,
+        variables: header.schema.vars.len(),
         notes: Seq::from_vec(notes),
     })
 }

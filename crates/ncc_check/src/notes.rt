@@ -46,6 +46,5 @@ pub(crate) fn notes_of(
     note_globals(alloc, &header.schema, &mut notes)?;
     note_vars(alloc, &header.schema, &mut notes)?;
     note_places(header, sizes, &mut notes)?;
-    let ordered = in_order(alloc, notes)?;
-    Ok(ordered)
+    Ok(in_order(notes))
 }

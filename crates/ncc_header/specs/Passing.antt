@@ -1,7 +1,10 @@
 -- What stands whole at the front of a piece.
-use Rattle.std.specs.Prelude.{◌≡◌, ℕ, ◌+◌, ◌≤◌, List, ◌++◌, length}
+use Rattle.std.specs.Prelude.{◌≡◌, ℕ, ◌+◌, ◌-◌, ◌≤◌, List, [], ◌∷◌, ◌++◌, length, None}
 use Rattle.ncc_schema.specs.declared.schema.Mark.{Mark}
-use Rattle.ncc_header.specs.Fields.{bytes, padding}
+use Rattle.ncc_values.specs.Numbers.{number_of}
+use Rattle.ncc_values.specs.Version.{offset_width_of}
+use Rattle.ncc_values.specs.declared.version.Version.{Version}
+use Rattle.ncc_header.specs.Fields.{bytes, padding, begin_wrong}
 use Rattle.ncc_header.specs.Grammar.{Grammar, done, ◌>>=◌}
 use Rattle.ncc_header.specs.Left.{Given}
 use Rattle.ncc_header.specs.Reading.{course}
@@ -21,3 +24,18 @@ pub record Passes {A : Type 0} (g : Grammar A) (item : A) (piece after : List �
 -- so many bytes, and their padding
 abbrev pub padded : ℕ → Grammar (List ℕ)
 padded n = bytes n >>= λ text. padding n >>= λ zeros. done text
+
+-- The same of an item whose last field is a begin field, of this size in bytes.
+pub record PassesBegin {A : Type 0} (g : Grammar A) (item : A) (piece after : List ℕ) (size : ℕ) : Type 0 where
+  pub front : List ℕ
+  pub joined : piece ≡ front ++ after
+  pub long : size ≤ length front
+  pub goes_on : (next : A → Grammar Given) (limit at : ℕ) (shown : List Mark) (begun more : List ℕ) → at + length front ≤ limit
+      → course (g >>= next) limit at shown begun (front ++ more) ≡ course (next item) limit (at + length front) shown (begun ++ (at + length front - size) ∷ []) more
+
+-- the bytes of a begin field stand at the front of a piece, with nothing to refuse
+pub record StartsWithBegin (v : Version) (n : ℕ) (piece after : List ℕ) : Type 0 where
+  pub front : List ℕ
+  pub starts : StartsWith piece front (offset_width_of v) after
+  pub is : n ≡ number_of front
+  pub right : begin_wrong v n ≡ None

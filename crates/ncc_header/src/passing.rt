@@ -1,10 +1,10 @@
 //! What stands whole at the front of a piece, with nothing to mark or to refuse.
 
-ghost use Rattle.std.specs.Prelude.{◌≡◌, ℕ, ◌≤◌, ◌<◌, List, length, IfSome};
-ghost use Rattle.ncc_values.specs.Version.{count_width_of};
+ghost use Rattle.std.specs.Prelude.{◌≡◌, ℕ, ◌≤◌, ◌<◌, List, [], length, IfSome};
+ghost use Rattle.ncc_values.specs.Version.{count_width_of, offset_width_of};
 ghost use Rattle.ncc_values.specs.Numbers.{number_of};
-ghost use Rattle.ncc_header.specs.Fields.{name, nc_type, nelems};
-ghost use Rattle.ncc_header.specs.Passing.{Passes, StartsWith, padded};
+ghost use Rattle.ncc_header.specs.Fields.{attrs, name, nc_type, nelems, vsize};
+ghost use Rattle.ncc_header.specs.Passing.{Passes, StartsWith, StartsWithBegin, padded};
 
 use crate::judge;
 use ncc_values::{Version, XType, number, pad};
@@ -22,7 +22,7 @@ fn parted(piece: &[u8], n: u64) -> Option<(&[u8], &[u8])>
 
 /// The number whose bytes are these many, 1 to 8, and the bytes after them.
 #[inline]
-fn number_at(piece: &[u8], width: u64) -> Option<(u64, &[u8])>
+pub fn number_at(piece: &[u8], width: u64) -> Option<(u64, &[u8])>
     requires some { 0 < width }
     requires few { width ≤ 8 }
     ensures { IfSome result (λ r. (front : List ℕ) × StartsWith piece.now front width r.1.now
@@ -47,7 +47,7 @@ pub fn count(version: Version, piece: &[u8]) -> Option<(u64, &[u8])>
 
 /// A count, whatever number it is, and the bytes after it.
 #[inline]
-fn counted(version: Version, piece: &[u8]) -> Option<(u64, &[u8])>
+pub fn counted(version: Version, piece: &[u8]) -> Option<(u64, &[u8])>
     ensures { IfSome result (λ r. (front : List ℕ) × StartsWith piece.now front (count_width_of version) r.1.now
         × (r.0 ≡ number_of front)) }
 {
@@ -92,6 +92,55 @@ pub fn xtype(version: Version, piece: &[u8]) -> Option<(XType, &[u8])>
     let (code, after) = number_at(piece, 4)?;
     match judge::nc_type(version, code) {
         Ok(xtype) => Some((xtype, after)),
+        Err(_) => None,
+    }
+}
+
+/// vatt_list = ABSENT
+#[inline]
+pub fn no_attrs(version: Version, piece: &[u8]) -> Option<&[u8]>
+    ensures passes { IfSome result (λ after. Passes (attrs version) [] piece.now after.now) }
+    ensures less { IfSome result (λ after. length after.now ≤ length piece.now) }
+{
+    let (tag, rest) = number_at(piece, 4)?;
+    let (n, after) = counted(version, rest)?;
+    if tag != 0 || n != 0 {
+        return None;
+    }
+    Some(after)
+}
+
+/// vsize = NON_NEG, whatever number it is
+#[inline]
+pub fn size_field(version: Version, piece: &[u8]) -> Option<(u64, &[u8])>
+    ensures passes { IfSome result (λ r. Passes (vsize version) r.0 piece.now r.1.now) }
+    ensures less { IfSome result (λ r. length r.1.now ≤ length piece.now) }
+{
+    let (n, after) = counted(version, piece)?;
+    Some((n, after))
+}
+
+/// An offset, whatever number it is, and the bytes after it.
+#[inline]
+fn offset_at(version: Version, piece: &[u8]) -> Option<(u64, &[u8])>
+    ensures { IfSome result (λ r. (front : List ℕ) × StartsWith piece.now front (offset_width_of version) r.1.now
+        × (r.0 ≡ number_of front)) }
+{
+    match version {
+        Version::V1 => number_at(piece, 4),
+        Version::V2 | Version::V5 => number_at(piece, 8),
+    }
+}
+
+/// begin = OFFSET
+#[inline]
+pub fn begin_field(version: Version, piece: &[u8]) -> Option<(u64, &[u8])>
+    ensures starts { IfSome result (λ r. StartsWithBegin version r.0 piece.now r.1.now) }
+    ensures less { IfSome result (λ r. length r.1.now ≤ length piece.now) }
+{
+    let (n, after) = offset_at(version, piece)?;
+    match judge::begin(version, n) {
+        Ok(()) => Some((n, after)),
         Err(_) => None,
     }
 }

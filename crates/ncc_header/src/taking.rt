@@ -13,6 +13,7 @@ use crate::judge::push_mark;
 use crate::reading::Reading;
 use crate::step::step;
 use crate::whole_attr::{attr_begins, take_attr};
+use crate::whole_var::{take_var, var_begins};
 use arrayvec::ArrayVec;
 use ncc_schema::Mark;
 use std::alloc::Global;
@@ -215,6 +216,13 @@ fn take_some(
     ensures fails { IfErr result (FailsBehind reading.old rest.now) }
     ensures memory { result ≡ Err HeaderError.Memory → 12 ≤ reading.old.at }
 {
+    if var_begins(reading) {
+        return match take_var(alloc, reading, rest) {
+            Ok(Some(n)) => Ok(Some(n)),
+            Ok(None) => take_next(alloc, reading, rest),
+            Err(_) => Err(HeaderError::Memory),
+        };
+    }
     let Some(owner) = attr_begins(reading) else {
         return take_next(alloc, reading, rest);
     };

@@ -27,7 +27,7 @@ pub fn after_vars_tag(built: &Built, at: u64, front: &[u8]) -> Result<Next, Step
 }
 
 /// The variable that begins, or where none is left the end of the header.
-fn next_var(built: &mut Built) -> Next
+pub fn next_var(built: &mut Built) -> Next
     ensures left { left_of result built.new
         ≡ from_vars built.old.lists.parts (before_of built.old.lists.vars) built.old.lists.vars.left }
     ensures begins { begins_of result built.new.lists.vars ≡ begins_of_vars built.old.lists.vars }
@@ -141,7 +141,7 @@ fn whole_var(alloc: Global, lists: &mut Lists, xtype: XType) -> Var
 }
 
 /// Adds a variable and its place, or where there is no memory neither.
-fn add_var(vars: &mut Vars, var: Var, place: VarPlace) -> Result<(), AllocError>
+pub fn add_var(vars: &mut Vars, var: Var, place: VarPlace) -> Result<(), AllocError>
     ensures before { OnOk result (before_of vars.new ≡ before_of vars.old ++ (var, place_of place) ∷ []) }
     ensures begins { OnOk result (begins_of_vars vars.new ≡ begins_of_vars vars.old ++ place.begin_at ∷ []) }
     ensures left { vars.new.left ≡ vars.old.left }

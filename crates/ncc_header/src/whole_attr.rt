@@ -71,8 +71,7 @@ fn owned(alloc: Global, found: Found<'_>) -> Result<Attr, AllocError>
     }) }
 {
     let name = Name::from_slice(alloc, found.name)?;
-    let mut values = Values::new(alloc, found.xtype);
-    values.push_from(found.values)?;
+    let values = Values::of_bytes(alloc, found.xtype, found.values)?;
     Ok(Attr { name, values })
 }
 

@@ -32,6 +32,13 @@ can_begin c = is_ascii_alphanumeric c || c == underscore || is_multibyte c
 abbrev pub can_follow : ℕ → Bool
 can_follow c = (is_in_range space tilde c && not (c == slash)) || is_multibyte c
 
+-- those of them that are ASCII
+abbrev pub can_begin_plain : ℕ → Bool
+can_begin_plain c = is_ascii_alphanumeric c || c == underscore
+
+abbrev pub can_follow_plain : ℕ → Bool
+can_follow_plain c = is_in_range space tilde c && not (c == slash)
+
 -- the characters of a name: the first can begin it, each later one can follow, and the last is no space
 abbrev pub are_name_characters : List ℕ → Bool
 are_name_characters [] = false

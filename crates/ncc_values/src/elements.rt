@@ -7,7 +7,7 @@ use crate::external::External;
 use std::alloc::AllocError;
 
 /// Adds the elements that the bytes spell.
-pub(crate) fn push_elements<T: External + Drop>(
+pub(crate) fn push_elements<T: External + Copy + Default>(
     items: &mut Vec<T>,
     bytes: &[u8],
 ) -> Result<(), AllocError>
@@ -16,11 +16,10 @@ pub(crate) fn push_elements<T: External + Drop>(
     ensures err { OnErr result (items.new.items ≡ items.old.items) }
 {
     let count = bytes.len() / T::SIZE;
+    let start = items.len();
     items.reserve(count)?;
-    'elements: for i in 0..count {
-        let start = i * T::SIZE;
-        items.push(T::get(&bytes[start..start + T::SIZE]))?;
-    }
+    items.resize(start + count, T::default())?;
+    read_into(items, start, bytes);
     Ok(())
 }
 

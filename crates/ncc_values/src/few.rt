@@ -219,7 +219,7 @@ impl<T: Copy, const N: usize> Place<T, N> {
     }
 }
 
-impl<T: External + Copy, const N: usize> Place<T, N> {
+impl<T: External + Copy + Default, const N: usize> Place<T, N> {
     ghost use Rattle.ncc_values.specs.Few.{items_of, IsWithin, IsInline, EndsAt};
     ghost use Rattle.ncc_values.specs.Values.{elements_of};
 
@@ -280,8 +280,32 @@ impl<T: Drop, const N: usize> Few<T, N> {
     }
 }
 
-impl<T: External + Copy, const N: usize> Few<T, N> {
+impl<T: External + Copy + Default, const N: usize> Few<T, N> {
     ghost use Rattle.ncc_values.specs.Values.{elements_of, bytes_by};
+
+    /// The elements that the bytes spell. Few of them take no memory of the allocator.
+    #[inline]
+    pub(crate) fn of_bytes(alloc: Global, bytes: &[u8]) -> Result<Few<T, N>, AllocError>
+        requires { length bytes.now % T.SIZE ≡ 0 }
+        ensures ok { IfOk result (λ few. few ≡ elements_of T.element T.TYPE bytes.now) }
+        ensures few { length bytes.now / T.SIZE ≤ N → N < 256 → IsOk result }
+    {
+        let count = bytes.len() / T::SIZE;
+        if count <= N && count < 256 {
+            let mut items = [T::default(); N];
+            read_into(&mut items, 0, bytes);
+            return Ok(Few {
+                place: Place::Inline {
+                    alloc,
+                    len: count as u8,
+                    items,
+                },
+            });
+        }
+        let mut items = Vec::new(alloc);
+        push_elements(&mut items, bytes)?;
+        Ok(Few::from_vec(items))
+    }
 
     /// Adds the elements that the bytes spell.
     pub(crate) fn push_from(&mut self, bytes: &[u8]) -> Result<(), AllocError>

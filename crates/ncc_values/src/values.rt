@@ -1,6 +1,6 @@
 //! Values of one external type.
 
-ghost use Rattle.std.specs.Prelude.{◌≡◌, ◌+◌, ◌*◌, ◌/◌, ◌%◌, ◌≤◌, ◌↔◌, length, take, drop, IsTrue, OnOk, OnErr};
+ghost use Rattle.std.specs.Prelude.{◌≡◌, ◌+◌, ◌*◌, ◌/◌, ◌%◌, ◌≤◌, ◌↔◌, length, take, drop, IsTrue, IfOk, OnOk, OnErr};
 
 use crate::few::Few;
 use crate::raw::{Char, F32Bits, F64Bits};
@@ -29,7 +29,7 @@ const _: () = prove!(size_of::<Values>() == 40);
 
 impl Values {
     ghost use Rattle.ncc_values.specs.XType.{size_of};
-    ghost use Rattle.ncc_values.specs.Values.{type_of, count_of, bytes_of, no_values, with_bytes};
+    ghost use Rattle.ncc_values.specs.Values.{type_of, count_of, bytes_of, no_values, values_of, with_bytes};
 
     /// No values of the type. They will be kept in memory of the allocator.
     pub fn new(alloc: Global, xtype: XType) -> Values
@@ -48,6 +48,26 @@ impl Values {
             XType::Int64 => Values::Int64s(Few::new(alloc)),
             XType::UInt64 => Values::UInt64s(Few::new(alloc)),
         }
+    }
+
+    /// The values of the type that the bytes spell. They take no memory of the allocator where they are few.
+    pub fn of_bytes(alloc: Global, xtype: XType, bytes: &[u8]) -> Result<Values, AllocError>
+        requires { length bytes.now % size_of xtype ≡ 0 }
+        ensures { IfOk result (λ values. values ≡ values_of xtype bytes.now) }
+    {
+        Ok(match xtype {
+            XType::Byte => Values::Bytes(Few::of_bytes(alloc, bytes)?),
+            XType::Char => Values::Chars(Few::of_bytes(alloc, bytes)?),
+            XType::Short => Values::Shorts(Few::of_bytes(alloc, bytes)?),
+            XType::Int => Values::Ints(Few::of_bytes(alloc, bytes)?),
+            XType::Float => Values::Floats(Few::of_bytes(alloc, bytes)?),
+            XType::Double => Values::Doubles(Few::of_bytes(alloc, bytes)?),
+            XType::UByte => Values::UBytes(Few::of_bytes(alloc, bytes)?),
+            XType::UShort => Values::UShorts(Few::of_bytes(alloc, bytes)?),
+            XType::UInt => Values::UInts(Few::of_bytes(alloc, bytes)?),
+            XType::Int64 => Values::Int64s(Few::of_bytes(alloc, bytes)?),
+            XType::UInt64 => Values::UInt64s(Few::of_bytes(alloc, bytes)?),
+        })
     }
 
     /// How many values there are.

@@ -25,7 +25,7 @@ pub fn named_dims<'a>(
 ) -> Result<Vec<Named<'a>>, AllocError>
     ensures { IfOk result (λ v. Names (λ d. d.name) (canon_dim version) start dims.now v.items) }
 {
-    let mut named = Vec::new(alloc);
+    let mut named = Vec::with_capacity(alloc, dims.len())?;
     let mut at = start;
     for dim in dims {
         named.push(Named {
@@ -46,7 +46,7 @@ pub fn named_attrs<'a>(
 ) -> Result<Vec<Named<'a>>, AllocError>
     ensures { IfOk result (λ v. Names (λ a. a.name) (canon_attr version) start attrs.now v.items) }
 {
-    let mut named = Vec::new(alloc);
+    let mut named = Vec::with_capacity(alloc, attrs.len())?;
     let mut at = start;
     for attr in attrs {
         named.push(Named {
@@ -67,7 +67,7 @@ pub fn named_vars<'a>(
 ) -> Result<Vec<Named<'a>>, AllocError>
     ensures { IfOk result (λ v. Names (λ x. x.name) (canon_unplaced version) start vars.now v.items) }
 {
-    let mut named = Vec::new(alloc);
+    let mut named = Vec::with_capacity(alloc, vars.len())?;
     let mut at = start;
     for var in vars {
         named.push(Named {

@@ -1,13 +1,13 @@
 //! The notes on the names of a list: those that don't fit, and those that an earlier one has.
 
-ghost use Rattle.std.specs.Prelude.{OnOk, IsTrue, ◌↔◌, ◌<◌, ◌≤◌, length};
-ghost use Rattle.ncc_check.specs.Noting.{Adds, Below, BadName, Repeated, IsRepeated, NameNotes, names_in, offsets_in};
+ghost use Rattle.std.specs.Prelude.{◌≡◌, IfOk, OnOk, IsTrue, ◌↔◌, ◌+◌, ◌%◌, ◌<◌, ◌≤◌, [], false, true, not, length, get_or, set};
+ghost use Rattle.ncc_check.specs.Noting.{Adds, AreTaken, Below, BadName, Repeated, IsRepeated, NameNotes, key_of_name, keys_in, names_in, offsets_in};
 
 use crate::note::{Note, NoteKind};
 use crate::notes::named::Named;
 use crate::notes::pushing::note_if;
 use indexmap::IndexSet;
-use ncc_values::name_fits;
+use ncc_values::{name_fits, number};
 use std::alloc::{AllocError, Global};
 
 /// The most names that are compared pair by pair.
@@ -25,26 +25,89 @@ fn note_bad(alloc: Global, named: &[Named<'_>], notes: &mut Vec<Note>) -> Result
     Ok(())
 }
 
-/// Whether one of the first names is this one.
-fn is_among(named: &[Named<'_>], number: usize, name: &[u8]) -> bool
-    requires { number ≤ length named.now }
+/// The last bytes of a name as a number, 8 of them at most. Names of one list mostly differ there.
+fn key(name: &[u8]) -> u64
+    ensures { result ≡ key_of_name name.now }
+{
+    if name.is_empty() {
+        return 0;
+    }
+    let start = name.len().saturating_sub(8);
+    number(&name[start..])
+}
+
+/// The keys of all names.
+fn keys_of(alloc: Global, named: &[Named<'_>]) -> Result<Vec<u64>, AllocError>
+    ensures { IfOk result (λ v. v.items ≡ keys_in named.now) }
+{
+    let mut keys = Vec::with_capacity(alloc, named.len())?;
+    for x in named {
+        keys.push(key(x.name))?;
+    }
+    Ok(keys)
+}
+
+/// Whether one of the first names is this one. Names are compared where their keys are the same.
+fn is_among(named: &[Named<'_>], keys: &[u64], number: usize, name: &[u8]) -> bool
+    requires number { number ≤ length named.now }
+    requires keys { keys.now ≡ keys_in named.now }
     ensures { IsTrue result ↔ IsRepeated (names_in named.now) number name.now }
 {
+    let own = key(name);
     for i in 0..number {
-        if named[i].name == name {
+        if keys[i] == own && named[i].name == name {
             return true;
         }
     }
     false
 }
 
+/// How many slots there are for keys.
+const SLOTS: usize = 61;
+
+/// Takes the slot of a key, and tells whether it was free.
+fn take_slot(taken: &mut [bool], key: u64) -> bool
+    requires { length taken.old ≡ 61 }
+    ensures free { result ≡ not (get_or taken.old (key % 61) false) }
+    ensures takes { taken.new ≡ set taken.old (key % 61) true }
+{
+    let slot = (key % SLOTS as u64) as usize;
+    let was_free = !taken[slot];
+    taken[slot] = true;
+    was_free
+}
+
+/// Whether an earlier name is the same as the one with this number, whose slot is then taken as theirs are. A name
+/// whose slot was free has a key of its own.
+fn is_repeated(named: &[Named<'_>], keys: &[u64], taken: &mut [bool], number: usize) -> bool
+    requires there { number < length named.now }
+    requires keys { keys.now ≡ keys_in named.now }
+    requires slots { length taken.old ≡ 61 }
+    requires earlier { AreTaken keys.now number taken.old }
+    ensures repeated { IsTrue result
+        ↔ IsRepeated (names_in named.now) number (get_or (names_in named.now) number []) }
+    ensures slots { length taken.new ≡ 61 }
+    ensures takes { AreTaken keys.now (number + 1) taken.new }
+{
+    if take_slot(taken, keys[number]) {
+        return false;
+    }
+    is_among(named, keys, number, named[number].name)
+}
+
 /// Notes the names that an earlier one has, pair by pair.
-fn note_repeats_by_pairs(named: &[Named<'_>], notes: &mut Vec<Note>) -> Result<(), AllocError>
+fn note_repeats_by_pairs(
+    alloc: Global,
+    named: &[Named<'_>],
+    notes: &mut Vec<Note>,
+) -> Result<(), AllocError>
     ensures { OnOk result (Adds (Below (Repeated (names_in named.now) (offsets_in named.now)) (length named.now))
         notes.old.items notes.new.items) }
 {
+    let keys = keys_of(alloc, named)?;
+    let mut taken = [false; SLOTS];
     for i in 0..named.len() {
-        let repeated = is_among(named, i, named[i].name);
+        let repeated = is_repeated(named, &keys, &mut taken, i);
         note_if(notes, repeated, NoteKind::DuplicateName, named[i].at)?;
     }
     Ok(())
@@ -73,7 +136,7 @@ fn note_repeats(alloc: Global, named: &[Named<'_>], notes: &mut Vec<Note>) -> Re
         notes.old.items notes.new.items) }
 {
     if named.len() <= SHORT {
-        return note_repeats_by_pairs(named, notes);
+        return note_repeats_by_pairs(alloc, named, notes);
     }
     note_repeats_by_table(alloc, named, notes)
 }

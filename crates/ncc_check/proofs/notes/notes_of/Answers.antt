@@ -30,4 +30,4 @@ returns c =
     let placed = both_join (λ n. VarNotes s n ⊎ attrs n) places v4 v5 v6 c.in_ok-note_vars.ensures c.in_ok-note_places.ensures in
     let rest = both_join (λ n. DimNotes s n ⊎ GlobalNotes s n) (λ n. (VarNotes s n ⊎ attrs n) ⊎ places n) v2 v4 v6 named placed in
     let all : Adds (Found h sizes) [] v6 = both_join (λ n. marks n ⊎ CountNote s n) (λ n. (DimNotes s n ⊎ GlobalNotes s n) ⊎ ((VarNotes s n ⊎ attrs n) ⊎ places n)) [] v2 v6 counted rest in
-    are_notes h sizes legal long small c.requires.sizes.rounded c.name_is_there.ensures v6 c.in_ok-ordered.ordered.items all c.in_ok-ordered.ensures
+    are_notes h sizes legal long small c.requires.sizes.rounded c.name_is_there.ensures v6 c.in_order.result.items all c.in_order.ensures

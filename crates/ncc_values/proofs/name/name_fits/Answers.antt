@@ -1,5 +1,7 @@
-use Rattle.ncc_values.proofs.NameLemmas.{quick_check_text-ascii}
+use Rattle.std.proofs.Common.{refl}
+use Rattle.ncc_values.proofs.NameLemmas.{ascii_fits}
 use Rattle.ncc_values.proofs.name.name_fits.Goals as goal
 
-pub returns-clause-ascii : goal.returns-clause-ascii
-returns-clause-ascii c = λ ascii. c.is_nfc.ensures.succeeds (quick_check_text-ascii c.in-Ok.text.now (rw c.in-Ok.ensures.cases.0 ascii))
+pub returns-then-is_plain-clause-fits : goal.returns-then-is_plain-clause-fits
+returns-then-is_plain-clause-fits c =
+    ((λ _. ascii_fits c.args.name.now (c.is_plain.ensures.ascii c.if-is_plain.true) (c.is_plain.ensures.characters c.if-is_plain.true)), (λ _. refl))

@@ -7,7 +7,7 @@ use Rattle.ncc_check.proofs.notes.named.named_attrs.Goals as goal
 
 pub loop-attr-init : goal.loop-attr-init
 loop-attr-init c =
-    subst (λ (xs : List Named). NamesUpTo (λ x. x.name) (canon_attr c.args.version) c.args.start c.args.attrs.now 0 c.args.start xs) (sym c.new-named.ensures.items)
+    subst (λ (xs : List Named). NamesUpTo (λ x. x.name) (canon_attr c.args.version) c.args.start c.args.attrs.now 0 c.args.start xs) (sym c.in_ok-named.ensures.items)
     (names_begin (λ x. x.name) (canon_attr c.args.version) c.args.start c.args.attrs.now)
 
 pub loop-attr-preserved : goal.loop-attr-preserved

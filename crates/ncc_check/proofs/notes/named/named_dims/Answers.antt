@@ -7,7 +7,7 @@ use Rattle.ncc_check.proofs.notes.named.named_dims.Goals as goal
 
 pub loop-dim-init : goal.loop-dim-init
 loop-dim-init c =
-    subst (λ (xs : List Named). NamesUpTo (λ x. x.name) (canon_dim c.args.version) c.args.start c.args.dims.now 0 c.args.start xs) (sym c.new-named.ensures.items)
+    subst (λ (xs : List Named). NamesUpTo (λ x. x.name) (canon_dim c.args.version) c.args.start c.args.dims.now 0 c.args.start xs) (sym c.in_ok-named.ensures.items)
     (names_begin (λ x. x.name) (canon_dim c.args.version) c.args.start c.args.dims.now)
 
 pub loop-dim-preserved : goal.loop-dim-preserved

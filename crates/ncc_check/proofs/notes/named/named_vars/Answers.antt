@@ -7,7 +7,7 @@ use Rattle.ncc_check.proofs.notes.named.named_vars.Goals as goal
 
 pub loop-var-init : goal.loop-var-init
 loop-var-init c =
-    subst (λ (xs : List Named). NamesUpTo (λ x. x.name) (canon_unplaced c.args.version) c.args.start c.args.vars.now 0 c.args.start xs) (sym c.new-named.ensures.items)
+    subst (λ (xs : List Named). NamesUpTo (λ x. x.name) (canon_unplaced c.args.version) c.args.start c.args.vars.now 0 c.args.start xs) (sym c.in_ok-named.ensures.items)
     (names_begin (λ x. x.name) (canon_unplaced c.args.version) c.args.start c.args.vars.now)
 
 pub loop-var-preserved : goal.loop-var-preserved

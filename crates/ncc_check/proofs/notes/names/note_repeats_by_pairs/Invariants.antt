@@ -1,5 +1,10 @@
-use Rattle.ncc_check.specs.Noting.{Adds, Below, Repeated, names_in, offsets_in}
+use Rattle.std.proofs.Common.{◌≡◌, length}
+use Rattle.ncc_check.specs.Noting.{Adds, AreTaken, Below, Repeated, keys_in, names_in, offsets_in}
 use Rattle.ncc_check.proofs.notes.names.note_repeats_by_pairs.Given as goal
 
 abbrev pub invariant-loop-i : goal.invariant-loop-i
-invariant-loop-i l = Adds (Below (Repeated (names_in l.named) (offsets_in l.named)) l.i) l.fn.notes.items l.notes.items
+invariant-loop-i l = record {
+  slots : length l.taken ≡ 61;
+  earlier : AreTaken (keys_in l.named) l.i l.taken;
+  added : Adds (Below (Repeated (names_in l.named) (offsets_in l.named)) l.i) l.fn.notes.items l.notes.items;
+}

@@ -1,0 +1,55 @@
+use Rattle.std.proofs.Common.{◌≡◌, ◌-◌, ◌+◌, ◌++◌, ◌∷◌, ℕ, List, [], length, subst, ap, ◌∙◌, arith}
+use Rattle.std.proofs.lemmas.List.{length-append}
+use Rattle.ncc_header.specs.Fields.{dimid, dimid_wrong}
+use Rattle.ncc_header.specs.Grammar.{repeat}
+use Rattle.ncc_header.specs.Passing.{Passes}
+use Rattle.std.specs.Prelude.{None}
+use Rattle.ncc_header.proofs.WholeItems.{passes_nothing, passes_dimid, passes_dimids}
+use Rattle.ncc_header.proofs.whole_var.whole_ids.Goals as goal
+
+pub loop-i-init : goal.loop-i-init
+loop-i-init c =
+    let v = c.args.version in
+    let dims = c.args.dims.now in
+    let rank = c.in-Some.rank in
+    let start = c.in-Some.start.now in
+    let all : rank - 0 ≡ rank = omega arith in
+    record {
+      goes = λ final after p.
+          subst (λ (k : ℕ). Passes (repeat (dimid v dims) [] k) final start after) all
+          (subst (λ (ids : List ℕ). Passes (repeat (dimid v dims) ids (rank - 0)) final start after) c.new-ids.ensures.items p);
+      less = omega arith;
+    }
+
+pub loop-i-preserved : goal.loop-i-preserved
+loop-i-preserved c =
+    let v = c.args.version in
+    let dims = c.args.dims.now in
+    let rank = c.in-Some.rank in
+    let ids = c.loop-i.ids.items in
+    let n = c.in-Some-counted.n in
+    let found = c.in-Some-counted.ensures in
+    let mid = c.in-Some-counted.after.now in
+    let more = c.in_ok-push_item.ensures.ok ∙ ap (λ (id : ℕ). ids ++ id ∷ []) c.in-Ok.ensures.value in
+    let right = subst (λ (before : List ℕ). dimid_wrong dims before n ≡ None) c.deref.ensures.value c.in-Ok.ensures.judged in
+    record {
+      goes = λ final after p.
+          c.loop-i.invariant.goes final after
+          (passes_dimid v dims ids final n rank c.loop-i.i c.loop-i.rest.now found.0 mid after c.loop-i-test.true found.1 found.2 right
+          (subst (λ (xs : List ℕ). Passes (repeat (dimid v dims) xs (rank - (c.loop-i.i + 1))) final mid after) more p));
+      less = omega (arith, c.loop-i.invariant.less, ap length found.1.0, length-append found.0 mid);
+    }
+
+pub returns-clause-passes : goal.returns-clause-passes
+returns-clause-passes c =
+    let v = c.args.version in
+    let dims = c.args.dims.now in
+    let rank = c.in-Some.rank in
+    let rest = c.loop-i.rest.now in
+    let none : 0 ≡ rank - c.loop-i.i = omega arith in
+    passes_dimids v dims c.loop-i.ids.items rank c.args.piece.now c.in-Some.start.now rest c.in-Some.ensures.passes
+    (c.loop-i.invariant.goes c.loop-i.ids.items rest
+    (subst (λ (k : ℕ). Passes (repeat (dimid v dims) c.loop-i.ids.items k) c.loop-i.ids.items rest rest) none (passes_nothing c.loop-i.ids.items rest)))
+
+pub returns-clause-less : goal.returns-clause-less
+returns-clause-less c = omega (arith, c.in-Some.ensures.less, c.loop-i.invariant.less)

@@ -1,0 +1,12 @@
+use Rattle.std.proofs.Common.{◌-◌, ◌≤◌, ℕ, List, [], length}
+use Rattle.ncc_header.specs.Fields.{dimid}
+use Rattle.ncc_header.specs.Grammar.{repeat}
+use Rattle.ncc_header.specs.Passing.{Passes}
+use Rattle.ncc_header.proofs.whole_var.whole_ids.Given as goal
+
+abbrev pub invariant-loop-i : goal.invariant-loop-i
+invariant-loop-i l = record {
+  goes : (final after : List ℕ) → Passes (repeat (dimid l.version l.dims) l.ids.items (l.rank - l.i)) final l.rest after
+      → Passes (repeat (dimid l.version l.dims) [] l.rank) final l.initial.rest after;
+  less : length l.rest ≤ length l.initial.rest;
+}
