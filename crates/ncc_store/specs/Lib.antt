@@ -1,3 +1,4 @@
+pub mod Ahead
 pub mod Bytes
 pub mod DiskFile
 pub mod File
@@ -8,6 +9,7 @@ pub mod LogFile
 pub mod LogLaws
 pub mod Long
 pub mod Memory
+pub mod Pages
 pub mod Store
 pub mod StoreLaws
 pub mod Zeros

@@ -79,6 +79,8 @@ impl SystemFile for DiskFile {
 
     ghost sound = { is_writable };
 
+    ghost tells_failures = { false };
+
     ghost failed = { λ f. 0 };
 
     ghost calls = { λ f. 0 };

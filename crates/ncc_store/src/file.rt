@@ -4,7 +4,7 @@ ghost use Rattle.std.specs.Prelude.{◌≡◌, ◌+◌, ◌<◌, ◌≤◌, ◌^
 ghost use Rattle.ncc_values.specs.Failures.{last_count, Counts, Rose};
 ghost use Rattle.ncc_store.specs.Store.{written, FrontWritten, AfterWrite, Only, KeepsImages, Elapses, Unmoved};
 
-use crate::device::{Device, fail};
+use crate::device::{Device, end, fail};
 use crate::disk_file::DiskFile;
 use crate::store::Store;
 use crate::system_file::{SystemFile, write_whole};
@@ -21,16 +21,6 @@ pub struct FileStore<F: SystemFile = DiskFile> {
     failures: u64,
     ghost counted: { failures ≤ last_count },
     ghost sound: { ready ≡ true → F.sound file ≡ true },
-}
-
-/// A failure after which nothing is written or synced, counted.
-fn end(ready: &mut bool, failures: &mut u64) -> Device
-    ensures ended { ready.new ≡ false }
-    ensures rose { Rose failures.old failures.new }
-    ensures end { failures.new ≤ last_count }
-{
-    *ready = false;
-    fail(failures)
 }
 
 impl FileStore<DiskFile> {
@@ -120,6 +110,8 @@ impl<F: SystemFile> Store for FileStore<F> {
         ensures kept { KeepsImages (F.images (file_of self.old)) (F.images (file_of self.new)) }
         ensures ready { file_ready self.new ≡ file_ready self.old }
         ensures once { OnOk result (F.failed (file_of self.new) ≡ F.failed (file_of self.old)) }
+        ensures rose { IsTrue F.tells_failures
+            → OnErr result (Rose (F.failed (file_of self.old)) (F.failed (file_of self.new))) }
         ensures one_call { F.calls (file_of self.new) ≤ F.calls (file_of self.old) + 1 }
         ensures count { Counts (file_failures self.old) (file_failures self.new) result }
     {
@@ -136,6 +128,8 @@ impl<F: SystemFile> Store for FileStore<F> {
         ensures kept { KeepsImages (F.images (file_of self.old)) (F.images (file_of self.new)) }
         ensures ready { file_ready self.new ≡ file_ready self.old }
         ensures once { OnOk result (F.failed (file_of self.new) ≡ F.failed (file_of self.old)) }
+        ensures rose { IsTrue F.tells_failures
+            → OnErr result (Rose (F.failed (file_of self.old)) (F.failed (file_of self.new))) }
         ensures one_call { F.calls (file_of self.new) ≤ F.calls (file_of self.old) + 1 }
         ensures count { Counts (file_failures self.old) (file_failures self.new) result }
     {
@@ -159,6 +153,8 @@ impl<F: SystemFile> Store for FileStore<F> {
         ensures ended { OnErr result (file_ready self.new ≡ false) }
         ensures ready { OnOk result (file_ready self.new ≡ true) }
         ensures once { OnOk result (F.failed (file_of self.new) ≡ F.failed (file_of self.old)) }
+        ensures rose { IsTrue F.tells_failures → file_ready self.old ≡ true
+            → OnErr result (Rose (F.failed (file_of self.old)) (F.failed (file_of self.new))) }
         ensures one_call { length piece.now ≤ 8 → F.calls (file_of self.new) ≤ F.calls (file_of self.old) + 1 }
         ensures calls { F.calls (file_of self.new) ≤ F.calls (file_of self.old) + length piece.now }
         ensures count { Counts (file_failures self.old) (file_failures self.new) result }
@@ -181,6 +177,8 @@ impl<F: SystemFile> Store for FileStore<F> {
         ensures ended { OnErr result (file_ready self.new ≡ false) }
         ensures ready { OnOk result (file_ready self.new ≡ true) }
         ensures once { OnOk result (F.failed (file_of self.new) ≡ F.failed (file_of self.old)) }
+        ensures rose { IsTrue F.tells_failures → file_ready self.old ≡ true
+            → OnErr result (Rose (F.failed (file_of self.old)) (F.failed (file_of self.new))) }
         ensures one_call { F.calls (file_of self.new) ≤ F.calls (file_of self.old) + 1 }
         ensures count { Counts (file_failures self.old) (file_failures self.new) result }
     {

@@ -1,6 +1,7 @@
 //! Stores: bytes that are read and written at a place, and what a stop at any moment may leave of them.
 #![tactic(auto)]
 
+mod ahead;
 mod device;
 mod disk_file;
 mod file;
@@ -15,6 +16,7 @@ mod putting;
 mod store;
 mod system_file;
 
+pub use ahead::AheadStore;
 pub use device::Device;
 pub use disk_file::DiskFile;
 pub use file::FileStore;

@@ -1,9 +1,10 @@
 //! A file that tells what a stop may leave, and forgets what it couldn't sync.
 
 ghost use Rattle.std.specs.Prelude.{◌≡◌, ◌<◌, ◌≤◌, true, ℕ, List, length, take};
+ghost use Rattle.ncc_values.specs.Failures.{last_count};
 ghost use Rattle.ncc_store.specs.Store.{Unsynced};
 
-use crate::device::Device;
+use crate::device::{Device, end, fail};
 use crate::log::LogStore;
 use crate::store::Store;
 use crate::system_file::{SystemFile, WHOLE};
@@ -16,6 +17,8 @@ pub struct LogFile {
     most: usize,
     calls: u64,
     sound: bool,
+    failures: u64,
+    ghost counted: { failures ≤ last_count },
 }
 
 impl LogFile {
@@ -31,6 +34,7 @@ impl LogFile {
             most,
             calls,
             sound: true,
+            failures: 0,
         }
     }
 
@@ -43,6 +47,7 @@ impl LogFile {
             most: _,
             calls: _,
             sound: _,
+            failures: _,
         } = self;
         log
     }
@@ -83,7 +88,9 @@ impl SystemFile for LogFile {
 
     ghost sound = { log_sound };
 
-    ghost failed = { λ f. 0 };
+    ghost tells_failures = { true };
+
+    ghost failed = { λ f. f.failures };
 
     ghost calls = { λ f. 0 };
 
@@ -99,30 +106,32 @@ impl SystemFile for LogFile {
         (reverse (log_replaced (log_of f))) (log_bytes (log_of f)) c left };
 
     fn size(&mut self) -> Result<u64, Device> {
-        self.log.len()
+        match self.log.len() {
+            Ok(size) => Ok(size),
+            Err(_) => Err(fail(&mut self.failures)),
+        }
     }
 
     fn fill(&mut self, place: u64, out: &mut [u8]) -> Result<(), Device> {
-        let size = self.log.len()?;
+        let size = self.size()?;
         if place > size || out.len() as u64 > size - place {
-            return Err(Device);
+            return Err(fail(&mut self.failures));
         }
-        self.log.read_at(place, out)
+        match self.log.read_at(place, out) {
+            Ok(()) => Ok(()),
+            Err(_) => Err(fail(&mut self.failures)),
+        }
     }
 
     fn write_some(&mut self, place: u64, piece: &[u8]) -> Result<usize, Device> {
         if self.calls == 0 {
-            self.sound = false;
-            return Err(Device);
+            return Err(end(&mut self.sound, &mut self.failures));
         }
         self.calls -= 1;
         let front = self.front_of(piece);
         match self.log.write_at(place, front) {
             Ok(()) => Ok(front.len()),
-            Err(_) => {
-                self.sound = false;
-                Err(Device)
-            }
+            Err(_) => Err(end(&mut self.sound, &mut self.failures)),
         }
     }
 
@@ -131,16 +140,12 @@ impl SystemFile for LogFile {
             return Ok(());
         }
         if self.calls == 0 {
-            self.sound = false;
-            return Err(Device);
+            return Err(end(&mut self.sound, &mut self.failures));
         }
         self.calls -= 1;
         match self.log.sync() {
             Ok(()) => Ok(()),
-            Err(_) => {
-                self.sound = false;
-                Err(Device)
-            }
+            Err(_) => Err(end(&mut self.sound, &mut self.failures)),
         }
     }
 }

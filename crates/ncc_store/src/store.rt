@@ -15,6 +15,7 @@ use crate::device::Device;
 /// | `MemStore` | yes | no | where it grows and finds no memory |
 /// | `LogStore` | yes | yes | where it finds no memory to grow, or for its log |
 /// | `FuseStore<S>` | as `S` | as `S` | as `S` does, and after so many calls |
+/// | `AheadStore<S>` | as `S` | as `S` | as `S` does, also where `S` fails on the rest of a page |
 /// | `LongStore` | no | no | past its end, and at each write and sync |
 /// | `FileStore<F>` | as `F`, over a file of the disk no | as `F` | as the file does, and once it isn't ready at each write and sync |
 pub trait Store {
@@ -54,7 +55,8 @@ pub trait Store {
         ensures reach { reach self.new ≤ reach self.old };
 
     /// Fills `out` with the bytes from `place` on. Where the store doesn't tell its bytes, a read past
-    /// their end fails. After an `Err` `out` may hold anything.
+    /// their end fails, but for bytes that were there when they came onto a page. After an `Err` `out` may hold
+    /// anything.
     fn read_at(&mut self, place: u64, out: &mut [u8]) -> Result<(), Device>
         requires { IsTrue tells_bytes → place + length out.old ≤ length (bytes self.old) }
         ensures told { IsTrue tells_bytes

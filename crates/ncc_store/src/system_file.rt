@@ -1,6 +1,7 @@
 //! What a store asks of a file of the system, call by call.
 
 ghost use Rattle.std.specs.Prelude.{◌≡◌, ◌+◌, ◌<◌, ◌≤◌, ◌^◌, [], true, false, Bool, List, ℕ, length, take, drop, IsTrue, IfOk, OnOk, OnErr};
+ghost use Rattle.ncc_values.specs.Failures.{Rose};
 ghost use Rattle.ncc_values.specs.Numbers.{IsBytes};
 ghost use Rattle.ncc_store.specs.Store.{written, FrontWritten, AfterWrite, Only, KeepsImages, Elapses, Unmoved};
 
@@ -32,7 +33,10 @@ pub trait SystemFile {
     /// It may be written: no write and no `settle` failed.
     ghost sound: { Self → Bool };
 
-    /// The calls that failed, where it tells them. A call that succeeds adds none.
+    /// Whether it counts each of its calls that fails.
+    ghost tells_failures: { Bool };
+
+    /// The calls that failed, where it counts them. A call that succeeds adds none.
     ghost failed: { Self → ℕ };
 
     /// A number that grows by at most one at each call.
@@ -45,6 +49,7 @@ pub trait SystemFile {
         ensures kept { KeepsImages (images self.old) (images self.new) }
         ensures sound { sound self.old ≡ true → sound self.new ≡ true }
         ensures once { OnOk result (failed self.new ≡ failed self.old) }
+        ensures rose { IsTrue tells_failures → OnErr result (Rose (failed self.old) (failed self.new)) }
         ensures calls { calls self.new ≤ calls self.old + 1 };
 
     /// Fills `out` with the bytes from `place` on.
@@ -55,6 +60,7 @@ pub trait SystemFile {
         ensures kept { KeepsImages (images self.old) (images self.new) }
         ensures sound { sound self.old ≡ true → sound self.new ≡ true }
         ensures once { OnOk result (failed self.new ≡ failed self.old) }
+        ensures rose { IsTrue tells_failures → OnErr result (Rose (failed self.old) (failed self.new)) }
         ensures calls { calls self.new ≤ calls self.old + 1 };
 
     /// Writes a front of the piece, at least one byte where there is one, and answers how many. Of at most 8
@@ -74,6 +80,7 @@ pub trait SystemFile {
         ensures sound { OnOk result (sound self.new ≡ true) }
         ensures ended { OnErr result (sound self.new ≡ false) }
         ensures once { OnOk result (failed self.new ≡ failed self.old) }
+        ensures rose { IsTrue tells_failures → OnErr result (Rose (failed self.old) (failed self.new)) }
         ensures calls { calls self.new ≤ calls self.old + 1 };
 
     /// Leaves nothing pending.
@@ -85,6 +92,7 @@ pub trait SystemFile {
         ensures sound { OnOk result (sound self.new ≡ true) }
         ensures ended { OnErr result (sound self.new ≡ false) }
         ensures once { OnOk result (failed self.new ≡ failed self.old) }
+        ensures rose { IsTrue tells_failures → OnErr result (Rose (failed self.old) (failed self.new)) }
         ensures calls { calls self.new ≤ calls self.old + 1 };
 
     /// What it tells are bytes.
@@ -116,6 +124,7 @@ pub(crate) fn write_whole<F: SystemFile>(
         (AfterWrite place piece.now (F.images file.old)) }
     ensures sound { OnOk result (F.sound file.new ≡ true) }
     ensures once { OnOk result (F.failed file.new ≡ F.failed file.old) }
+    ensures rose { IsTrue F.tells_failures → OnErr result (Rose (F.failed file.old) (F.failed file.new)) }
     ensures one_call { length piece.now ≤ 8 → F.calls file.new ≤ F.calls file.old + 1 }
     ensures calls { F.calls file.new ≤ F.calls file.old + length piece.now }
 {

@@ -184,6 +184,8 @@ impl SystemFile for FailsOnce {
 
     ghost sound = { λ f. f.sound };
 
+    ghost tells_failures = { false };
+
     ghost failed = { λ f. 0 };
 
     ghost calls = { λ f. 0 };
@@ -230,10 +232,12 @@ fn fails_once() -> FileStore<FailsOnce> {
     )
 }
 
-// A call that failed isn't tried again, and after a write or a sync there is none that writes.
-const ONCE: [([Step; 2], u64); 4] = [
+// A call that failed isn't tried again, and after a write or a sync there is none that writes. Reads go on.
+const ONCE: [([Step; 2], u64); 6] = [
     ([Len(Err(Device)), Len(Ok(3))], 1),
     ([FailedRead(0, 2), Read(0, &[9, 9])], 1),
+    ([Write(0, &[1], Err(Device)), Read(0, &[9, 9])], 1),
+    ([UNSYNCED, Len(Ok(3))], 1),
     (
         [Write(0, &[1], Err(Device)), Write(0, &[1], Err(Device))],
         2,
