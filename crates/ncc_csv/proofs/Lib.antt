@@ -1,5 +1,6 @@
 pub mod Adding
 pub mod Runs
+pub mod Plain
 pub mod Order
 pub mod Selecting
 pub mod PartTexts

@@ -1,5 +1,7 @@
 -- Rows one after the other, by their number.
 use Rattle.std.proofs.Common.{◌≡◌, ℕ, zero, suc, ◌+◌, ◌<◌, List, [], ◌++◌, map, drop, get_or, refl, sym, ap, ◌∙◌, arith, append_assoc}
+use Rattle.std.specs.Prelude.{Result, Ok, Err, OnOk, is_ok, if◌then◌else◌}
+use Rattle.std.specs.declared.alloc.AllocError.{AllocError}
 use Rattle.std.proofs.lemmas.List.{append-nil, get_or-drop, drop-map}
 use Rattle.ncc_slab.specs.Selection.{indices_of}
 use Rattle.ncc_slab.specs.declared.slab.Slab.{Slab}
@@ -32,3 +34,17 @@ rows_from text values s first done n =
     let e : first + (done + k) ≡ first + done + k = omega arith in
     ap (λ (i : ℕ). element_row (get_or (indices_of s) i []) (get_or (map text values) (done + k) [])) e
     ∙ ap (λ (t : List ℕ). element_row (get_or (indices_of s) (first + done + k) []) t) (sym (get_or-drop done (map text values) k []) ∙ ap (λ (l : List (List ℕ)). get_or l k []) (drop-map text done values))))
+
+-- one row more after the others, on a page
+pub one_row_more : (row : ℕ → List (List ℕ)) (old now new line : List ℕ) (k : ℕ) → now ≡ old ++ first_rows row k → new ≡ now ++ line → line ≡ row_line (row k)
+    → new ≡ old ++ first_rows row (k + 1)
+one_row_more row old now new line k so_far next is =
+    let more : suc k ≡ k + 1 = omega arith in
+    next ∙ ap (λ (t : List ℕ). t ++ line) so_far ∙ append_assoc old (first_rows row k) line
+    ∙ ap (λ (t : List ℕ). old ++ (first_rows row k ++ t)) is ∙ ap (λ (n : ℕ). old ++ first_rows row n) more
+
+-- a line at the end of a page, where there was memory for it
+pub added_line : (result : Result (Unit {0}) AllocError) (old new more line : List ℕ) → new ≡ (if is_ok result then old ++ more else old) → more ≡ line
+    → OnOk result (new ≡ old ++ line)
+added_line (Ok x) old new more line e is = e ∙ ap (λ (t : List ℕ). old ++ t) is
+added_line (Err x) old new more line e is = tt

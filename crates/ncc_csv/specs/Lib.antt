@@ -1,6 +1,7 @@
 pub mod Word
 pub mod Values
 pub mod Rows
+pub mod Plain
 pub mod Runs
 pub mod Names
 pub mod Numbers

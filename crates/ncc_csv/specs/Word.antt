@@ -1,4 +1,4 @@
--- The text of one field.
+-- The text of an index.
 use Rattle.std.specs.Prelude.{ℕ, List, drop}
 use Rattle.ncc_csv.specs.declared.word.Word.{Word}
 

@@ -4,42 +4,46 @@ ghost use Rattle.std.specs.Prelude.{◌≡◌, pos};
 ghost use Rattle.ncc_values.specs.External.{bytes_in};
 ghost use Rattle.ncc_values.specs.declared.xtype.XType.TheVariants.{Float, Double};
 ghost use Rattle.ncc_csv.specs.Values.{bits_text};
-ghost use Rattle.ncc_csv.specs.Word.{word_text};
 
-use crate::word::Word;
+use crate::written::{double_digits, float_digits, write_signed, write_text, write_unsigned};
 use ncc_decimal::{text32, text64};
 use ncc_lines::FloatStyle;
 use ncc_values::{Char, External, F32Bits, F64Bits};
 
 /// The bits of a float, in hexadecimal.
-fn bits_of_float(x: F32Bits) -> Word
-    ensures { word_text result ≡ bits_text (bytes_in Float (pos x.0)) }
+fn bits_of_float(x: F32Bits) -> [u8; 10]
+    ensures { result ≡ bits_text (bytes_in Float (pos x.0)) }
 {
     let mut bits = [0; 4];
     x.put(&mut bits);
-    Word::of_float(bits)
+    float_digits(bits)
 }
 
 /// The bits of a double, in hexadecimal.
-fn bits_of_double(x: F64Bits) -> Word
-    ensures { word_text result ≡ bits_text (bytes_in Double (pos x.0)) }
+fn bits_of_double(x: F64Bits) -> [u8; 18]
+    ensures { result ≡ bits_text (bytes_in Double (pos x.0)) }
 {
     let mut bits = [0; 8];
     x.put(&mut bits);
-    Word::of_double(bits)
+    double_digits(bits)
 }
 
 /// A value of a variable.
 pub trait Cell: Copy {
-    ghost use Rattle.std.specs.Prelude.{ℕ, List};
+    ghost use Rattle.std.specs.Prelude.{ℕ, ◌+◌, ◌≤◌, List, ◌++◌, length, drop};
     ghost use Rattle.ncc_lines.specs.declared.style.FloatStyle.{FloatStyle};
-    ghost use Rattle.ncc_csv.specs.Word.{word_text};
+    ghost use Rattle.ncc_csv.specs.Plain.{IsPlain};
 
     /// What a row shows of it.
     ghost text: { FloatStyle → Self → List ℕ };
 
-    fn word(self, style: FloatStyle) -> Word
-        ensures { word_text result ≡ text style self };
+    /// Writes that so that it ends at `end`, and answers where it starts.
+    fn write(self, style: FloatStyle, room: &mut [u8], end: usize) -> usize
+        requires { (24 ≤ end) × (end ≤ length room.old) }
+        ensures start { result + length (text style self) ≡ end }
+        ensures written { drop result room.new ≡ text style self ++ drop end room.old }
+        ensures short { length (text style self) ≤ 24 }
+        ensures plain { IsPlain (text style self) };
 }
 
 impl Cell for i8 {
@@ -47,8 +51,8 @@ impl Cell for i8 {
 
     ghost text = { λ _. signed_decimal };
 
-    fn word(self, _style: FloatStyle) -> Word {
-        Word::signed(self as i64)
+    fn write(self, _style: FloatStyle, room: &mut [u8], end: usize) -> usize {
+        write_signed(self as i64, room, end)
     }
 }
 
@@ -57,8 +61,8 @@ impl Cell for Char {
 
     ghost text = { λ _. char_text };
 
-    fn word(self, _style: FloatStyle) -> Word {
-        Word::unsigned(self.0 as u64)
+    fn write(self, _style: FloatStyle, room: &mut [u8], end: usize) -> usize {
+        write_unsigned(self.0 as u64, room, end)
     }
 }
 
@@ -67,8 +71,8 @@ impl Cell for i16 {
 
     ghost text = { λ _. signed_decimal };
 
-    fn word(self, _style: FloatStyle) -> Word {
-        Word::signed(self as i64)
+    fn write(self, _style: FloatStyle, room: &mut [u8], end: usize) -> usize {
+        write_signed(self as i64, room, end)
     }
 }
 
@@ -77,8 +81,8 @@ impl Cell for i32 {
 
     ghost text = { λ _. signed_decimal };
 
-    fn word(self, _style: FloatStyle) -> Word {
-        Word::signed(self as i64)
+    fn write(self, _style: FloatStyle, room: &mut [u8], end: usize) -> usize {
+        write_signed(self as i64, room, end)
     }
 }
 
@@ -87,10 +91,10 @@ impl Cell for F32Bits {
 
     ghost text = { float_text };
 
-    fn word(self, style: FloatStyle) -> Word {
+    fn write(self, style: FloatStyle, room: &mut [u8], end: usize) -> usize {
         match style {
-            FloatStyle::Bits => bits_of_float(self),
-            FloatStyle::Decimal => Word::of_text(text32(self.0)),
+            FloatStyle::Bits => write_text(&bits_of_float(self), room, end),
+            FloatStyle::Decimal => write_text(text32(self.0).as_slice(), room, end),
         }
     }
 }
@@ -100,10 +104,10 @@ impl Cell for F64Bits {
 
     ghost text = { double_text };
 
-    fn word(self, style: FloatStyle) -> Word {
+    fn write(self, style: FloatStyle, room: &mut [u8], end: usize) -> usize {
         match style {
-            FloatStyle::Bits => bits_of_double(self),
-            FloatStyle::Decimal => Word::of_text(text64(self.0)),
+            FloatStyle::Bits => write_text(&bits_of_double(self), room, end),
+            FloatStyle::Decimal => write_text(text64(self.0).as_slice(), room, end),
         }
     }
 }
@@ -113,8 +117,8 @@ impl Cell for u8 {
 
     ghost text = { λ _. decimal };
 
-    fn word(self, _style: FloatStyle) -> Word {
-        Word::unsigned(self as u64)
+    fn write(self, _style: FloatStyle, room: &mut [u8], end: usize) -> usize {
+        write_unsigned(self as u64, room, end)
     }
 }
 
@@ -123,8 +127,8 @@ impl Cell for u16 {
 
     ghost text = { λ _. decimal };
 
-    fn word(self, _style: FloatStyle) -> Word {
-        Word::unsigned(self as u64)
+    fn write(self, _style: FloatStyle, room: &mut [u8], end: usize) -> usize {
+        write_unsigned(self as u64, room, end)
     }
 }
 
@@ -133,8 +137,8 @@ impl Cell for u32 {
 
     ghost text = { λ _. decimal };
 
-    fn word(self, _style: FloatStyle) -> Word {
-        Word::unsigned(self as u64)
+    fn write(self, _style: FloatStyle, room: &mut [u8], end: usize) -> usize {
+        write_unsigned(self as u64, room, end)
     }
 }
 
@@ -143,8 +147,8 @@ impl Cell for i64 {
 
     ghost text = { λ _. signed_decimal };
 
-    fn word(self, _style: FloatStyle) -> Word {
-        Word::signed(self)
+    fn write(self, _style: FloatStyle, room: &mut [u8], end: usize) -> usize {
+        write_signed(self, room, end)
     }
 }
 
@@ -153,7 +157,7 @@ impl Cell for u64 {
 
     ghost text = { λ _. decimal };
 
-    fn word(self, _style: FloatStyle) -> Word {
-        Word::unsigned(self)
+    fn write(self, _style: FloatStyle, room: &mut [u8], end: usize) -> usize {
+        write_unsigned(self, room, end)
     }
 }

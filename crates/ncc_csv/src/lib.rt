@@ -20,6 +20,7 @@ mod sheet;
 mod text_parts;
 mod text_row;
 mod word;
+mod written;
 
 pub use named::var_named;
 pub use names::send_names;

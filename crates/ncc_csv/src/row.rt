@@ -1,60 +1,92 @@
-//! Rows in memory.
+//! Rows of values in memory.
 
-ghost use Rattle.std.specs.Prelude.{◌≡◌, ◌+◌, ◌*◌, ◌-◌, ◌^◌, ◌<◌, [], ◌∷◌, ◌++◌, length, map, get_or, decimal, OnOk};
+ghost use Rattle.std.specs.Prelude.{◌≡◌, ◌+◌, ◌*◌, ◌-◌, ◌^◌, ◌<◌, ◌≤◌, [], ◌∷◌, ◌++◌, length, map, drop, decimal, OnOk};
+ghost use Rattle.std.specs.List.{AllByRecursion};
 ghost use Rattle.ncc_csv.specs.Word.{word_text};
-ghost use Rattle.ncc_csv.specs.Rows.{row_line, IsBetween, Adds};
+ghost use Rattle.ncc_csv.specs.Plain.{IsPlain, with_commas};
+ghost use Rattle.ncc_csv.specs.Rows.{row_line};
 ghost use Rattle.ncc_csv.specs.Runs.{run_row, first_rows};
 
 use crate::cell::Cell;
 use crate::word::Word;
-use csv::{Error, Writer};
+use crate::written::write_unsigned;
 use ncc_lines::FloatStyle;
-use std::io::Write;
+use std::alloc::AllocError;
 
-/// The text of a field of a row of two parts.
-fn field<'a>(heads: &'a [Word], tail: &'a [Word], k: usize) -> &'a [u8]
-    requires { k < length heads.now + length tail.now }
-    ensures { result.now ≡ get_or (map word_text (heads.now ++ tail.now)) k [] }
+/// As many bytes as the last index and the value take in a row at most, with a comma and a line feed.
+const ROOM: usize = 46;
+
+/// Makes the front of the rows of a run: the indices that they share, with a comma after each.
+fn set_front(front: &mut Vec<u8>, heads: &[Word]) -> Result<(), AllocError>
+    ensures { OnOk result (front.new.items ≡ with_commas (map word_text heads.now)) }
 {
-    if k < heads.len() {
-        return heads[k].as_slice();
+    front.clear();
+    for k in 0..heads.len() {
+        front.extend_from_slice(heads[k].as_slice())?;
+        front.push(b',')?;
     }
-    tail[k - heads.len()].as_slice()
+    Ok(())
 }
 
-/// Adds a row of two parts.
-pub fn put_row<W: Write + Drop>(
-    w: &mut Writer<W>,
-    heads: &[Word],
-    tail: &[Word],
-) -> Result<(), Error>
-    requires { IsBetween w.old }
-    ensures { OnOk result (Adds W.contents w.old w.new
-        (row_line (map word_text (heads.now ++ tail.now)))) }
+/// Writes a value and a line feed at the end of the room, and answers where the value starts.
+fn write_value<T: Cell>(room: &mut [u8], value: T, style: FloatStyle) -> usize
+    requires { length room.old ≡ 46 }
+    ensures start { result + length (T.text style value) ≡ 45 }
+    ensures written { drop result room.new ≡ T.text style value ++ 10 ∷ [] }
+    ensures short { length (T.text style value) ≤ 24 }
+    ensures plain { IsPlain (T.text style value) }
 {
-    for k in 0..heads.len() + tail.len() {
-        w.write_field(field(heads, tail, k))?;
-    }
-    w.end_record()
+    room[ROOM - 1] = b'\n';
+    value.write(style, room, ROOM - 1)
+}
+
+/// Adds a row of a run: its front, the last index and the value.
+fn put_row<T: Cell>(
+    page: &mut Vec<u8>,
+    front: &[u8],
+    index: u64,
+    value: T,
+    style: FloatStyle,
+) -> Result<(), AllocError>
+    ensures row { OnOk result (page.new.items
+        ≡ page.old.items ++ (front.now ++ (decimal index ++ 44 ∷ (T.text style value ++ 10 ∷ [])))) }
+    ensures plain { IsPlain (T.text style value) }
+{
+    let mut room = [0; ROOM];
+    let end = write_value(&mut room, value, style) - 1;
+    room[end] = b',';
+    let start = write_unsigned(index, &mut room, end);
+    page.extend_from_slice(front)?;
+    page.extend_from_slice(room.split_at(start).1)
+}
+
+/// Adds the row of a value without indices.
+pub fn put_alone<T: Cell>(page: &mut Vec<u8>, value: T, style: FloatStyle) -> Result<(), AllocError>
+    ensures { OnOk result (page.new.items ≡ page.old.items ++ row_line (T.text style value ∷ [])) }
+{
+    let mut room = [0; ROOM];
+    let start = write_value(&mut room, value, style);
+    page.extend_from_slice(room.split_at(start).1)
 }
 
 /// Adds the rows of values along the last dimension: their last indices are `start`, `start + stride` and so on.
-pub fn put_run<W: Write + Drop, T: Cell>(
-    w: &mut Writer<W>,
+pub fn put_run<T: Cell>(
+    page: &mut Vec<u8>,
+    front: &mut Vec<u8>,
     heads: &[Word],
     start: u64,
     stride: u64,
     values: &[T],
     style: FloatStyle,
-) -> Result<(), Error>
-    requires between { IsBetween w.old }
+) -> Result<(), AllocError>
+    requires plain { AllByRecursion IsPlain (map word_text heads.now) }
     requires fits { start + (length values.now - 1) * stride < 2 ^ 64 }
-    ensures { OnOk result (Adds W.contents w.old w.new
-        (first_rows (run_row (map word_text heads.now) start stride (map (T.text style) values.now)) (length values.now))) }
+    ensures { OnOk result (page.new.items ≡ page.old.items
+        ++ first_rows (run_row (map word_text heads.now) start stride (map (T.text style) values.now)) (length values.now)) }
 {
+    set_front(front, heads)?;
     for k in 0..values.len() {
-        let index = start + k as u64 * stride;
-        put_row(w, heads, &[Word::unsigned(index), values[k].word(style)])?;
+        put_row(page, front, start + k as u64 * stride, values[k], style)?;
     }
     Ok(())
 }

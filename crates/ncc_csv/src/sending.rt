@@ -1,6 +1,6 @@
 //! Sending the rows of values.
 
-ghost use Rattle.std.specs.Prelude.{◌≡◌, ◌+◌, ◌-◌, ◌^◌, ◌<◌, ◌≤◌, [], ◌++◌, length, map, OnOk};
+ghost use Rattle.std.specs.Prelude.{◌≡◌, ◌+◌, ◌-◌, ◌^◌, ◌<◌, ◌≤◌, [], length, map, OnOk};
 ghost use Rattle.ncc_values.specs.Values.{count_of};
 ghost use Rattle.ncc_lines.specs.Sends.{SendsAll, Blames};
 ghost use Rattle.ncc_slab.specs.Selection.{selected_count};
@@ -10,46 +10,14 @@ ghost use Rattle.ncc_csv.specs.Runs.{slab_row, first_rows};
 use crate::block::put_rows;
 use crate::cell::Cell;
 use crate::word::Word;
-use csv::Writer;
 use ncc_header::{Sink, Values};
 use ncc_lines::{FloatStyle, Halt, send_page};
 use ncc_slab::Slab;
-use std::alloc::{AllocError, Global};
-use std::mem;
+use std::alloc::Global;
 
 /// How many fields gather in memory before they are sent. Each has at most 25 bytes with what parts it from the
 /// next, so that they are below 64 KiB.
 const FIELDS: usize = 2_600;
-
-/// Adds the rows of a few values to the page. Where that fails, which is for want of memory, the page is lost.
-fn gather_rows<T: Cell>(
-    alloc: Global,
-    page: &mut Vec<u8>,
-    heads: &mut [Word],
-    slab: &Slab,
-    first: u64,
-    values: &[T],
-    style: FloatStyle,
-) -> Result<(), AllocError>
-    requires ranked { length heads.old ≡ length slab.now.count - 1 }
-    requires fits { HasIndices slab.now }
-    requires there { first + length values.now ≤ selected_count slab.now }
-    requires counted { selected_count slab.now < 2 ^ 64 }
-    ensures { OnOk result (page.new.items ≡ page.old.items
-        ++ first_rows (slab_row slab.now first (map (T.text style) values.now)) (length values.now)) }
-{
-    let mut w = Writer::from_writer(mem::replace(page, Vec::new(alloc)));
-    if put_rows(&mut w, heads, slab, first, values, style).is_err() {
-        return Err(AllocError);
-    }
-    match w.into_inner() {
-        Ok(text) => {
-            *page = text;
-            Ok(())
-        }
-        Err(_) => Err(AllocError),
-    }
-}
 
 /// Sends the rows of a few values by an empty page.
 fn send_block<T: Cell, W: Sink>(
@@ -72,7 +40,7 @@ fn send_block<T: Cell, W: Sink>(
         (first_rows (slab_row slab.now first (map (T.text style) values.now)) (length values.now)) result }
     ensures count { Blames (W.failures sink.old) (W.failures sink.new) result }
 {
-    gather_rows(alloc, page, heads, slab, first, values, style)?;
+    put_rows(alloc, page, heads, slab, first, values, style)?;
     send_page(page, sink)
 }
 

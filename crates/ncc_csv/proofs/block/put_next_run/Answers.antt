@@ -1,9 +1,11 @@
-use Rattle.std.proofs.Common.{◌≡◌, ◌+◌, ◌*◌, ◌/◌, ◌%◌, ◌-◌, ◌<◌, ℕ, List, map, length, take, get_or, ap, subst, ◌∙◌, arith}
+use Rattle.std.proofs.Common.{◌≡◌, ◌+◌, ◌*◌, ◌/◌, ◌%◌, ◌-◌, ◌<◌, ℕ, List, map, length, take, get_or, ap, sym, subst, ◌++◌, ◌∙◌, arith}
+use Rattle.std.specs.List.{AllByRecursion}
 use Rattle.std.proofs.lemmas.List.{length-take-le}
 use Rattle.std.proofs.Math.Nat.{add-mul}
 use Rattle.ncc_csv.specs.Word.{word_text}
-use Rattle.ncc_csv.specs.Rows.{Adds}
+use Rattle.ncc_csv.specs.Plain.{IsPlain}
 use Rattle.ncc_csv.specs.Runs.{leading_texts, run_row, first_rows}
+use Rattle.ncc_csv.proofs.Plain.{plain_decimals}
 use Rattle.ncc_csv.proofs.Selecting.{last_at, rows_of_run}
 use Rattle.ncc_csv.proofs.block.put_next_run.Goals as goal
 
@@ -31,6 +33,10 @@ pub index_along-start-requires-clause-there : goal.index_along-start-requires-cl
 index_along-start-requires-clause-there g c =
     let last = last_at c.args.slab.now (length c.args.heads.now) c.args.number c.requires.ranked (omega (arith, c.requires.some, c.requires.there)) in
     rw c.count_along-count.ensures (omega (arith, last.some))
+
+pub put_run-requires-clause-plain : goal.put_run-requires-clause-plain
+put_run-requires-clause-plain g c =
+    subst (λ (l : List (List ℕ)). AllByRecursion IsPlain l) (sym c.set_heads.ensures) (plain_decimals _)
 
 pub put_run-requires-clause-fits : goal.put_run-requires-clause-fits
 put_run-requires-clause-fits g c =
@@ -75,4 +81,4 @@ returns-clause-added g c =
     ∙ ap (λ (k : ℕ). first_rows (run_row heads start stride (map text (take n values))) k) (length-take-le n values (omega (arith, c.min-n.ensures))) in
     let rows = rows_of_run text values s r c.args.number n heads start stride c.requires.fits c.requires.ranked (omega (arith, c.min-n.ensures)) c.requires.there
     (omega (arith, last.some, same, c.count_along-count.ensures, c.min-n.ensures)) set from c.stride_along.ensures in
-    subst (λ (t : List ℕ). Adds g.W.Write.contents c.args.w.now c.put_run.new.w t) (run ∙ rows) c.in_ok-put_run.ensures
+    c.in_ok-put_run.ensures ∙ ap (λ (t : List ℕ). c.args.page.now.items ++ t) (run ∙ rows)

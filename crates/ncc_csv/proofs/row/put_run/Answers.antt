@@ -1,17 +1,25 @@
-use Rattle.std.proofs.Common.{◌≡◌, ◌+◌, ◌*◌, decimal, ◌++◌, ◌∷◌, [], ℕ, List, map, get_or, ap, sym, ◌∙◌}
-use Rattle.std.proofs.lemmas.List.{map-append, get_or-map}
-use Rattle.ncc_csv.specs.Word.{word_text}
+use Rattle.std.proofs.Common.{◌≡◌, ◌+◌, ◌*◌, ◌++◌, ◌∷◌, [], ℕ, List, decimal, map, get_or, ap, sym, ◌∙◌}
+use Rattle.std.proofs.lemmas.List.{get_or-map}
+use Rattle.ncc_csv.specs.Plain.{with_commas}
+use Rattle.ncc_csv.specs.Rows.{row_line}
 use Rattle.ncc_csv.specs.Runs.{run_row}
-use Rattle.ncc_csv.proofs.Adding.{adds_row}
+use Rattle.ncc_csv.specs.Word.{word_text}
+use Rattle.ncc_csv.proofs.Plain.{run_line}
+use Rattle.ncc_csv.proofs.Runs.{one_row_more}
 use Rattle.ncc_csv.proofs.row.put_run.Goals as goal
 
 pub loop-k-preserved : goal.loop-k-preserved
 loop-k-preserved g c =
+    let k = c.loop-k.k in
     let heads = map word_text c.args.heads.now in
-    let row = run_row heads c.args.start c.args.stride (map (g.T.Cell.text c.args.style) c.args.values.now) in
-    let value : word_text c.word.result ≡ get_or (map (g.T.Cell.text c.args.style) c.args.values.now) c.loop-k.k [] =
-    c.word.ensures ∙ ap (g.T.Cell.text c.args.style) c.index-values-k.is ∙ sym (get_or-map (g.T.Cell.text c.args.style) c.args.values.now c.loop-k.k c.index-values-k.result [] c.loop-k-test.true) in
-    let next = map-append word_text c.args.heads.now (c.unsigned.result ∷ c.word.result ∷ [])
-    ∙ ap (λ (t : List ℕ). heads ++ t ∷ word_text c.word.result ∷ []) c.unsigned.ensures
-    ∙ ap (λ (t : List ℕ). heads ++ decimal (c.args.start + c.loop-k.k * c.args.stride) ∷ t ∷ []) value in
-    adds_row g.W.Write.contents c.args.w.now c.loop-k.w c.put_row.new.w row c.loop-k.k _ next c.loop-k.invariant c.in_ok-put_row.ensures
+    let text = g.T.Cell.text c.args.style in
+    let texts = map text c.args.values.now in
+    let index = c.args.start + k * c.args.stride in
+    let value = text c.index-values-k.result in
+    let same : value ≡ get_or texts k [] = ap text c.index-values-k.is ∙ sym (get_or-map text c.args.values.now k c.index-values-k.result [] c.loop-k-test.true) in
+    let rest = decimal index ++ 44 ∷ (value ++ 10 ∷ []) in
+    let line = ap (λ (t : List ℕ). t ++ rest) (c.deref.ensures.value ∙ c.in_ok-set_front.ensures)
+    ∙ sym (run_line heads index value c.requires.plain c.in_ok-put_row.ensures.plain)
+    ∙ ap (λ (t : List ℕ). row_line (heads ++ decimal index ∷ t ∷ [])) same in
+    one_row_more (run_row heads c.args.start c.args.stride texts) c.args.page.now.items c.loop-k.page.items c.put_row.new.page.items (c.deref.result.now ++ rest) k
+    c.loop-k.invariant c.in_ok-put_row.ensures.row line

@@ -2,7 +2,7 @@ use Rattle.std.proofs.Common.{◌≡◌, ◌∷◌, [], ℕ, ◌+◌, ◌≤◌,
 use Rattle.std.specs.List.{flat_map}
 use Rattle.std.proofs.lemmas.List.{drop_more, drop_all}
 use Rattle.ncc_lines.specs.Words.{byte_digits}
-use Rattle.ncc_csv.proofs.word.Word.of_double.Goals as goal
+use Rattle.ncc_csv.proofs.written.double_digits.Goals as goal
 
 next : (bits rest : List ℕ) (i : ℕ) → i + 1 ≤ length bits → drop (i + 1) bits ≡ rest → drop i bits ≡ get_or bits i 0 ∷ rest
 next bits rest i lt e = drop_more bits i 0 (omega (arith, lt)) ∙ ap (λ (l : List ℕ). get_or bits i 0 ∷ l) e

@@ -1,0 +1,21 @@
+use Rattle.std.proofs.Common.{◌≡◌, ◌<◌, ◌∷◌, ◌++◌, ◌∙◌, [], ℕ, List, append_assoc, ap, sym, arith, length, map, take, get_or}
+use Rattle.std.proofs.lemmas.List.{get_or-map, length-map, take_more}
+use Rattle.ncc_csv.specs.Plain.{with_commas}
+use Rattle.ncc_csv.specs.Word.{word_text}
+use Rattle.ncc_csv.proofs.Plain.{one_comma}
+use Rattle.ncc_csv.proofs.row.set_front.Goals as goal
+
+pub loop-k-preserved : goal.loop-k-preserved
+loop-k-preserved c =
+    let k = c.loop-k.k in
+    let texts = map word_text c.args.heads.now in
+    let done = with_commas (take k texts) in
+    let word = c.index-heads-k.result in
+    let inside : k < length texts = omega (arith, length-map c.args.heads.now word_text, c.loop-k-test.true) in
+    let text : word_text word ≡ get_or texts k [] =
+    ap word_text c.index-heads-k.is ∙ sym (get_or-map word_text c.args.heads.now k word [] c.loop-k-test.true) in
+    c.in_ok-push.ensures.items
+    ∙ ap (λ (t : List ℕ). t ++ 44 ∷ []) (c.in_ok-extend_from_slice.ensures.items ∙ ap (λ (t : List ℕ). t ++ c.as_slice.result.now) c.loop-k.invariant ∙ ap (λ (t : List ℕ). done ++ t) (c.as_slice.ensures ∙ text))
+    ∙ append_assoc done (get_or texts k []) (44 ∷ [])
+    ∙ sym (one_comma (take k texts) (get_or texts k []))
+    ∙ ap (λ (l : List (List ℕ)). with_commas l) (sym (take_more texts k [] inside))
