@@ -1,7 +1,5 @@
 //! Converting a file into a new one.
 
-ghost use Rattle.std.specs.Prelude.{◌≡◌, codes};
-
 use crate::finishing::{Ended, flushed};
 use crate::limited::converted;
 use crate::new_file::NewFile;
@@ -10,6 +8,7 @@ use crate::reasons::{Reason, Trouble};
 use ncc_engines::Answer;
 use ncc_header::WriteSink;
 use ncc_lines::Progress;
+use ncc_store::AheadStore;
 use ncc_values::Version;
 use std::fs::File;
 use std::io::{BufWriter, Write};
@@ -38,8 +37,9 @@ pub fn convert<'a, R: Files<File = File> + AllocGlobal, O: Write, P: Progress>(
             };
         }
     };
-    let (Ok(writer), Ok(mut target)) = (
+    let (Ok(writer), Ok(ahead), Ok(mut target)) = (
         BufWriter::new(rt.alloc(), out),
+        AheadStore::new(rt.alloc(), store),
         NewFile::new(rt.alloc(), rt, to),
     ) else {
         return Ended {
@@ -48,7 +48,7 @@ pub fn convert<'a, R: Files<File = File> + AllocGlobal, O: Write, P: Progress>(
         };
     };
     let mut sink = WriteSink::new(writer);
-    let (_, answer) = converted(rt.alloc(), store, version, &mut target, &mut sink, progress);
+    let (_, answer) = converted(rt.alloc(), ahead, version, &mut target, &mut sink, progress);
     if let Some(reason) = target.reason() {
         trouble = Trouble { name: to, reason };
     }
@@ -56,18 +56,5 @@ pub fn convert<'a, R: Files<File = File> + AllocGlobal, O: Write, P: Progress>(
     Ended {
         answer: flushed(&mut writer, answer),
         trouble: Some(trouble),
-    }
-}
-
-/// The version of this word.
-pub fn version_of(word: &str) -> Version
-    ensures one { word.now ≡ codes "1" → result ≡ Version.V1 }
-    ensures two { word.now ≡ codes "2" → result ≡ Version.V2 }
-    ensures five { word.now ≡ codes "5" → result ≡ Version.V5 }
-{
-    match word {
-        "1" => Version::V1,
-        "2" => Version::V2,
-        _ => Version::V5,
     }
 }

@@ -200,6 +200,15 @@ pub fn converted<S: Store + Drop, T: Target, W: Sink, P: Progress>(
         (IsConverted S.tells_bytes (S.bytes store) LIMIT version) (T.entries target.new)
         ⊎ (Rose (W.failures sink.old) (W.failures sink.new)
         × IsConverted S.tells_bytes (S.bytes store) LIMIT version (T.named target.new)) }
+    ensures unprinted { IsTrue S.tells_bytes → IsTrue T.tells_bytes → result.1 ≡ Answer.Device
+        → ((text : List ℕ) → IsRefusalLine (S.bytes store) LIMIT version text → ⊥)
+        → (Rose (S.failures store) (S.failures result.0) → ⊥) → (Rose (T.failures target.old) (T.failures target.new) → ⊥)
+        → IsConverted S.tells_bytes (S.bytes store) LIMIT version (T.named target.new) }
+    ensures published { IsTrue S.tells_bytes → result.1 ≡ Answer.Device
+        → ((text : List ℕ) → IsRefusalLine (S.bytes store) LIMIT version text → ⊥)
+        → (Rose (S.failures store) (S.failures result.0) → ⊥) → (Rose (T.failures target.old) (T.failures target.new) → ⊥)
+        → IsPublished (T.entries target.new)
+        × ((c : Option (List ℕ)) → T.names target.new c → c ≡ T.named target.new) }
     ensures no_part { (T.entries target.old).part ≢ Entry.Made → (T.entries target.new).part ≢ Entry.Made }
     ensures no_name { result.1 ≢ Answer.Passed → (T.entries target.old).name ≢ Entry.Made
         → ((T.entries target.new).name ≢ Entry.Made) ⊎ Rose (W.failures sink.old) (W.failures sink.new) }

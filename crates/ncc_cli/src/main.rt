@@ -6,6 +6,7 @@ mod converting_files;
 mod faults;
 mod finishing;
 mod folder;
+mod given;
 mod limited;
 mod many;
 mod new_file;

@@ -124,7 +124,7 @@ pub fn remove_file<R: Files<File = File>>(rt: &R, name: &[u8]) -> Result<(), Rea
 }
 
 /// The folder of a name.
-fn folder_of(name: &[u8]) -> &[u8] {
+pub fn folder_of(name: &[u8]) -> &[u8] {
     match name.iter().rposition(|byte| *byte == b'/') {
         Some(0) => b"/".as_slice(),
         Some(at) => name.split_at(at).0,

@@ -1,8 +1,11 @@
 //! What the words of a command line pick of a variable.
 
-ghost use Rattle.std.specs.Prelude.{◌≡◌};
+ghost use Rattle.std.specs.Prelude.{◌≡◌, Err, codes, IfOk};
+ghost use Rattle.ncc_cli.specs.Given.{GivesList, given};
+ghost use Rattle.ncc_cli.specs.Options.{IsNoList, option_text};
+ghost use Rattle.ncc_cli.specs.declared.picking.ListOption.{ListOption};
 ghost use Rattle.ncc_cli.specs.Status.{status_of_words};
-ghost use Rattle.ncc_cli.specs.declared.picking.WordFault.TheVariants.{Memory};
+ghost use Rattle.ncc_cli.specs.declared.picking.WordFault.TheVariants.{Memory, NoList};
 
 use crate::finishing::{USAGE, finish};
 use clap::ArgMatches;
@@ -29,7 +32,9 @@ pub enum ListOption {
 }
 
 /// The name of an option.
-fn option_name(option: ListOption) -> &'static str {
+fn option_name(option: ListOption) -> &'static str
+    ensures { result.now ≡ option_text option }
+{
     match option {
         ListOption::Start => "start",
         ListOption::Count => "count",
@@ -50,7 +55,10 @@ fn list_given(
     alloc: Global,
     words: &ArgMatches,
     option: ListOption,
-) -> Result<Option<Seq<u64>>, WordFault> {
+) -> Result<Option<Seq<u64>>, WordFault>
+    ensures gives { IfOk result (GivesList (given words.now (option_text option))) }
+    ensures refused { (o : ListOption) → result ≡ Err (NoList o) → (o ≡ option) × IsNoList words.now o }
+{
     let Some(text) = words.get_str(option_name(option)) else {
         return Ok(None);
     };
@@ -61,7 +69,12 @@ fn list_given(
 }
 
 /// What the words give of a selection.
-pub fn pick_given(alloc: Global, words: &ArgMatches) -> Result<Pick, WordFault> {
+pub fn pick_given(alloc: Global, words: &ArgMatches) -> Result<Pick, WordFault>
+    ensures start { IfOk result (λ p. GivesList (given words.now (codes "start")) p.start) }
+    ensures count { IfOk result (λ p. GivesList (given words.now (codes "count")) p.count) }
+    ensures stride { IfOk result (λ p. GivesList (given words.now (codes "stride")) p.stride) }
+    ensures refused { (o : ListOption) → result ≡ Err (NoList o) → IsNoList words.now o }
+{
     Ok(Pick {
         start: list_given(alloc, words, ListOption::Start)?,
         count: list_given(alloc, words, ListOption::Count)?,

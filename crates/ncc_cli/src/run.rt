@@ -1,11 +1,12 @@
 //! Running a command.
 
-ghost use Rattle.std.specs.Prelude.{◌≡◌, ◌≤◌, ℕ};
+ghost use Rattle.std.specs.Prelude.{◌≤◌};
 
-use crate::commands::{LIMIT, command};
-use crate::converting_files::{convert, version_of};
+use crate::commands::command;
+use crate::converting_files::convert;
 use crate::faults::{FAULTS, asks_for_faults};
 use crate::finishing::{Ended, USAGE, end, explain, finish, shown};
+use crate::given::{form_given, more_given, style_given, version_given, word_given, work_given};
 use crate::many::{NoNames, answer_many, names_given};
 use crate::picking::{pick_given, refuse_words};
 use crate::progress::{ProgressLine, Shown, Terminals};
@@ -17,19 +18,10 @@ use clap::ArgMatches;
 use ncc_batch::{FileNames, Form, Work, status};
 use ncc_csv::Pick;
 use ncc_engines::Answer;
-use ncc_lines::{FloatStyle, Progress};
+use ncc_lines::Progress;
 use std::fs::File;
 use std::io::{Read, Write};
 use std::rt::{Clock, Files};
-
-/// How floats are shown.
-fn style_given(words: &ArgMatches) -> FloatStyle {
-    if words.get_flag("decimal") {
-        FloatStyle::Decimal
-    } else {
-        FloatStyle::Bits
-    }
-}
 
 /// The one file that is named and shown as today, if that is so.
 fn only_file<'a>(names: &'a FileNames, form: Form) -> Option<&'a [u8]> {
@@ -59,8 +51,8 @@ fn csv<'a, R: Files<File = File> + Clock + AllocGlobal, O: Write, E: Write>(
     err: &mut E,
     shown: Shown,
 ) -> Ended<'a> {
-    let name = line.bytes_of(words.get_str("FILE").unwrap_or(""));
-    let variable = line.bytes_of(words.get_str("VAR").unwrap_or(""));
+    let name = line.bytes_of(word_given(words, "FILE"));
+    let variable = line.bytes_of(word_given(words, "VAR"));
     let mut progress = ProgressLine::new(rt, err, shown.progress);
     let ended = select(
         rt,
@@ -117,31 +109,6 @@ fn answer_all_of<R: Files<File = File> + Clock + AllocGlobal, O: Write, E: Write
     end(answer, None, out.reason(), shown.reasons, err)
 }
 
-/// What is asked of files by `check` or `list`.
-fn work_given(command: &str, words: &ArgMatches) -> Work
-    ensures { (limit : ℕ) (style : FloatStyle) → result ≡ Work.List limit style → limit ≡ LIMIT }
-{
-    if command == "check" {
-        return Work::Check {
-            limit: words.get_one("max-header").unwrap_or(LIMIT),
-            strict: words.get_flag("strict"),
-        };
-    }
-    Work::List {
-        limit: LIMIT,
-        style: style_given(words),
-    }
-}
-
-/// How files are shown by `check` or `list`.
-fn form_given(command: &str, words: &ArgMatches) -> Form {
-    if command == "check" && words.get_flag("brief") {
-        Form::Brief
-    } else {
-        Form::Lines
-    }
-}
-
 /// Converts the file that the words name.
 fn convert_given<'a, R: Files<File = File> + Clock + AllocGlobal, O: Write, E: Write>(
     rt: &R,
@@ -151,11 +118,10 @@ fn convert_given<'a, R: Files<File = File> + Clock + AllocGlobal, O: Write, E: W
     err: &mut E,
     shown: Shown,
 ) -> Ended<'a> {
-    let version = version_of(words.get_str("to").unwrap_or(""));
-    let from = line.bytes_of(words.get_str("IN").unwrap_or(""));
-    let to = line.bytes_of(words.get_str("OUT").unwrap_or(""));
+    let from = line.bytes_of(word_given(words, "IN"));
+    let to = line.bytes_of(word_given(words, "OUT"));
     let mut progress = ProgressLine::new(rt, err, shown.progress);
-    convert(rt, from, version, to, out, &mut progress)
+    convert(rt, from, version_given(words), to, out, &mut progress)
 }
 
 /// Runs `check` or `list`, and gives the status.
@@ -211,8 +177,8 @@ fn run_command<'a, R: Files<File = File> + Clock + AllocGlobal, I: Read, O: Writ
             Err(fault) => return refuse_words(fault, words, shown.reasons, err),
         },
         "extend" => {
-            let name = line.bytes_of(words.get_str("FILE").unwrap_or(""));
-            extend(rt, name, words.get_one("N").unwrap_or(0), out)
+            let name = line.bytes_of(word_given(words, "FILE"));
+            extend(rt, name, more_given(words), out)
         }
         _ => return run_files(rt, line, command, words, input, out, err, shown),
     };

@@ -8,6 +8,7 @@ use ncc_csv::Pick;
 use ncc_engines::{Answer, check_engine};
 use ncc_header::{ReadSource, WriteSink};
 use ncc_lines::{FloatStyle, Progress};
+use ncc_store::AheadStore;
 use std::alloc::Global;
 use std::fs::File;
 use std::io::{BufReader, BufWriter, Read, Write};
@@ -107,10 +108,13 @@ pub fn select<'a, R: Files<File = File> + AllocGlobal, O: Write, P: Progress>(
     let Ok(writer) = BufWriter::new(rt.alloc(), out) else {
         return ended(name, Answer::Memory);
     };
+    let Ok(ahead) = AheadStore::new(rt.alloc(), store) else {
+        return ended(name, Answer::Memory);
+    };
     let mut sink = WriteSink::new(writer);
     let (_, answer) = selected(
         rt.alloc(),
-        store,
+        ahead,
         variable,
         pick,
         style,

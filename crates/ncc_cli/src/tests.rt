@@ -1,6 +1,7 @@
 //! Runs whose outputs take nothing, and what is told of an answer.
 
 use crate::finishing::finish;
+use crate::paths::folder_of;
 use crate::progress::Terminals;
 use crate::run::run;
 use crate::words::Words;
@@ -122,4 +123,21 @@ fn error_output_that_takes_nothing(rt: HostRuntime) -> Result<(), Fail> {
         assert!(rt; out.is_empty());
     }
     Ok(())
+}
+
+/// Names, each with its folder.
+const FOLDERS: [(&str, &str); 6] = [
+    ("a.nc", "."),
+    ("/a.nc", "/"),
+    ("x/a.nc", "x"),
+    ("/x/y/a.nc", "/x/y"),
+    ("x//a.nc", "x/"),
+    ("", "."),
+];
+
+#[test]
+fn folders_of_names(rt: HostRuntime) {
+    for (name, folder) in FOLDERS {
+        assert!(rt; folder_of(name.as_bytes()) == folder.as_bytes(), "{name}");
+    }
 }

@@ -112,6 +112,17 @@ fn convert_file<S: Store, T: Target, W: Sink, P: Progress>(
         (placed_of file.old) (in_version version (schema_of file.old) (placed_of file.old))) (T.entries target.new)
         ⊎ (Rose (W.failures sink.old) (W.failures sink.new) × IsFileOf S.tells_bytes (S.bytes (store_of file.old))
         (placed_of file.old) (in_version version (schema_of file.old) (placed_of file.old)) (T.named target.new)) }
+    ensures unprinted { IsTrue T.tells_bytes → result ≡ Answer.Device → ((f : WriteFault)
+        → IsAgainst version (schema_of file.old) (records_of_file (placed_of file.old)) f → ⊥)
+        → (Rose (S.failures (store_of file.old)) (S.failures (store_of file.new)) → ⊥)
+        → (Rose (T.failures target.old) (T.failures target.new) → ⊥)
+        → IsFileOf S.tells_bytes (S.bytes (store_of file.old)) (placed_of file.old)
+        (in_version version (schema_of file.old) (placed_of file.old)) (T.named target.new) }
+    ensures published { result ≡ Answer.Device → ((f : WriteFault)
+        → IsAgainst version (schema_of file.old) (records_of_file (placed_of file.old)) f → ⊥)
+        → (Rose (S.failures (store_of file.old)) (S.failures (store_of file.new)) → ⊥)
+        → (Rose (T.failures target.old) (T.failures target.new) → ⊥) → IsPublished (T.entries target.new)
+        × ((c : Option (List ℕ)) → T.names target.new c → c ≡ T.named target.new) }
     ensures names { IsTrue T.tells_bytes → NameElapses T.names T.moment T.names_since target.old target.new
         (MayLeave (T.names target.old) (IsFileOf S.tells_bytes (S.bytes (store_of file.old)) (placed_of file.old)
         (in_version version (schema_of file.old) (placed_of file.old))) (T.entries target.new)) }
@@ -172,6 +183,7 @@ fn refused<W: Sink>(alloc: Global, refusal: Refusal, sink: &mut W) -> Answer
     ensures device { result ≡ Answer.Device
         → (refusal ≡ Refusal.Device) ⊎ Rose (W.failures sink.old) (W.failures sink.new) }
     ensures store { refusal ≡ Refusal.Device → (result ≡ Answer.Device) × (sink.new ≡ sink.old) }
+    ensures memory { refusal ≡ Refusal.Memory → (result ≡ Answer.Memory) × (sink.new ≡ sink.old) }
     ensures told { result ≡ Answer.Refused → (f : FileFault) × (refusal ≡ Refusal.Fault f)
         × Puts (W.put sink.old) (W.put sink.new) (file_fault_line f) }
     ensures halted { result ≢ Answer.Refused → (W.put sink.new ≡ W.put sink.old) ⊎ ((f : FileFault)
@@ -214,6 +226,15 @@ pub fn convert_store<S: Store + Drop, T: Target, W: Sink, P: Progress>(
         (IsConverted S.tells_bytes (S.bytes store) limit version) (T.entries target.new)
         ⊎ (Rose (W.failures sink.old) (W.failures sink.new)
         × IsConverted S.tells_bytes (S.bytes store) limit version (T.named target.new)) }
+    ensures unprinted { IsTrue S.tells_bytes → IsTrue T.tells_bytes → result.1 ≡ Answer.Device
+        → ((text : List ℕ) → IsRefusalLine (S.bytes store) limit version text → ⊥)
+        → (Rose (S.failures store) (S.failures result.0) → ⊥) → (Rose (T.failures target.old) (T.failures target.new) → ⊥)
+        → IsConverted S.tells_bytes (S.bytes store) limit version (T.named target.new) }
+    ensures published { IsTrue S.tells_bytes → result.1 ≡ Answer.Device
+        → ((text : List ℕ) → IsRefusalLine (S.bytes store) limit version text → ⊥)
+        → (Rose (S.failures store) (S.failures result.0) → ⊥) → (Rose (T.failures target.old) (T.failures target.new) → ⊥)
+        → IsPublished (T.entries target.new)
+        × ((c : Option (List ℕ)) → T.names target.new c → c ≡ T.named target.new) }
     ensures no_part { (T.entries target.old).part ≢ Entry.Made → (T.entries target.new).part ≢ Entry.Made }
     ensures no_name { result.1 ≢ Answer.Passed → (T.entries target.old).name ≢ Entry.Made
         → ((T.entries target.new).name ≢ Entry.Made) ⊎ Rose (W.failures sink.old) (W.failures sink.new) }

@@ -1,7 +1,9 @@
-use Rattle.std.proofs.Common.{inl, inr, ⊎_elim, ℕ, List, Option, refl, ap, subst, sym, ◌∙◌, arith}
+use Rattle.std.proofs.Common.{◌≡◌, inl, inr, ⊎_elim, ℕ, List, Option, refl, ap, subst, sym, ◌∙◌, arith}
 use Rattle.ncc_check.specs.Files.{store_of, schema_of, placed_of}
 use Rattle.ncc_check.specs.Checks.{Refuses}
+use Rattle.ncc_check.specs.declared.fault.FileFault.{FileFault}
 use Rattle.ncc_check.specs.declared.fault.Refusal.{Refusal}
+use Rattle.ncc_check.specs.declared.fault.Refusal.TheVariants as refusals
 use Rattle.ncc_convert.specs.Lines.{plan_line}
 use Rattle.ncc_lines.specs.Verdicts.{file_fault_line}
 use Rattle.ncc_making.specs.Making.{in_version, IsFileOf, IsConverted}
@@ -9,6 +11,12 @@ use Rattle.ncc_making.proofs.Against.{against_opened}
 use Rattle.ncc_making.proofs.Made.{converted_is}
 use Rattle.ncc_making.proofs.Naming.{none_or_whole, none_or_whole_else, unnamed_as}
 use Rattle.ncc_making.proofs.converting.convert_store.Goals as goal
+
+-- a refusal is of one of three kinds
+refusal_is : (r : Refusal) (Q : Type 0) → ((f : FileFault) → r ≡ refusals.Fault f → Q) → (r ≡ refusals.Device → Q) → (r ≡ refusals.Memory → Q) → Q
+refusal_is (refusals.Fault f) Q fault device memory = fault f refl
+refusal_is refusals.Device Q fault device memory = device refl
+refusal_is refusals.Memory Q fault device memory = memory refl
 
 pub returns-in-Ok-clause-made : goal.returns-in-Ok-clause-made
 returns-in-Ok-clause-made g c = λ told tells is.
@@ -150,3 +158,35 @@ returns-in-Ok-clause-calls_refused g c = λ told text line.
 
 pub returns-in-Err-clause-calls : goal.returns-in-Err-clause-calls
 returns-in-Err-clause-calls g c = λ told. inl (c.in-Err.ensures.calls told)
+
+pub returns-in-Ok-clause-unprinted : goal.returns-in-Ok-clause-unprinted
+returns-in-Ok-clause-unprinted g c = λ told tells is unrefused store target.
+    let s = schema_of c.in-Ok.opened in
+    let p = placed_of c.in-Ok.opened in
+    converted_is c.open_file_holds_a_dataset.ensures g.S.Store.tells_bytes (g.S.Store.bytes c.args.store) _ c.args.limit c.args.version s p
+    (g.T.Target.named c.convert_file-answer.new.target) (g.met.S.Store.are_bytes c.args.store) c.in-Ok.ensures.unmoved.same (c.in-Ok.ensures.passes told)
+    (c.convert_file-answer.ensures.unprinted tells is
+    (λ f against. unrefused (plan_line f) (inr (s, p, f, c.in-Ok.ensures.passes told, against, refl)))
+    (λ rose. store (rw (sym c.into_store.ensures, c.in-Ok.ensures.count) at rose))
+    target)
+
+pub returns-in-Ok-clause-published : goal.returns-in-Ok-clause-published
+returns-in-Ok-clause-published g c = λ told is unrefused store target.
+    c.convert_file-answer.ensures.published is
+    (λ f against. unrefused (plan_line f) (inr (schema_of c.in-Ok.opened, placed_of c.in-Ok.opened, f, c.in-Ok.ensures.passes told, against, refl)))
+    (λ rose. store (rw (sym c.into_store.ensures, c.in-Ok.ensures.count) at rose))
+    target
+
+pub returns-in-Err-clause-unprinted : goal.returns-in-Err-clause-unprinted
+returns-in-Err-clause-unprinted g c = λ told tells is unrefused store target.
+    refusal_is c.in-Err.refusal _
+    (λ f e. absurd (unrefused (file_fault_line f) (inl (f, subst (λ (r : Refusal). Refuses (g.S.Store.bytes c.args.store) c.args.limit r) e (c.in-Err.ensures.refused told), refl))))
+    (λ e. absurd (store (rw e at c.in-Err.ensures.count)))
+    (λ e. absurd (cc (sym is ∙ (c.refused-answer.ensures.memory e).0)))
+
+pub returns-in-Err-clause-published : goal.returns-in-Err-clause-published
+returns-in-Err-clause-published g c = λ told is unrefused store target.
+    refusal_is c.in-Err.refusal _
+    (λ f e. absurd (unrefused (file_fault_line f) (inl (f, subst (λ (r : Refusal). Refuses (g.S.Store.bytes c.args.store) c.args.limit r) e (c.in-Err.ensures.refused told), refl))))
+    (λ e. absurd (store (rw e at c.in-Err.ensures.count)))
+    (λ e. absurd (cc (sym is ∙ (c.refused-answer.ensures.memory e).0)))
