@@ -1,11 +1,10 @@
 #!/usr/bin/env bash
 # Times `ncc convert` from CDF-1 to CDF-2 and to CDF-5: of a file of 512 MiB, which are two fixed variables of 60 MiB and
-# 896 records of three variables of 64 to 256 KiB, and of one of 200,000 records of three variables of 4 to 8 bytes, each
-# of which is a read of its own. Beside it stand `cp`, and `nccopy` where that is installed (netcdf-bin), whose file must
-# be the same; a sync of the new file follows each of the two, as `ncc` makes one. The runs go by turns, and medians of
-# five are told, with the peak memory. The program is the first word, or the ncc of the path: one that scripts/install.sh
-# built. TMPDIR says which disk: on one in memory syncs cost nothing. The aim is less than nccopy's time and less than
-# 16 MiB of memory, and for the first file at most 1.3 of cp's time.
+# 896 records of three variables of 64 to 256 KiB, and of one of 200,000 records of three variables of 4 to 8 bytes.
+# Beside it stand `cp`, and `nccopy` where that is installed (netcdf-bin), whose file must be the same; a sync of the
+# new file follows each of the two, as `ncc` makes one. The runs go by turns, and medians of five are told, with the peak memory. The program is the first word, or the ncc of the path: one that scripts/install.sh
+# built. TMPDIR says which disk: on one in memory syncs cost nothing. The aim is less than half of nccopy's time and less
+# than 16 MiB of memory, for the first file at most 1.1 of cp's time, and for the second 3.
 set -euo pipefail
 ncc=${1:-ncc}
 here=$(cd "$(dirname "$0")" && pwd)

@@ -3,7 +3,7 @@
 # dimensions, one column of the shorts, and 16,000,000 records of one byte. Beside it stand a C program of the
 # same rows that knows each file by heart (csv_rows.c), and `ncdump -v` where that is installed (netcdf-bin),
 # which prints no indices. The program is the first word, or the ncc of the path: one that scripts/install.sh
-# built. The aim is at most half of `ncdump -v`'s time, and 1.5 of the C program's, for floats 2. In decimal
+# built. The aim is at most half of `ncdump -v`'s time, and 1.3 of the C program's, for doubles 1.5. In decimal
 # (`--decimal`) it is at most 1.3 of the C program's time, which prints by printf, and below `ncdump -v`.
 set -euo pipefail
 ncc=${1:-ncc}

@@ -1,6 +1,7 @@
 #!/usr/bin/env python3
-"""Writes files with large headers: `headers.py listed FOLDER` those of bench/list.sh, and `headers.py
-checked FOLDER` those of bench/check.sh, each with its header less the last byte as NAME.cut."""
+"""Writes files with large headers: `headers.py listed FOLDER` those of bench/list.sh, `headers.py shapes FOLDER`
+those of bench/shapes.py, and `headers.py checked FOLDER` those of bench/check.sh, each with its header less the last
+byte as NAME.cut."""
 
 import struct
 import sys
@@ -27,11 +28,16 @@ def listed(tag, items):
     return number(tag if items else 0) + number(len(items)) + b"".join(items)
 
 
-def variable(index, attributes, begin):
-    """A scalar of type byte."""
+def dimension(index, length):
+    return name(b"dimension_%d" % index) + number(length)
+
+
+def variable(index, attributes, begin, dimensions=()):
+    """A variable of type byte over these dimensions, of which it has at most 4 bytes."""
     return (
         name(b"variable_%d" % index)
-        + number(0)
+        + number(len(dimensions))
+        + b"".join(number(i) for i in dimensions)
         + listed(12, attributes)
         + number(1)
         + number(4)
@@ -39,15 +45,25 @@ def variable(index, attributes, begin):
     )
 
 
-def header(attributes, variables):
-    return b"CDF\x01" + number(0) + listed(10, []) + listed(12, attributes) + listed(11, variables)
+def header(attributes, variables, dimensions=()):
+    return b"CDF\x01" + number(0) + listed(10, dimensions) + listed(12, attributes) + listed(11, variables)
+
+
+def variables_over(count, attributes, dimensions, ids):
+    """The header of so many variables of type byte, one after the other, and their bytes."""
+    length = len(header([], [variable(i, attributes, 0, ids) for i in range(count)], dimensions))
+    variables = [variable(i, attributes, length + 4 * i, ids) for i in range(count)]
+    return header([], variables, dimensions), bytes(4 * count)
 
 
 def scalars(count, attributes):
-    """The header of so many scalars of type byte, one behind the other, and their bytes."""
-    length = len(header([], [variable(i, attributes, 0) for i in range(count)]))
-    variables = [variable(i, attributes, length + 4 * i) for i in range(count)]
-    return header([], variables), bytes(4 * count)
+    """The same of scalars."""
+    return variables_over(count, attributes, [], ())
+
+
+def of_rank_3(count):
+    """The same of variables of four bytes over three dimensions."""
+    return variables_over(count, [], [dimension(0, 2), dimension(1, 1), dimension(2, 2)], (0, 1, 2))
 
 
 def descending(count):
@@ -77,8 +93,20 @@ def checked_files():
     return files
 
 
+def shapes():
+    """One file of each shape of header."""
+    files = checked_files()
+    names = ["24000_variables_of_20_attributes", "24000_variables", "80000_variables_in_descending_order"]
+    names += ["100000_attributes", "one_attribute_of_60_MiB"]
+    files = {name: files[name] for name in names}
+    files["24000_variables_of_rank_3"] = of_rank_3(24000)
+    files["24000_dimensions"] = (header([], [], [dimension(i, 4) for i in range(24000)]), b"")
+    files["small_file"] = scalars(3, [attribute(b"units", b"meters")])
+    return files
+
+
 def main(which, folder):
-    files = {"listed": listed_files, "checked": checked_files}[which]()
+    files = {"listed": listed_files, "checked": checked_files, "shapes": shapes}[which]()
     for name, (head, data) in files.items():
         with open(f"{folder}/{name}.nc", "wb") as out:
             out.write(head + data)

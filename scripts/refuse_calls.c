@@ -1,6 +1,7 @@
 // Refuses calls of a run. The variable REFUSED has the number of one allocation; FAILED has a call and a number, as
 // `fsync 2`: that one fails, and no other; UNSYNCED has a number: each sync from that one on; UNLINKED, where it is
-// there, means each second name of a file, as file systems do that have none. At the end of the run it writes how many
+// there, means each second name of a file, as file systems do that have none. With OVERTAKEN each call that would give a
+// file its second name finds that another run has made a file of that name just before, which holds "theirs". At the end of the run it writes how many
 // allocations there were onto the file that COUNTED names, and how many of the calls below onto the one that CALLS
 // names. Onto the one that TRACED names it writes each sync, link, unlink and rename as it comes, with its path.
 // Preloaded by refuse_memory.sh, refuse_test_memory.sh, reliability.sh and test_program.sh.
@@ -126,8 +127,17 @@ int fsync(int file) {
   return -1;
 }
 
+// Makes the file that another run would have made.
+static void overtake(const char *path) {
+  FILE *file = getenv("OVERTAKEN") ? fopen(path, "w") : NULL;
+  if (!file) return;
+  fprintf(file, "theirs\n");
+  fclose(file);
+}
+
 int link(const char *old, const char *new) {
   trace(LINK, new);
+  overtake(new);
   if (fails(LINK)) return -1;
   if (!getenv("UNLINKED")) return ((int (*)(const char *, const char *))given("link"))(old, new);
   errno = EPERM;

@@ -523,6 +523,11 @@ if cc -O1 -shared -fPIC -o refuse.so "$top/scripts/refuse_calls.c" -ldl 2> /dev/
   UNLINKED=1 UNSYNCED=2 LD_PRELOAD=$folder/refuse.so "$ncc" convert --to 5 kinds_1.nc unsynced_5.nc > out 2> err
   count "convert, no link and no sync of the folder" "3  error device" "$? $(cat out) $(cat err)"
   neither "convert, no link and no sync of the folder" unsynced_5.nc
+  # Another run makes a file of the name meanwhile: it stays as it is, and the part goes.
+  OVERTAKEN=1 LD_PRELOAD=$folder/refuse.so "$ncc" convert --to 5 kinds_1.nc theirs_1.nc > out 2> err
+  count "convert, overtaken" "3  error device theirs absent" "$? $(cat out) $(cat err) $(cat theirs_1.nc) $([ -e theirs_1.nc.part ] || echo absent)"
+  OVERTAKEN=1 UNLINKED=1 LD_PRELOAD=$folder/refuse.so "$ncc" convert --to 5 kinds_1.nc theirs_2.nc > out 2> err
+  count "convert, overtaken without links" "3  error device theirs absent" "$? $(cat out) $(cat err) $(cat theirs_2.nc) $([ -e theirs_2.nc.part ] || echo absent)"
 else
   echo "skipped syncs and links that fail: there is no C compiler"
 fi
