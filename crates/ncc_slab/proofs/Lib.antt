@@ -19,6 +19,7 @@ mod SlabBytes
 mod PartPlaces
 mod AllParts
 mod Calls
+mod Apart
 mod Blocks
 mod Order
 mod Examples

@@ -10,4 +10,5 @@ pub mod WholeSlabs
 pub mod Readers
 pub mod Answers
 pub mod Stretches
+pub mod Apart
 pub mod Laws

@@ -11,6 +11,7 @@ ghost use Rattle.ncc_slab.specs.Answers.{buffer_length, part_count, PartCounts};
 ghost use Rattle.ncc_slab.specs.Grids.{grid_place, grid_count, grid_places, grid_rest, EndBy};
 ghost use Rattle.ncc_slab.specs.Selected.{bytes_at_places, AddsPlaces};
 ghost use Rattle.ncc_slab.specs.Stretches.{stretches, part_stretches, all_stretches};
+ghost use Rattle.ncc_slab.specs.Apart.{places_apart};
 
 use crate::fault::SlabFault;
 use crate::grid::Grid;
@@ -34,6 +35,41 @@ fn stretch(grid: &Grid, size: u64, n: u64, most: u64) -> u64
         count += grid.block(size, n + count, most - count);
     }
     count
+}
+
+/// Fills `out` with elements that lie at even distances, each by a call of its own.
+fn fetch_apart<S: Store>(
+    file: &mut NcFile<S>,
+    place: u64,
+    step: u64,
+    size: usize,
+    count: u64,
+    out: &mut [u8],
+) -> Result<(), Device>
+    requires ends { (i : ℕ) → i < count → place + i * step + size ≤ file_length_of (placed_of file.old) }
+    requires fits { file_length_of (placed_of file.old) < 2 ^ 64 }
+    requires room { length out.old ≡ count * size }
+    ensures told { IsTrue S.tells_bytes → OnOk result (out.new
+        ≡ bytes_at_places (S.bytes (store_of file.old)) size (places_apart place step count)) }
+    ensures schema { schema_of file.new ≡ schema_of file.old }
+    ensures placed { placed_of file.new ≡ placed_of file.old }
+    ensures reopen { must_reopen file.new ≡ must_reopen file.old }
+    ensures unmoved { Unmoved S.bytes S.images S.moment S.images_since (store_of file.old) (store_of file.new) }
+    ensures kept { KeepsImages (S.images (store_of file.old)) (S.images (store_of file.new)) }
+    ensures count { Counts (S.failures (store_of file.old)) (S.failures (store_of file.new)) result }
+    ensures calls { S.calls (store_of file.new) ≤ S.calls (store_of file.old) + count }
+    ensures reach { S.reach (store_of file.new)
+        ≤ max (S.reach (store_of file.old)) (file_length_of (placed_of file.old)) }
+{
+    store_laws::unmoved_calls_join::<S>();
+    let mut done = 0;
+    while done < count {
+        let begin = done as usize * size;
+        let end = (done + 1) as usize * size;
+        file.fetch(place + done * step, &mut out[begin..end])?;
+        done += 1;
+    }
+    Ok(())
 }
 
 /// Fills `out` with elements from the n-th on.
@@ -62,9 +98,22 @@ fn fetch_elements<S: Store>(
         ≤ max (S.reach (store_of file.old)) (file_length_of (placed_of file.old)) }
 {
     store_laws::unmoved_calls_join::<S>();
+    let step = grid.step();
     let mut done = 0;
     while done < count {
         let next = first + done;
+        if step != size as u64 {
+            let even = grid.block(step, next, count - done);
+            if even > 1 {
+                // Each but the last of these is followed by one that doesn't adjoin.
+                let begin = done as usize * size;
+                let end = (done + (even - 1)) as usize * size;
+                let room = &mut out[begin..end];
+                fetch_apart(file, grid.place(next), step, size, even - 1, room)?;
+                done += even - 1;
+                continue;
+            }
+        }
         let more = stretch(grid, size as u64, next, count - done);
         let begin = done as usize * size;
         let end = (done + more) as usize * size;

@@ -50,6 +50,14 @@ impl Grid {
         place
     }
 
+    /// How far the indices of the last axis move a place.
+    pub fn step(&self) -> u64 {
+        match self.axes.last() {
+            Some(axis) => axis.step,
+            None => 0,
+        }
+    }
+
     /// Does an index of this axis lie right after all that share the one before it? The last axis does only
     /// where each element has an index of its own.
     fn adjoins(&self, axis: usize, size: u64) -> bool
