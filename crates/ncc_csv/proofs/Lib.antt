@@ -1,5 +1,6 @@
 pub mod Adding
 pub mod Runs
+mod Fronts
 pub mod Plain
 pub mod Order
 pub mod Selecting

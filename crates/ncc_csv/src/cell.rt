@@ -30,7 +30,7 @@ fn bits_of_double(x: F64Bits) -> [u8; 18]
 
 /// A value of a variable.
 pub trait Cell: Copy {
-    ghost use Rattle.std.specs.Prelude.{ℕ, ◌+◌, ◌≤◌, List, ◌++◌, length, drop};
+    ghost use Rattle.std.specs.Prelude.{ℕ, ◌+◌, ◌≤◌, List, ◌++◌, length, take, drop};
     ghost use Rattle.ncc_lines.specs.declared.style.FloatStyle.{FloatStyle};
     ghost use Rattle.ncc_csv.specs.Plain.{IsPlain};
 
@@ -42,6 +42,7 @@ pub trait Cell: Copy {
         requires { (24 ≤ end) × (end ≤ length room.old) }
         ensures start { result + length (text style self) ≡ end }
         ensures written { drop result room.new ≡ text style self ++ drop end room.old }
+        ensures before { take result room.new ≡ take result room.old }
         ensures short { length (text style self) ≤ 24 }
         ensures plain { IsPlain (text style self) };
 }

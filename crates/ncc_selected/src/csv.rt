@@ -2,6 +2,7 @@
 
 mod columns;
 mod failing;
+mod fronts;
 mod helpers;
 mod named;
 mod parts;
