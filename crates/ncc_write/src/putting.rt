@@ -37,17 +37,37 @@ pub(crate) fn copy_at(buffer: &mut [u8], place: usize, bytes: &[u8])
     buffer[place..place + bytes.len()].copy_from_slice(bytes);
 }
 
-/// Puts the bytes of a fill value into the buffer `count` times, from a place on, and tells where they end.
+/// Copies so many bytes of the buffer, from a place on, to a later one that they don't reach.
+fn copy_on(buffer: &mut [u8], place: usize, count: usize, to: usize)
+    requires before { place + count ≤ to }
+    requires room { to + count ≤ length buffer.old }
+    ensures bytes { take (to + count) buffer.new ≡ take to buffer.old ++ take count (drop place buffer.old) }
+    ensures room { length buffer.new ≡ length buffer.old }
+{
+    buffer.copy_within(place..place + count, to);
+}
+
+/// Puts the bytes of a fill value into the buffer `count` times, from a place on, and tells where they end. What is
+/// there is copied behind itself, so that each copy but the last is twice as long as the one before it.
 pub(crate) fn fill_at(buffer: &mut [u8], place: usize, fill: &[u8], count: usize) -> usize
     requires { place + count * length fill.now ≤ length buffer.old }
     ensures end { result ≡ place + count * length fill.now }
     ensures bytes { take result buffer.new ≡ take place buffer.old ++ concat (replicate count fill.now) }
     ensures room { length buffer.new ≡ length buffer.old }
 {
-    for done in 0..count {
-        copy_at(buffer, place + done * fill.len(), fill);
+    let size = fill.len();
+    let mut done = 0;
+    while done < count {
+        let more = done.min(count - done);
+        if more == 0 {
+            copy_at(buffer, place, fill);
+            done = 1;
+            continue;
+        }
+        copy_on(buffer, place, more * size, place + done * size);
+        done += more;
     }
-    place + count * fill.len()
+    place + count * size
 }
 
 /// How many elements of the type these bytes are.

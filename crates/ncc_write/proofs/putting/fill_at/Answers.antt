@@ -1,11 +1,25 @@
-use Rattle.std.proofs.Common.{◌∙◌}
-use Rattle.ncc_write.proofs.ManyFills.{next_fill}
+use Rattle.std.proofs.Common.{◌≡◌, ◌+◌, ◌-◌, ◌*◌, ◌≤◌, length, ◌∙◌, arith}
+use Rattle.std.proofs.Math.Nat.{add-mul}
+use Rattle.std.proofs.lemmas.Nat.{mul-le}
+use Rattle.ncc_write.proofs.ManyFills.{more_fills}
 use Rattle.ncc_write.proofs.putting.fill_at.Goals as goal
+
+pub copy_on-requires-clause-room : goal.copy_on-requires-clause-room
+copy_on-requires-clause-room c =
+    let at = c.loop-done.invariant in
+    let size = length c.args.fill.now in
+    let done = c.loop-done.done in
+    let more = c.min-more.result in
+    let both = mul-le (done + more) size c.args.count size (omega (arith, c.min-more.ensures, c.loop-done-test.true)) (omega arith) in
+    omega (arith, both, add-mul done more size, at.room, c.requires)
 
 pub loop-done-preserved : goal.loop-done-preserved
 loop-done-preserved c =
     let at = c.loop-done.invariant in
+    let place_in : c.args.place ≤ length c.args.buffer.now = omega (arith, c.requires) in
     record {
-      bytes = next_fill c.args.place c.loop-done.done c.args.fill.now c.args.buffer.now c.loop-done.buffer c.copy_at.new.buffer at.bytes c.copy_at.ensures.bytes;
-      room = c.copy_at.ensures.room ∙ at.room;
+      within = omega (arith, c.min-more.ensures, c.loop-done-test.true);
+      bytes = more_fills c.args.place c.loop-done.done c.min-more.result c.args.fill.now c.args.buffer.now c.loop-done.buffer c.copy_on.new.buffer
+          place_in (omega (arith, c.min-more.ensures)) at.bytes c.copy_on.ensures.bytes;
+      room = c.copy_on.ensures.room ∙ at.room;
     }
