@@ -5,6 +5,7 @@ mod Slabs
 mod Rounds
 mod Positions
 mod Courses
+mod NextTurns
 mod Going
 pub mod Refusing
 mod AllFills

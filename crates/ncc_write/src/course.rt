@@ -21,12 +21,12 @@ pub(crate) struct Course {
 }
 
 impl Course {
-    ghost use Rattle.std.specs.Prelude.{IfOk};
+    ghost use Rattle.std.specs.Prelude.{IfOk, get_or};
     ghost use Rattle.ncc_layout.specs.Plans.{known};
     ghost use Rattle.ncc_layout.specs.Sizes.{AreSizes};
     ghost use Rattle.ncc_layout.specs.Standard.{FitsVersion};
     ghost use Rattle.ncc_schema.specs.Schema.{Sound};
-    ghost use Rattle.ncc_write.specs.Turns.{IsCourse, turn_at, record_at};
+    ghost use Rattle.ncc_write.specs.Turns.{IsCourse, no_turn, turn_at, turn_number, record_at};
 
     /// The slabs of a schema with these sizes and so many records.
     pub(crate) fn new(
@@ -75,6 +75,28 @@ impl Course {
         let behind = slab - self.fixed;
         let number = self.fixed + behind % in_record;
         (self.turns[number as usize], behind / in_record)
+    }
+
+    /// The turn with this number.
+    pub(crate) fn turn_with(&self, number: usize) -> Turn
+        requires { number < length self.now.turns.items }
+        ensures { result ≡ get_or self.now.turns.items number no_turn }
+    {
+        self.turns[number]
+    }
+
+    /// The number of the turn that the next slab has, and its record, by those of this one: without a division.
+    pub(crate) fn turn_after(&self, slab: u64, number: usize, round: u64) -> (usize, u64)
+        requires next { slab + 1 < self.now.slabs }
+        requires number { number ≡ turn_number self.now slab }
+        requires record { round ≡ record_at self.now slab }
+        ensures number { result.0 ≡ turn_number self.now (slab + 1) }
+        ensures record { result.1 ≡ record_at self.now (slab + 1) }
+    {
+        if number + 1 < self.turns.len() {
+            return (number + 1, round);
+        }
+        (self.fixed as usize, round + 1)
     }
 
     /// How many elements the first slab has, if there is one.

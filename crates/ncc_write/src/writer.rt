@@ -3,13 +3,14 @@
 ghost use Rattle.std.specs.Prelude.{◌≡◌, ◌<◌, ◌≤◌, [], false};
 ghost use Rattle.ncc_build.specs.Builds.{schema_of};
 ghost use Rattle.ncc_write.specs.Outlet.{waiting};
-ghost use Rattle.ncc_write.specs.Turns.{IsCourse};
+ghost use Rattle.ncc_write.specs.Turns.{IsCourse, turn_number, record_at};
 
 use crate::course::Course;
 use crate::laws::taking_all_completes;
 use crate::outlet::Outlet;
 use crate::putting::{are_bytes, elements_in};
 use crate::starting::{Parts, prepared};
+use crate::turn::Turn;
 use ncc_build::laws::built_is_writable;
 use ncc_build::{Built, WriteFault};
 use ncc_schema::{Failed, Sink, write_all};
@@ -26,10 +27,15 @@ pub struct FileWriter<W> {
     /// The slab of the next value, and how many elements of it are left.
     slab: u64,
     left: u64,
+    /// The number of that slab's turn, and its record.
+    number: usize,
+    round: u64,
     failed: bool,
     outlet: Outlet<W>,
     ghost planned: { IsCourse (schema_of built) course },
     ghost within: { slab ≤ course.slabs },
+    ghost number_is: { slab < course.slabs → number ≡ turn_number course slab },
+    ghost round_is: { slab < course.slabs → round ≡ record_at course slab },
     ghost flushed: { slab ≡ course.slabs → failed ≡ false → waiting outlet ≡ [] },
 }
 
@@ -76,10 +82,22 @@ impl<W: Sink> FileWriter<W> {
             left: course.first_elements(),
             course,
             slab: 0,
+            number: 0,
+            round: 0,
             failed: false,
             outlet: Outlet::over(sink, buffer, header.len() as u64),
             built,
         })
+    }
+
+    /// What is put for the slab of the next value, and in which record.
+    #[inline]
+    fn turn(&self) -> (Turn, u64)
+        requires { self.now.slab < self.now.course.slabs }
+        ensures turn { result.0 ≡ turn_at self.now.course self.now.slab }
+        ensures record { result.1 ≡ record_at self.now.course self.now.slab }
+    {
+        (self.course.turn_with(self.number), self.round)
     }
 
     /// The variable, the record and how many elements are left of the slab that the next value is of; nothing where
@@ -94,7 +112,7 @@ impl<W: Sink> FileWriter<W> {
         if self.slab == self.course.slabs() {
             return None;
         }
-        let (turn, record) = self.course.turn(self.slab);
+        let (turn, record) = self.turn();
         Some((turn.var, record, self.left))
     }
 
@@ -110,7 +128,10 @@ impl<W: Sink> FileWriter<W> {
         built_is_writable(&self.built);
         let next = self.slab + 1;
         if next < self.course.slabs() {
-            self.left = self.course.turn(next).0.elements;
+            let (number, round) = self.course.turn_after(self.slab, self.number, self.round);
+            self.left = self.course.turn_with(number).elements;
+            self.number = number;
+            self.round = round;
             self.slab = next;
             return Ok(());
         }
@@ -130,7 +151,7 @@ impl<W: Sink> FileWriter<W> {
             → StandsOrStops start (W.put (sink_in self.new)) self.new w result }
         ensures count { Counts (W.failures (sink_in self.old)) (W.failures (sink_in self.new)) result }
     {
-        let turn = self.course.turn(self.slab).0;
+        let turn = self.turn().0;
         self.outlet.put_fills(turn.fill(), turn.padding)?;
         self.open_slab()
     }
@@ -197,7 +218,7 @@ impl<W: Sink> FileWriter<W> {
         if self.slab == self.course.slabs() {
             return Err(WriteFault::Complete);
         }
-        if values.xtype() != self.course.turn(self.slab).0.xtype {
+        if values.xtype() != self.turn().0.xtype {
             return Err(WriteFault::WrongType);
         }
         if values.len() as u64 > self.left {
@@ -230,7 +251,7 @@ impl<W: Sink> FileWriter<W> {
         if self.slab == self.course.slabs() {
             return Err(WriteFault::Complete);
         }
-        if xtype != self.course.turn(self.slab).0.xtype {
+        if xtype != self.turn().0.xtype {
             return Err(WriteFault::WrongType);
         }
         let count = elements_in(xtype, bytes);
@@ -257,7 +278,7 @@ impl<W: Sink> FileWriter<W> {
         ensures slabs { self.new.course.slabs ≡ self.old.course.slabs }
         ensures count { Counts (W.failures (sink_in self.old)) (W.failures (sink_in self.new)) result }
     {
-        let turn = self.course.turn(self.slab).0;
+        let turn = self.turn().0;
         self.outlet.put_fills(turn.fill(), self.left)?;
         self.close_slab()
     }

@@ -1,7 +1,9 @@
-use Rattle.std.proofs.Common.{◌++◌, [], length, ap, sym, ◌∙◌, arith}
+use Rattle.std.proofs.Common.{ℕ, ◌++◌, [], length, get_or, ap, sym, ◌∙◌, arith}
 use Rattle.std.proofs.lemmas.List.{append-nil}
 use Rattle.ncc_write.specs.Outlet.{sink_of, waiting}
 use Rattle.ncc_write.specs.Writing.{written}
+use Rattle.ncc_write.specs.Turns.{no_turn}
+use Rattle.ncc_write.specs.declared.turn.Turn.{Turn}
 use Rattle.ncc_write.proofs.Going.{as_bytes, at_next, front_in_files, front_went, holds_more, is_out, none_missing, stops_at}
 use Rattle.ncc_write.proofs.writer.FileWriter.open_slab.Goals as goal
 
@@ -12,7 +14,8 @@ returns-then-next-slabs-clause-opens g c = λ start w e.
       schema = e.schema;
       failed = e.failed ∙ sym e.stands;
       bytes = e.bytes;
-      at = λ f. at_next _ w.schema x.course (length w.taken) x.slab c.turn.result.0.elements e.schema c.built_is_writable.ensures.built x.planned c.requires e.end (λ h. ap (λ t. t.elements) c.turn.ensures.turn);
+      at = λ f. at_next _ w.schema x.course (length w.taken) x.slab c.turn_with.result.elements e.schema c.built_is_writable.ensures.built x.planned c.requires e.end
+          (λ h. ap (λ (t : Turn). t.elements) (c.turn_with.ensures ∙ ap (λ (m : ℕ). get_or x.course.turns.items m no_turn) c.turn_after-number.ensures.number));
       whole = λ f. e.whole;
       out = is_out w start _ (waiting x.outlet) e.stands (none_missing start _ (waiting x.outlet) (written w.schema w.taken) e.out);
       pages = λ f less. e.pages (length (written w.schema w.taken)) (omega arith);
