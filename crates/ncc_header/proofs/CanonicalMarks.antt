@@ -302,7 +302,7 @@ numrecs_plain v at b = refl
 
 -- ---- the head of a list
 
-zero_number : (b : List ℕ) (n : ℕ) → all_zero b ≡ true → n ≡ 0 → number_onto n b ≡ 0
+pub zero_number : (b : List ℕ) (n : ℕ) → all_zero b ≡ true → n ≡ 0 → number_onto n b ≡ 0
 zero_number [] n h e = e
 zero_number (x ∷ b) n h e =
     let both = and_parts (x == 0) (all_zero b) h in

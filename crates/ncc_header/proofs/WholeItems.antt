@@ -1,14 +1,13 @@
 -- Items that stand whole at the front of a piece, one after another.
-use Rattle.std.proofs.Common.{◌≡◌, ℕ, suc, ◌+◌, ◌-◌, ◌<◌, ◌*◌, ◌≤◌, Bool, true, List, [], ◌∷◌, ◌++◌, length, take, Option, Some, None, refl, sym, ap, subst, ◌∙◌, append_assoc, append-nil, arith}
+use Rattle.std.proofs.Common.{◌≡◌, ℕ, suc, ◌+◌, ◌-◌, ◌<◌, ◌*◌, ◌≤◌, Bool, true, List, [], ◌∷◌, ◌++◌, length, take, Option, Some, None, refl, sym, ap, subst, ◌∙◌, append_assoc, append-nil, arith, not, false, ◌&&◌, true≢false}
 use Rattle.std.proofs.lemmas.List.{length-append, length-take-le, take_at}
-use Rattle.std.specs.Prelude.{unwrap_or, if◌then◌else◌}
+use Rattle.std.specs.Prelude.{unwrap_or, if◌then◌else◌, ◌==◌}
 use Rattle.ncc_values.specs.Numbers.{number_of}
 use Rattle.ncc_values.specs.Padding.{padding_of}
 use Rattle.ncc_values.specs.Values.{values_of}
 use Rattle.ncc_values.specs.Version.{count_width_of, offset_width_of}
 use Rattle.ncc_values.specs.XType.{size_of as bytes_each, type_of_code}
 use Rattle.ncc_values.specs.declared.version.Version.{Version}
-use Rattle.ncc_values.specs.declared.version.Version.TheVariants.{V1, V2, V5}
 use Rattle.ncc_values.specs.declared.xtype.XType.{XType}
 use Rattle.ncc_values.specs.declared.xtype.XType.TheVariants.{Byte}
 use Rattle.ncc_schema.specs.declared.schema.Attr.{Attr}
@@ -18,17 +17,20 @@ use Rattle.ncc_schema.specs.Schema.{Place}
 use Rattle.ncc_schema.specs.Header.{nc_attribute}
 use Rattle.ncc_schema.specs.declared.schema.Mark.{Mark}
 use Rattle.ncc_schema.specs.declared.schema.Mark.TheVariants as of
-use Rattle.ncc_header.specs.declared.built.Lists.{Lists}
 use Rattle.ncc_header.specs.declared.built.Named.TheVariants as named
 use Rattle.ncc_header.specs.declared.built.Next.TheVariants as nexts
 use Rattle.ncc_header.specs.declared.built.Owner.{Owner}
 use Rattle.ncc_header.specs.declared.fault.Wrong.{Wrong}
 use Rattle.ncc_header.specs.declared.reading.Reading.{Reading}
-use Rattle.ncc_header.specs.Fields.{attr, attrs, name, nc_type, nelems, bytes, padding, number, dimid, dimids, vsize, begin, var, list_head, list_tag, list_nelems, nelems_wrong, type_wrong, dimid_wrong, begin_wrong, tag_wrong, list_nelems_wrong}
-use Rattle.ncc_header.specs.Grammar.{Label, Plain, Padding, Begin, Grammar, done, field, ◌>>=◌, repeat}
-use Rattle.ncc_header.specs.Left.{Given, left_of, begins_of, begins_of_owner, come_of, front_of, from_attrs, with_attrs, from_vars, before_of, begins_of_vars, from_rank, ended}
+use Rattle.std.proofs.lemmas.Bool.{false_from_ne_true}
+use Rattle.ncc_header.specs.declared.built.Parts.{Parts}
+use Rattle.ncc_header.specs.declared.built.Vars.{Vars}
+use Rattle.ncc_header.proofs.CanonicalMarks.{zero_number}
+use Rattle.ncc_header.specs.Fields.{attr, attrs, name, nc_type, nelems, bytes, padding, number, dimid, dimids, vsize, begin, var, list_head, list_tag, list_nelems, nelems_wrong, type_wrong, dimid_wrong, begin_wrong, tag_wrong, list_nelems_wrong, number_field, dim, dim_length, label_of_count}
+use Rattle.ncc_header.specs.Grammar.{Label, Plain, Padding, Begin, Grammar, done, field, ◌>>=◌, repeat, CountOfTagged}
+use Rattle.ncc_header.specs.Left.{Given, left_of, come_of, from_attrs, with_attrs, from_vars, before_of, from_rank, ended, from_type, after_dim, from_length, with_dims, in_var}
 use Rattle.ncc_header.specs.Marks.{all_zero, mark_of}
-use Rattle.ncc_header.specs.Passing.{StartsWith, StartsWithBegin, Passes, PassesBegin, padded}
+use Rattle.ncc_header.specs.Passing.{StartsWith, StartsWithBegin, Passes, PassesBegin, padded, var_head, placed}
 use Rattle.ncc_header.specs.Reading.{course, next_of, held_of, begun_of, onward, Went}
 use Rattle.ncc_header.specs.Steps.{with_begin}
 use mathlib.Core.Path.{fun_ext}
@@ -119,10 +121,13 @@ passes_attr v text t k values piece a b c after p q r s =
 
 -- ---- the fields of a variable
 
+passes_labelled : (label : Label) (w : ℕ) (wrong : ℕ → Option Wrong) (n : ℕ) (piece front after : List ℕ) → StartsWith piece front w after → n ≡ number_of front → wrong n ≡ None → IsPlain label front → Passes (number_field label w wrong) n piece after
+passes_labelled label w wrong n piece front after starts is right plain =
+    subst (λ (m : ℕ). Passes (number_field label w wrong) m piece after) (sym is)
+    (passes_field label w (λ b. wrong (number_of b)) number_of piece front after starts (subst (λ (m : ℕ). wrong m ≡ None) is right) plain)
+
 pub passes_number : (w : ℕ) (wrong : ℕ → Option Wrong) (n : ℕ) (piece front after : List ℕ) → StartsWith piece front w after → n ≡ number_of front → wrong n ≡ None → Passes (number w wrong) n piece after
-passes_number w wrong n piece front after starts is right =
-    subst (λ (m : ℕ). Passes (number w wrong) m piece after) (sym is)
-    (passes_field Plain w (λ b. wrong (number_of b)) number_of piece front after starts (subst (λ (m : ℕ). wrong m ≡ None) is right) (plainly front))
+passes_number w wrong n piece front after starts is right = passes_labelled Plain w wrong n piece front after starts is right (plainly front)
 
 -- one dimension's number more
 pub passes_dimid : (v : Version) (dims : List Dim) (ids final : List ℕ) (n rank i : ℕ) (piece front mid after : List ℕ) → i < rank → StartsWith piece front (count_width_of v) mid → n ≡ number_of front → dimid_wrong dims ids n ≡ None
@@ -136,18 +141,40 @@ passes_dimid v dims ids final n rank i piece front mid after below starts is rig
 pub passes_dimids : (v : Version) (dims : List Dim) (ids : List ℕ) (rank : ℕ) (piece start after : List ℕ) → Passes (nelems v) rank piece start → Passes (repeat (dimid v dims) [] rank) ids start after → Passes (dimids v dims) ids piece after
 passes_dimids v dims ids rank piece start after p q = passes_both (nelems v) (repeat (dimid v dims) []) rank ids piece start after p q
 
-none_is_right : (v : Version) → list_nelems_wrong v 0 0 ≡ None
-none_is_right V1 = refl
-none_is_right V2 = refl
-none_is_right V5 = refl
+some_byte_of : (n : ℕ) (front : List ℕ) → (n == 0) ≡ false → n ≡ number_of front → all_zero front ≡ false
+some_byte_of n front some is = false_from_ne_true (all_zero front) (λ h. true≢false (sym (ap (λ (m : ℕ). m == 0) (is ∙ zero_number front 0 h refl)) ∙ some))
 
-pub passes_no_attrs : (v : Version) (tag n : ℕ) (piece front mid front' after : List ℕ) → StartsWith piece front 4 mid → tag ≡ number_of front → StartsWith mid front' (count_width_of v) after → n ≡ number_of front' → tag ≡ 0 → n ≡ 0 → Passes (attrs v) [] piece after
-passes_no_attrs v tag n piece front mid front' after starts is starts' is' untagged empty =
-    passes_both (list_head v nc_attribute) (repeat (λ before. attr v) []) 0 [] piece after after
-    (passes_both (list_tag nc_attribute) (list_nelems v) 0 0 piece mid after
-    (passes_number 4 (tag_wrong nc_attribute) 0 piece front mid starts (sym untagged ∙ is) refl)
-    (passes_number (count_width_of v) (list_nelems_wrong v 0) 0 mid front' after starts' (sym empty ∙ is') (none_is_right v)))
-    (passes_nothing [] after)
+-- a number of items shows no mark but where it is zero and its tag isn't
+head_plain : (untagged : Bool) (n : ℕ) (front : List ℕ) → (not untagged && (n == 0)) ≡ false → n ≡ number_of front → IsPlain (if untagged then Plain else CountOfTagged) front
+head_plain true n front h is = plainly front
+head_plain false n front h is = record {
+  unmarked = λ at. ap (λ (z : Bool). if z then of.TaggedEmpty (at - 4) ∷ [] else []) (some_byte_of n front h is);
+  unbegun = λ at ats. refl;
+}
+
+pub passes_list_head : (v : Version) (own tag n : ℕ) (piece front mid front' after : List ℕ) → StartsWith piece front 4 mid → tag ≡ number_of front → StartsWith mid front' (count_width_of v) after → n ≡ number_of front'
+    → tag_wrong own tag ≡ None → list_nelems_wrong v tag n ≡ None → (not (tag == 0) && (n == 0)) ≡ false → Passes (list_head v own) n piece after
+passes_list_head v own tag n piece front mid front' after starts is starts' is' right right' unmarked =
+    passes_both (list_tag own) (list_nelems v) tag n piece mid after
+    (passes_number 4 (tag_wrong own) tag piece front mid starts is right)
+    (passes_labelled (label_of_count tag) (count_width_of v) (list_nelems_wrong v tag) n mid front' after starts' is' right' (head_plain (tag == 0) n front' unmarked is'))
+
+pub passes_var_head : (v : Version) (dims : List Dim) (text ids : List ℕ) (n : ℕ) (piece a b after : List ℕ) → Passes (name v) text piece a → Passes (dimids v dims) ids a b → Passes (list_head v nc_attribute) n b after → Passes (var_head v dims) (text, ids, n) piece after
+passes_var_head v dims text ids n piece a b after p q r =
+    let x : List ℕ × List ℕ × ℕ = (text, ids, n) in
+    passes_both (name v) (λ text'. dimids v dims >>= λ ids'. list_head v nc_attribute >>= λ n'. done (text', ids', n')) text x piece a after p
+    (passes_both (dimids v dims) (λ ids'. list_head v nc_attribute >>= λ n'. done (text, ids', n')) ids x a b after q
+    (passes_both (list_head v nc_attribute) (λ n'. done (text, ids, n')) n x b after after r (passes_nothing x after)))
+
+-- ---- the fields of a dimension
+
+pub passes_dim : (v : Version) (before : List Dim) (text : List ℕ) (n : ℕ) (piece a after : List ℕ) → Passes (name v) text piece a → Passes (dim_length v before) n a after → Passes (dim v before) (record { name = text; length = n }) piece after
+passes_dim v before text n piece a after p q =
+    let x : Dim = record { name = text; length = n } in
+    passes_both (name v) (λ text'. dim_length v before >>= λ n'. done (record { name = text'; length = n' })) text x piece a after p
+    (passes_both (dim_length v before) (λ n'. done (record { name = text; length = n' })) n x a after after q (passes_nothing x after))
+
+-- ---- the fields after the attributes of a variable
 
 pub passes_begin : {A : Type 0} (v : Version) (n : ℕ) (x : ℕ → A) (piece after : List ℕ) → StartsWithBegin v n piece after → PassesBegin (begin v >>= λ at. done (x at)) (x n) piece after (offset_width_of v)
 passes_begin {A = A} v n x piece after s =
@@ -176,109 +203,138 @@ passes_before {A = A} {B = B} g h a b piece mid after size p q = record {
       ∙ ap (λ (n : ℕ). course (next b) limit n shown (begun ++ (n - size) ∷ []) more) (omega (arith, both));
 }
 
-pub passes_var : (v : Version) (dims : List Dim) (text ids : List ℕ) (t : XType) (size at : ℕ) (piece a b c d e after : List ℕ)
-    → Passes (name v) text piece a → Passes (dimids v dims) ids a b → Passes (attrs v) [] b c → Passes (nc_type v) t c d → Passes (vsize v) size d e → StartsWithBegin v at e after
-    → PassesBegin (var v dims) (record { name = text; dims = ids; attrs = []; xtype = t }, record { vsize = size; begin = at }) piece after (offset_width_of v)
-passes_var v dims text ids t size at piece a b c d e after p q r s u w =
-    let made : (List ℕ) → (List ℕ) → (List Attr) → XType → ℕ → ℕ → Var × Place = λ x i ns y z n. (record { name = x; dims = i; attrs = ns; xtype = y }, record { vsize = z; begin = n }) in
-    let last : Var × Place = made text ids [] t size at in
+pub passes_tail : (v : Version) (text ids : List ℕ) (notes : List Attr) (t : XType) (size at : ℕ) (piece d e after : List ℕ)
+    → Passes (nc_type v) t piece d → Passes (vsize v) size d e → StartsWithBegin v at e after
+    → PassesBegin (from_type v text ids notes) (placed text ids notes t size at) piece after (offset_width_of v)
+passes_tail v text ids notes t size at piece d e after s u w =
+    let last : Var × Place = placed text ids notes t size at in
     let o = offset_width_of v in
-    passes_before (name v) (λ x. dimids v dims >>= λ i. attrs v >>= λ ns. nc_type v >>= λ y. vsize v >>= λ z. begin v >>= λ n. done (made x i ns y z n)) text last piece a after o p
-    (passes_before (dimids v dims) (λ i. attrs v >>= λ ns. nc_type v >>= λ y. vsize v >>= λ z. begin v >>= λ n. done (made text i ns y z n)) ids last a b after o q
-    (passes_before (attrs v) (λ ns. nc_type v >>= λ y. vsize v >>= λ z. begin v >>= λ n. done (made text ids ns y z n)) [] last b c after o r
-    (passes_before (nc_type v) (λ y. vsize v >>= λ z. begin v >>= λ n. done (made text ids [] y z n)) t last c d after o s
-    (passes_before (vsize v) (λ z. begin v >>= λ n. done (made text ids [] t z n)) size last d e after o u
-    (passes_begin v at (made text ids [] t size) e after w)))))
+    passes_before (nc_type v) (λ y. vsize v >>= λ z. begin v >>= λ n. done (placed text ids notes y z n)) t last piece d after o s
+    (passes_before (vsize v) (λ z. begin v >>= λ n. done (placed text ids notes t z n)) size last d e after o u
+    (passes_begin v at (placed text ids notes t size) e after w))
 
 -- ---- readings
 
--- an attribute that is next stands whole at the front of the piece
-pub went_attr : (old new : Reading) (o : Owner) (x : Attr) (piece after : List ℕ) (used : ℕ) → old.next ≡ nexts.NameLength (named.Attr o) → old.held.items ≡ [] → Passes (attr old.built.lists.parts.version) x piece after → used + length after ≡ length piece → old.at + used ≤ old.limit
-    → left_of new.next new.built ≡ from_attrs o old.built.lists (old.built.lists.attrs.items ++ x ∷ []) old.built.lists.attrs_left → begins_of new.next new.built.lists.vars ≡ begins_of_owner o old.built.lists.vars → come_of new.next new.built ≡ []
-    → new.held.items ≡ [] → new.marks.items ≡ old.marks.items → new.limit ≡ old.limit → new.at ≡ old.at + used → Went old new piece used
-went_attr old new o x piece after used next none p long within left begins fresh none' marks limit at = record {
-  within = omega (arith, long);
-  takes = record {
-    limit = limit;
-    goes_on = λ more.
-        ap (λ (b : List ℕ). onward old (b ++ more)) taken
-        ∙ (λ i. course (starts i) old.limit old.at old.marks.items (begun i) (held i ++ (p.front ++ more)))
-        ∙ p.goes_on (λ y. from_attrs o l (l.attrs.items ++ y ∷ []) l.attrs_left) old.limit old.at old.marks.items (begins_of_owner o l.vars) more (omega (arith, same, within))
-        ∙ (λ i. course (sym left i) (sym limit i) (end i) (sym marks i) (sym begins i) (sym held' i ++ more));
-    long = let empty : length (held_of new) ≡ 0 = ap length held' in
-        let empty' : length (held_of old) ≡ 0 = ap length held in
-        omega (arith, empty, empty', at, length-take-le used piece (omega (arith, long)));
-  };
-}
+module _ (old new : Reading) (piece after : List ℕ) (used : ℕ) (fresh : come_of old.next old.built ≡ []) (none : old.held.items ≡ []) (long : used + length after ≡ length piece) (within : old.at + used ≤ old.limit)
+    (fresh' : come_of new.next new.built ≡ []) (none' : new.held.items ≡ []) (marks : new.marks.items ≡ old.marks.items) (limit : new.limit ≡ old.limit) (at : new.at ≡ old.at + used) where
+  used_of : (front : List ℕ) → piece ≡ front ++ after → length front ≡ used
+  used_of front joined = omega (arith, long, ap length joined, length-append front after)
+
+  taken_of : (front : List ℕ) → piece ≡ front ++ after → take used piece ≡ front
+  taken_of front joined = ap (λ (b : List ℕ). take used b) joined ∙ take_at front after used (used_of front joined)
+
+  held : held_of old ≡ []
+  held = ap (λ (h : List ℕ). come_of old.next old.built ++ h) none ∙ append-nil (come_of old.next old.built) ∙ fresh
+
+  held' : held_of new ≡ []
+  held' = ap (λ (h : List ℕ). come_of new.next new.built ++ h) none' ∙ append-nil (come_of new.next new.built) ∙ fresh'
+
+  end_of : (front : List ℕ) → piece ≡ front ++ after → old.at + length front ≡ new.at
+  end_of front joined = ap (λ (n : ℕ). old.at + n) (used_of front joined) ∙ sym at
+
+  all_of : new.at + length (held_of new) ≡ old.at + length (held_of old) + length (take used piece)
+  all_of = let empty : length (held_of new) ≡ 0 = ap length held' in
+      let empty' : length (held_of old) ≡ 0 = ap length held in
+      omega (arith, empty, empty', at, length-take-le used piece (omega (arith, long)))
+
+  -- what is next stands whole at the front of the piece
+  pub went : {A : Type 0} (g : Grammar A) (f : A → Grammar Given) (x : A) → next_of old ≡ (g >>= f) → Passes g x piece after → next_of new ≡ f x → begun_of new ≡ begun_of old → Went old new piece used
+  went g f x starts p left begins = record {
+    within = omega (arith, long);
+    takes = record {
+      limit = limit;
+      goes_on = λ more.
+          ap (λ (b : List ℕ). onward old (b ++ more)) (taken_of p.front p.joined)
+          ∙ (λ i. course (starts i) old.limit old.at old.marks.items (begun_of old) (held i ++ (p.front ++ more)))
+          ∙ p.goes_on f old.limit old.at old.marks.items (begun_of old) more (omega (arith, used_of p.front p.joined, within))
+          ∙ (λ i. course (sym left i) (sym limit i) (end_of p.front p.joined i) (sym marks i) (sym begins i) (sym held' i ++ more));
+      long = all_of;
+    };
+  }
+
+  -- the same where its last field is a begin field, of this size in bytes
+  pub went_begin : {A : Type 0} (g : Grammar A) (f : A → Grammar Given) (x : A) (size : ℕ) → next_of old ≡ (g >>= f) → PassesBegin g x piece after size → next_of new ≡ f x → begun_of new ≡ begun_of old ++ (old.at + used - size) ∷ [] → Went old new piece used
+  went_begin g f x size starts p left begins = record {
+    within = omega (arith, long);
+    takes = record {
+      limit = limit;
+      goes_on = λ more.
+          ap (λ (b : List ℕ). onward old (b ++ more)) (taken_of p.front p.joined)
+          ∙ (λ i. course (starts i) old.limit old.at old.marks.items (begun_of old) (held i ++ (p.front ++ more)))
+          ∙ p.goes_on f old.limit old.at old.marks.items (begun_of old) more (omega (arith, used_of p.front p.joined, within))
+          ∙ (λ i. course (sym left i) (sym limit i) (end_of p.front p.joined i) (sym marks i) (begins' p i) (sym held' i ++ more));
+      long = all_of;
+    };
+  }
+    where
+      begins' : (q : PassesBegin g x piece after size) → (begun_of old ++ (old.at + length q.front - size) ∷ []) ≡ begun_of new
+      begins' q = ap (λ (n : ℕ). begun_of old ++ (old.at + n - size) ∷ []) (used_of q.front q.joined) ∙ sym begins
+
+-- ---- what is left of an item and what comes after it
+
+join3 : {A B C D : Type 0} (g : Grammar A) (f : A → Grammar B) (h : B → Grammar C) (k : C → Grammar D) → (((g >>= f) >>= h) >>= k) ≡ (g >>= λ a. (f a >>= h) >>= k)
+join3 g f h k = ap (λ q. q >>= k) (join_assoc g f h) ∙ join_assoc g (λ a. f a >>= h) k
+
+pub starts_attr : (r : Reading) (o : Owner) → r.next ≡ nexts.NameLength (named.Attr o) → next_of r ≡ (attr r.built.lists.parts.version >>= λ y. from_attrs o r.built.lists (r.built.lists.attrs.items ++ y ∷ []) r.built.lists.attrs_left)
+starts_attr r o next =
+    let l = r.built.lists in
+    ap (λ n. left_of n r.built) next ∙ join_assoc (attr l.parts.version) (λ y. repeat (λ before. attr l.parts.version) (l.attrs.items ++ y ∷ []) l.attrs_left) (with_attrs o l.parts l.vars l.var)
+
+pub starts_dim : (r : Reading) → r.next ≡ nexts.NameLength named.Dim → next_of r ≡ (dim r.built.lists.parts.version r.built.lists.parts.dims.items >>= after_dim r.built.lists.parts r.built.lists.dims_left)
+starts_dim r next =
+    let l = r.built.lists in
+    let p = l.parts in
+    ap (λ n. left_of n r.built) next
+    ∙ ap (λ q. name p.version >>= q) (fun_ext (λ text. join_assoc (from_length p text) (λ y. repeat (dim p.version) (p.dims.items ++ y ∷ []) l.dims_left) (with_dims p.version p.count)))
+    ∙ sym (join_assoc (name p.version) (from_length p) (after_dim p l.dims_left))
+
+-- the attributes of a variable of which the head was read, and then the rest
+abbrev pub after_head : Parts → Vars → List ℕ × List ℕ × ℕ → Grammar Given
+after_head p v y = repeat (λ before. attr p.version) [] y.2 >>= λ notes. in_var p v (from_type p.version y.0 y.1 notes)
+
+pub starts_head : (r : Reading) → r.next ≡ nexts.NameLength named.Var → next_of r ≡ (var_head r.built.lists.parts.version r.built.lists.parts.dims.items >>= after_head r.built.lists.parts r.built.lists.vars)
+starts_head r next = ap (λ n. left_of n r.built) next ∙ ap (λ q. name version >>= q) (fun_ext by_text)
+    ∙ sym (join_assoc (name version) (λ text. dimids version dims >>= λ ids. list_head version nc_attribute >>= λ n. done (text, ids, n)) rest)
   where
-    l : Lists
-    l = old.built.lists
+    p : Parts
+    p = r.built.lists.parts
 
-    same : length p.front ≡ used
-    same = omega (arith, long, ap length p.joined, length-append p.front after)
+    version : Version
+    version = p.version
 
-    taken : take used piece ≡ p.front
-    taken = ap (λ (b : List ℕ). take used b) p.joined ∙ take_at p.front after used same
+    dims : List Dim
+    dims = p.dims.items
 
-    starts : next_of old ≡ (attr l.parts.version >>= λ y. from_attrs o l (l.attrs.items ++ y ∷ []) l.attrs_left)
-    starts = ap (λ n. left_of n old.built) next ∙ join_assoc (attr l.parts.version) (λ y. repeat (λ before. attr l.parts.version) (l.attrs.items ++ y ∷ []) l.attrs_left) (with_attrs o l.parts l.vars l.var)
+    vars : List (Var × Place) → Grammar (List (Var × Place))
+    vars before = repeat (λ b. var version dims) before r.built.lists.vars.left
 
-    begun : begun_of old ≡ begins_of_owner o l.vars
-    begun = ap (λ n. begins_of n l.vars) next
+    more : Var × Place → Grammar (List (Var × Place))
+    more x = vars (before_of r.built.lists.vars ++ x ∷ [])
 
-    held : held_of old ≡ []
-    held = ap (λ n. front_of n old.built old.held.items) next ∙ none
+    end : List (Var × Place) → Grammar Given
+    end = ended p p.gatts.items
 
-    held' : held_of new ≡ []
-    held' = ap (λ (h : List ℕ). come_of new.next new.built ++ h) none' ∙ append-nil (come_of new.next new.built) ∙ fresh
+    rest : List ℕ × List ℕ × ℕ → Grammar Given
+    rest = after_head p r.built.lists.vars
 
-    end : old.at + length p.front ≡ new.at
-    end = ap (λ (n : ℕ). old.at + n) same ∙ sym at
+    notes : ℕ → Grammar (List Attr)
+    notes n = repeat (λ before. attr version) [] n
 
--- a variable that is next stands whole at the front of the piece
-pub went_var : (old new : Reading) (x : Var × Place) (piece after : List ℕ) (used : ℕ) → old.next ≡ nexts.NameLength named.Var → old.held.items ≡ [] → PassesBegin (var old.built.lists.parts.version old.built.lists.parts.dims.items) x piece after (offset_width_of old.built.lists.parts.version) → used + length after ≡ length piece → old.at + used ≤ old.limit
-    → left_of new.next new.built ≡ from_vars old.built.lists.parts (before_of old.built.lists.vars ++ x ∷ []) old.built.lists.vars.left → begins_of new.next new.built.lists.vars ≡ begins_of_vars old.built.lists.vars ++ (old.at + used - offset_width_of old.built.lists.parts.version) ∷ [] → come_of new.next new.built ≡ []
-    → new.held.items ≡ [] → new.marks.items ≡ old.marks.items → new.limit ≡ old.limit → new.at ≡ old.at + used → Went old new piece used
-went_var old new x piece after used next none p long within left begins fresh none' marks limit at = record {
-  within = omega (arith, long);
-  takes = record {
-    limit = limit;
-    goes_on = λ more.
-        ap (λ (b : List ℕ). onward old (b ++ more)) taken
-        ∙ (λ i. course (starts i) old.limit old.at old.marks.items (begun i) (held i ++ (p.front ++ more)))
-        ∙ p.goes_on (λ y. from_vars l.parts (before_of l.vars ++ y ∷ []) l.vars.left) old.limit old.at old.marks.items (begins_of_vars l.vars) more (omega (arith, same, within))
-        ∙ (λ i. course (sym left i) (sym limit i) (end i) (sym marks i) (begins' i) (sym held' i ++ more));
-    long = let empty : length (held_of new) ≡ 0 = ap length held' in
-        let empty' : length (held_of old) ≡ 0 = ap length held in
-        omega (arith, empty, empty', at, length-take-le used piece (omega (arith, long)));
-  };
-}
-  where
-    l : Lists
-    l = old.built.lists
+    by_ids : (text ids : List ℕ) → (((attrs version >>= from_type version text ids) >>= more) >>= end) ≡ ((list_head version nc_attribute >>= λ n. done (text, ids, n)) >>= rest)
+    by_ids text ids =
+        ap (λ q. (q >>= more) >>= end) (join_assoc (list_head version nc_attribute) notes (from_type version text ids))
+        ∙ join3 (list_head version nc_attribute) (λ n. notes n >>= from_type version text ids) more end
+        ∙ ap (λ q. list_head version nc_attribute >>= q) (fun_ext (λ n. join3 (notes n) (from_type version text ids) more end))
+        ∙ sym (join_assoc (list_head version nc_attribute) (λ n. done (text, ids, n)) rest)
 
-    same : length p.front ≡ used
-    same = omega (arith, long, ap length p.joined, length-append p.front after)
+    by_text : (text : List ℕ) → ((from_rank p text >>= more) >>= end) ≡ ((dimids version dims >>= λ ids. list_head version nc_attribute >>= λ n. done (text, ids, n)) >>= rest)
+    by_text text =
+        join3 (dimids version dims) (λ ids. attrs version >>= from_type version text ids) more end
+        ∙ ap (λ q. dimids version dims >>= q) (fun_ext (by_ids text))
+        ∙ sym (join_assoc (dimids version dims) (λ ids. list_head version nc_attribute >>= λ n. done (text, ids, n)) rest)
 
-    taken : take used piece ≡ p.front
-    taken = ap (λ (b : List ℕ). take used b) p.joined ∙ take_at p.front after used same
-
-    starts : next_of old ≡ (var l.parts.version l.parts.dims.items >>= λ y. from_vars l.parts (before_of l.vars ++ y ∷ []) l.vars.left)
-    starts = ap (λ n. left_of n old.built) next
-        ∙ ap (λ q. name l.parts.version >>= q) (fun_ext (λ text. join_assoc (from_rank l.parts text) (λ y. repeat (λ before. var l.parts.version l.parts.dims.items) (before_of l.vars ++ y ∷ []) l.vars.left) (ended l.parts l.parts.gatts.items)))
-        ∙ sym (join_assoc (name l.parts.version) (from_rank l.parts) (λ y. from_vars l.parts (before_of l.vars ++ y ∷ []) l.vars.left))
-
-    begun : begun_of old ≡ begins_of_vars l.vars
-    begun = ap (λ n. begins_of n l.vars) next
-
-    begins' : (begins_of_vars l.vars ++ (old.at + length p.front - offset_width_of l.parts.version) ∷ []) ≡ begun_of new
-    begins' = ap (λ (n : ℕ). begins_of_vars l.vars ++ (old.at + n - offset_width_of l.parts.version) ∷ []) same ∙ sym begins
-
-    held : held_of old ≡ []
-    held = ap (λ n. front_of n old.built old.held.items) next ∙ none
-
-    held' : held_of new ≡ []
-    held' = ap (λ (h : List ℕ). come_of new.next new.built ++ h) none' ∙ append-nil (come_of new.next new.built) ∙ fresh
-
-    end : old.at + length p.front ≡ new.at
-    end = ap (λ (n : ℕ). old.at + n) same ∙ sym at
+pub starts_tail : (r : Reading) → r.next ≡ nexts.VarType → next_of r ≡ (from_type r.built.lists.parts.version r.built.lists.var.name r.built.lists.var.dims.items r.built.lists.attrs.items >>= λ y. from_vars r.built.lists.parts (before_of r.built.lists.vars ++ y ∷ []) r.built.lists.vars.left)
+starts_tail r next =
+    let l = r.built.lists in
+    ap (λ n. left_of n r.built) next
+    ∙ join_assoc (from_type l.parts.version l.var.name l.var.dims.items l.attrs.items) (λ x. repeat (λ before. var l.parts.version l.parts.dims.items) (before_of l.vars ++ x ∷ []) l.vars.left) (ended l.parts l.parts.gatts.items)

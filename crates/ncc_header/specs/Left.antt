@@ -111,6 +111,10 @@ with_dims v c dims = attrs v >>= λ gatts. list v nc_variable (λ before. var v 
 abbrev pub from_dims : Parts → (k : ℕ) → Grammar Given
 from_dims p k = repeat (dim p.version) p.dims.items k >>= with_dims p.version p.count
 
+-- the dimensions so far and one more, k more, and then the rest
+abbrev pub after_dim : Parts → (k : ℕ) → Dim → Grammar Given
+after_dim p k x = repeat (dim p.version) (p.dims.items ++ x ∷ []) k >>= with_dims p.version p.count
+
 abbrev pub from_count : Version → Count → Grammar Given
 from_count v c = list v nc_dimension (dim v) >>= with_dims v c
 

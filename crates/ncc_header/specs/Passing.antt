@@ -4,7 +4,13 @@ use Rattle.ncc_schema.specs.declared.schema.Mark.{Mark}
 use Rattle.ncc_values.specs.Numbers.{number_of}
 use Rattle.ncc_values.specs.Version.{offset_width_of}
 use Rattle.ncc_values.specs.declared.version.Version.{Version}
-use Rattle.ncc_header.specs.Fields.{bytes, padding, begin_wrong}
+use Rattle.ncc_values.specs.declared.xtype.XType.{XType}
+use Rattle.ncc_schema.specs.declared.schema.Attr.{Attr}
+use Rattle.ncc_schema.specs.declared.schema.Dim.{Dim}
+use Rattle.ncc_schema.specs.declared.schema.Var.{Var}
+use Rattle.ncc_schema.specs.Header.{nc_attribute}
+use Rattle.ncc_schema.specs.Schema.{Place}
+use Rattle.ncc_header.specs.Fields.{bytes, padding, begin_wrong, name, dimids, list_head}
 use Rattle.ncc_header.specs.Grammar.{Grammar, done, ◌>>=◌}
 use Rattle.ncc_header.specs.Left.{Given}
 use Rattle.ncc_header.specs.Reading.{course}
@@ -24,6 +30,14 @@ pub record Passes {A : Type 0} (g : Grammar A) (item : A) (piece after : List �
 -- so many bytes, and their padding
 abbrev pub padded : ℕ → Grammar (List ℕ)
 padded n = bytes n >>= λ text. padding n >>= λ zeros. done text
+
+-- a variable's name, the numbers of its dimensions, and how many attributes it has
+abbrev pub var_head : Version → List Dim → Grammar (List ℕ × List ℕ × ℕ)
+var_head v dims = name v >>= λ text. dimids v dims >>= λ ids. list_head v nc_attribute >>= λ n. done (text, ids, n)
+
+-- a variable of these parts, and its place
+abbrev pub placed : (name ids : List ℕ) → List Attr → XType → (size at : ℕ) → Var × Place
+placed name ids notes t size at = (record { name = name; dims = ids; attrs = notes; xtype = t }, record { vsize = size; begin = at })
 
 -- The same of an item whose last field is a begin field, of this size in bytes.
 pub record PassesBegin {A : Type 0} (g : Grammar A) (item : A) (piece after : List ℕ) (size : ℕ) : Type 0 where

@@ -33,7 +33,7 @@ pub fn after_attrs_tag(
 }
 
 /// The attribute that begins, or where none of so many is left what follows the list.
-fn next_attr(alloc: Global, built: &mut Built, owner: Owner, left: u64) -> Next
+pub fn next_attr(alloc: Global, built: &mut Built, owner: Owner, left: u64) -> Next
     ensures left { left_of result built.new ≡ from_attrs owner built.old.lists built.old.lists.attrs.items left }
     ensures begins { begins_of result built.new.lists.vars ≡ begins_of_owner owner built.old.lists.vars }
     ensures fresh { come_of result built.new ≡ [] }

@@ -1,9 +1,9 @@
 //! The fields of the list of dimensions.
 
-ghost use Rattle.std.specs.Prelude.{◌≡◌, ◌≤◌, [], length};
+ghost use Rattle.std.specs.Prelude.{◌≡◌, ◌≤◌, [], length, IfOk};
 ghost use Rattle.ncc_values.specs.Version.{count_width_of};
 ghost use Rattle.ncc_header.specs.declared.built.Next.TheVariants as nexts;
-ghost use Rattle.ncc_header.specs.Left.{left_of, from_dims, begins_of, come_of, first_at};
+ghost use Rattle.ncc_header.specs.Left.{left_of, from_dims, after_dim, begins_of, come_of, first_at};
 ghost use Rattle.ncc_header.specs.Steps.{Steps};
 
 use crate::built::{Built, Named, Next, Owner};
@@ -12,7 +12,7 @@ use crate::items::push_item;
 use crate::judge;
 use ncc_schema::{Dim, NC_DIMENSION};
 use ncc_values::{Name, number};
-use std::alloc::Global;
+use std::alloc::{AllocError, Global};
 use std::mem;
 
 /// The tag: dim_list = ABSENT | **NC_DIMENSION** nelems [dim ...]
@@ -56,6 +56,19 @@ pub fn after_dims_count(
     Ok(next_dim(built, n))
 }
 
+/// Adds the dimension that has begun, now whole, and tells which field comes then.
+pub fn add_dim(built: &mut Built, dim: Dim) -> Result<Next, AllocError>
+    ensures left { IfOk result (λ next. left_of next built.new
+        ≡ after_dim built.old.lists.parts built.old.lists.dims_left dim) }
+    ensures begins { IfOk result (λ next. begins_of next built.new.lists.vars ≡ []) }
+    ensures fresh { IfOk result (λ next. come_of next built.new ≡ []) }
+    ensures at { IfOk result (λ next. first_at next ≤ 12) }
+{
+    let left = built.lists.dims_left;
+    push_item(&mut built.lists.parts.dims, dim, left)?;
+    Ok(next_dim(built, left))
+}
+
 /// The length: dim = name **dim_length**
 pub fn after_dim_length(
     alloc: Global,
@@ -69,7 +82,5 @@ pub fn after_dim_length(
     let length = number(front);
     judge::dim_length(built.lists.parts.version, &built.lists.parts.dims, length)?;
     let name = mem::replace(&mut built.name, Name::new(alloc));
-    let dims = &mut built.lists.parts.dims;
-    push_item(dims, Dim { name, length }, built.lists.dims_left)?;
-    Ok(next_dim(built, built.lists.dims_left))
+    Ok(add_dim(built, Dim { name, length })?)
 }

@@ -22,6 +22,7 @@ mod step;
 mod taking;
 mod vars;
 mod whole_attr;
+mod whole_dim;
 mod whole_var;
 
 pub use decoder::Decoder;

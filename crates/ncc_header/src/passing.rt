@@ -1,12 +1,14 @@
 //! What stands whole at the front of a piece, with nothing to mark or to refuse.
 
-ghost use Rattle.std.specs.Prelude.{◌≡◌, ℕ, ◌≤◌, ◌<◌, List, [], length, IfSome};
+ghost use Rattle.std.specs.Prelude.{◌≡◌, ℕ, ◌≤◌, ◌<◌, List, length, IfSome, not, ◌==◌, ◌&&◌};
 ghost use Rattle.ncc_values.specs.Version.{count_width_of, offset_width_of};
 ghost use Rattle.ncc_values.specs.Numbers.{number_of};
-ghost use Rattle.ncc_header.specs.Fields.{attrs, name, nc_type, nelems, vsize};
+ghost use Rattle.ncc_schema.specs.Header.{nc_attribute};
+ghost use Rattle.ncc_header.specs.Fields.{dim_length, list_head, name, nc_type, nelems, vsize};
 ghost use Rattle.ncc_header.specs.Passing.{Passes, StartsWith, StartsWithBegin, padded};
 
 use crate::judge;
+use ncc_schema::{Dim, NC_ATTRIBUTE};
 use ncc_values::{Version, XType, number, pad};
 
 /// So many bytes at the front of a piece, and the bytes after them.
@@ -96,18 +98,49 @@ pub fn xtype(version: Version, piece: &[u8]) -> Option<(XType, &[u8])>
     }
 }
 
-/// vatt_list = ABSENT
+/// Whether a tag stands before no items, which is marked.
 #[inline]
-pub fn no_attrs(version: Version, piece: &[u8]) -> Option<&[u8]>
-    ensures passes { IfSome result (λ after. Passes (attrs version) [] piece.now after.now) }
-    ensures less { IfSome result (λ after. length after.now ≤ length piece.now) }
+fn stands_alone(tag: u64, n: u64) -> bool
+    ensures { result ≡ (not (tag == 0) && (n == 0)) }
+{
+    tag != 0 && n == 0
+}
+
+/// The head of vatt_list = ABSENT | NC_ATTRIBUTE nelems [attr ...], where it is absent or has items: how many
+#[inline]
+pub fn attrs_head(version: Version, piece: &[u8]) -> Option<(u64, &[u8])>
+    ensures passes { IfSome result (λ r. Passes (list_head version nc_attribute) r.0 piece.now r.1.now) }
+    ensures less { IfSome result (λ r. length r.1.now ≤ length piece.now) }
 {
     let (tag, rest) = number_at(piece, 4)?;
     let (n, after) = counted(version, rest)?;
-    if tag != 0 || n != 0 {
+    if stands_alone(tag, n) {
         return None;
     }
-    Some(after)
+    let Ok(()) = judge::tag(NC_ATTRIBUTE, tag) else {
+        return None;
+    };
+    match judge::list_nelems(version, tag, n) {
+        Ok(()) => Some((n, after)),
+        Err(_) => None,
+    }
+}
+
+/// dim_length = NON_NEG, after the dimensions before it
+#[inline]
+pub fn length_field<'a>(
+    version: Version,
+    before: &[Dim],
+    piece: &'a [u8],
+) -> Option<(u64, &'a [u8])>
+    ensures passes { IfSome result (λ r. Passes (dim_length version before.now) r.0 piece.now r.1.now) }
+    ensures less { IfSome result (λ r. length r.1.now ≤ length piece.now) }
+{
+    let (n, after) = counted(version, piece)?;
+    match judge::dim_length(version, before, n) {
+        Ok(()) => Some((n, after)),
+        Err(_) => None,
+    }
 }
 
 /// vsize = NON_NEG, whatever number it is

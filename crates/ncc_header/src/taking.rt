@@ -1,4 +1,4 @@
-//! Taking the bytes of a piece: field by field, and an attribute that is whole in it at once.
+//! Taking the bytes of a piece: field by field, and what is whole in it at once.
 
 ghost use Rattle.std.specs.Prelude.{◌≡◌, ◌≢◌, ◌+◌, ◌-◌, ◌≤◌, ◌<◌, ◌^◌, ℕ, List, [], ◌++◌, length, take, Some, None, Err, OnOk, IfOk, IfErr, IfSome, IfNone};
 ghost use Rattle.ncc_header.specs.Left.{left_of, come_of, idle_of};
@@ -6,17 +6,18 @@ ghost use Rattle.ncc_header.specs.Marks.{mark_of};
 ghost use Rattle.ncc_header.specs.Steps.{size_of, label_of, StepsTo, Steps};
 ghost use Rattle.ncc_header.specs.Reading.{next_of, held_of, told_of, Takes, Went, FailsBehind, Waits, WaitsBehind, effort_of};
 
-use crate::built::{Built, Next};
+use crate::built::{Built, Named, Next};
 use crate::fault::{Fault, FaultKind, HeaderError, StepError};
 use crate::gathering::gather;
 use crate::judge::push_mark;
 use crate::reading::Reading;
 use crate::step::step;
-use crate::whole_attr::{attr_begins, take_attr};
-use crate::whole_var::{take_var, var_begins};
+use crate::whole_attr::take_attr;
+use crate::whole_dim::take_dim;
+use crate::whole_var::{take_tail, take_var};
 use arrayvec::ArrayVec;
 use ncc_schema::Mark;
-use std::alloc::Global;
+use std::alloc::{AllocError, Global};
 use std::mem;
 
 /// The error of a field at this offset that is not taken.
@@ -202,7 +203,28 @@ fn take_next(
     }
 }
 
-/// Takes an attribute at once, or else the next field, where the rest of a piece makes it whole, and
+/// Takes what comes next at once, a dimension, an attribute or what stands before or after those of a variable, where
+/// the rest of a piece begins with all of it and nothing is to mark or to refuse, and tells how many bytes are its.
+/// Else nothing is taken.
+fn take_item(alloc: Global, reading: &mut Reading, rest: &[u8]) -> Result<Option<usize>, AllocError>
+    ensures some { IfOk result (λ o. IfSome o (λ n. Went reading.old reading.new rest.now n)) }
+    ensures less { IfOk result (λ o. IfSome o (λ n. effort_of reading.new < effort_of reading.old)) }
+    ensures none { IfOk result (λ o. IfNone o (reading.new ≡ reading.old)) }
+    ensures memory { IfErr result (λ _. 12 ≤ reading.old.at) }
+{
+    if !reading.held.is_empty() {
+        return Ok(None);
+    }
+    match reading.next {
+        Next::NameLength(Named::Attr(owner)) => take_attr(alloc, reading, owner, rest),
+        Next::NameLength(Named::Dim) => take_dim(alloc, reading, rest),
+        Next::NameLength(Named::Var) => take_var(alloc, reading, rest),
+        Next::VarType => take_tail(alloc, reading, rest),
+        _ => Ok(None),
+    }
+}
+
+/// Takes an item at once, or else the next field, where the rest of a piece makes it whole, and
 /// tells how many bytes of the rest are its.
 fn take_some(
     alloc: Global,
@@ -216,17 +238,7 @@ fn take_some(
     ensures fails { IfErr result (FailsBehind reading.old rest.now) }
     ensures memory { result ≡ Err HeaderError.Memory → 12 ≤ reading.old.at }
 {
-    if var_begins(reading) {
-        return match take_var(alloc, reading, rest) {
-            Ok(Some(n)) => Ok(Some(n)),
-            Ok(None) => take_next(alloc, reading, rest),
-            Err(_) => Err(HeaderError::Memory),
-        };
-    }
-    let Some(owner) = attr_begins(reading) else {
-        return take_next(alloc, reading, rest);
-    };
-    match take_attr(alloc, reading, owner, rest) {
+    match take_item(alloc, reading, rest) {
         Ok(Some(n)) => Ok(Some(n)),
         Ok(None) => take_next(alloc, reading, rest),
         Err(_) => Err(HeaderError::Memory),

@@ -125,7 +125,7 @@ pub fn after_vsize(built: &Built, xtype: XType, at: u64, front: &[u8]) -> Result
 }
 
 /// The variable that has begun, of this type.
-fn whole_var(alloc: Global, lists: &mut Lists, xtype: XType) -> Var
+pub fn begun_var(alloc: Global, lists: &mut Lists, xtype: XType) -> Var
     ensures var { result ≡ var_of lists.old xtype }
     ensures parts { lists.new.parts ≡ lists.old.parts }
     ensures vars { lists.new.vars ≡ lists.old.vars }
@@ -168,7 +168,7 @@ pub fn after_begin(
 {
     let begin = number(front);
     judge::begin(built.lists.parts.version, begin)?;
-    let var = whole_var(alloc, &mut built.lists, xtype);
+    let var = begun_var(alloc, &mut built.lists, xtype);
     let place = VarPlace {
         vsize,
         begin,

@@ -10,7 +10,7 @@ ghost use Rattle.ncc_header.specs.Passing.{Passes, padded};
 ghost use Rattle.ncc_header.specs.Reading.{Went, effort_of};
 
 use crate::attrs::add_attr;
-use crate::built::{Named, Next, Owner};
+use crate::built::{Next, Owner};
 use crate::passing::{count, whole_name, with_padding, xtype};
 use crate::reading::Reading;
 use ncc_schema::Attr;
@@ -73,18 +73,6 @@ fn owned(alloc: Global, found: Found<'_>) -> Result<Attr, AllocError>
     let name = Name::from_slice(alloc, found.name)?;
     let values = Values::of_bytes(alloc, found.xtype, found.values)?;
     Ok(Attr { name, values })
-}
-
-/// What the attribute is of that comes next, where none of its bytes has come.
-#[inline]
-pub fn attr_begins(reading: &Reading) -> Option<Owner>
-    ensures next { IfSome result (λ o. reading.now.next ≡ nexts.NameLength (named.Attr o)) }
-    ensures none { IfSome result (λ o. reading.now.held.items ≡ []) }
-{
-    match reading.next {
-        Next::NameLength(Named::Attr(owner)) if reading.held.is_empty() => Some(owner),
-        _ => None,
-    }
 }
 
 /// Takes the attribute that comes next, where the rest of a piece begins with all of it, within the limit and

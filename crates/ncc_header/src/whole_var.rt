@@ -1,22 +1,25 @@
-//! Taking a variable without attributes that is whole in a piece, with nothing to mark or to refuse, at once.
+//! Taking what stands before and after a variable's attributes, where it is whole in a piece with nothing to mark or
+//! to refuse, at once.
 
-ghost use Rattle.std.specs.Prelude.{◌≡◌, ◌≤◌, ◌<◌, [], length, IsTrue, IfSome, IfNone, IfOk, IfErr};
+ghost use Rattle.std.specs.Prelude.{◌≡◌, ◌≤◌, ◌<◌, ℕ, List, [], length, IfSome, IfNone, IfOk, IfErr};
 ghost use Rattle.ncc_values.specs.Version.{offset_width_of};
-ghost use Rattle.ncc_schema.specs.Schema.{place_of};
+ghost use Rattle.ncc_schema.specs.declared.schema.Attr.{Attr as TheAttr};
 ghost use Rattle.ncc_header.specs.declared.built.Named.TheVariants as named;
 ghost use Rattle.ncc_header.specs.declared.built.Next.TheVariants as nexts;
-ghost use Rattle.ncc_header.specs.Fields.{dimids, var};
-ghost use Rattle.ncc_header.specs.Passing.{Passes, PassesBegin};
+ghost use Rattle.ncc_header.specs.Fields.{dimids};
+ghost use Rattle.ncc_header.specs.Left.{from_type};
+ghost use Rattle.ncc_header.specs.Passing.{Passes, PassesBegin, placed, var_head};
 ghost use Rattle.ncc_header.specs.Reading.{Went, effort_of};
 
-use crate::built::{Named, Next};
+use crate::attrs::next_attr;
+use crate::built::{Begun, Next, Owner};
 use crate::items::push_item;
 use crate::judge;
-use crate::passing::{begin_field, count, counted, no_attrs, size_field, whole_name, xtype};
+use crate::passing::{attrs_head, begin_field, count, counted, size_field, whole_name, xtype};
 use crate::reading::Reading;
-use crate::vars::{add_var, next_var};
-use ncc_schema::{Dim, Var, VarPlace};
-use ncc_values::{Name, Seq, Version};
+use crate::vars::{add_var, begun_var, next_var};
+use ncc_schema::{Dim, VarPlace};
+use ncc_values::{Name, Version, XType};
 use std::alloc::{AllocError, Global};
 
 /// The numbers of dimensions at the front of a piece, and the bytes after them.
@@ -55,25 +58,26 @@ fn whole_ids<'a>(
     Ok(Some(Ids { ids, after: rest }))
 }
 
-/// A variable at the front of a piece, and the bytes after it.
+/// A variable up to its attributes at the front of a piece: its name, the numbers of its dimensions and how many
+/// attributes it has, and the bytes after them.
 #[derive(Drop)]
-struct Found<'a> {
-    var: Var,
-    vsize: u64,
-    begin: u64,
+struct Head<'a> {
+    text: &'a [u8],
+    ids: Vec<usize>,
+    attrs: u64,
     after: &'a [u8],
 }
 
-/// var = name nelems [dimid ...] vatt_list nc_type vsize begin, where vatt_list = ABSENT
+/// name nelems [dimid ...] tag nelems: the front of var
 #[inline]
-fn whole_var<'a>(
+fn whole_head<'a>(
     alloc: Global,
     version: Version,
     dims: &[Dim],
     piece: &'a [u8],
-) -> Result<Option<Found<'a>>, AllocError>
-    ensures passes { IfOk result (λ o. IfSome o (λ x. PassesBegin (var version dims.now)
-        (x.var, record { vsize = x.vsize; begin = x.begin }) piece.now x.after.now (offset_width_of version))) }
+) -> Result<Option<Head<'a>>, AllocError>
+    ensures passes { IfOk result (λ o. IfSome o (λ x. Passes (var_head version dims.now)
+        (x.text.now, x.ids.items, x.attrs) piece.now x.after.now)) }
     ensures less { IfOk result (λ o. IfSome o (λ x. length x.after.now < length piece.now)) }
 {
     let Some((text, rest)) = whole_name(version, piece) else {
@@ -82,47 +86,48 @@ fn whole_var<'a>(
     let Some(found) = whole_ids(alloc, version, dims, rest)? else {
         return Ok(None);
     };
-    let Some(rest) = no_attrs(version, found.after) else {
+    let Some((attrs, after)) = attrs_head(version, found.after) else {
         return Ok(None);
     };
-    let Some((xtype, rest)) = xtype(version, rest) else {
-        return Ok(None);
-    };
-    let Some((vsize, rest)) = size_field(version, rest) else {
-        return Ok(None);
-    };
-    let Some((begin, after)) = begin_field(version, rest) else {
-        return Ok(None);
-    };
-    let name = Name::from_slice(alloc, text)?;
-    let var = Var {
-        name,
-        dims: Seq::from_vec(found.ids),
-        attrs: Seq::from_vec(Vec::new(alloc)),
-        xtype,
-    };
-    Ok(Some(Found {
-        var,
-        vsize,
-        begin,
+    Ok(Some(Head {
+        text,
+        ids: found.ids,
+        attrs,
         after,
     }))
 }
 
-/// Does a variable come next, of which no byte has come?
-#[inline]
-pub fn var_begins(reading: &Reading) -> bool
-    ensures next { IsTrue result → reading.now.next ≡ nexts.NameLength named.Var }
-    ensures none { IsTrue result → reading.now.held.items ≡ [] }
-{
-    match reading.next {
-        Next::NameLength(Named::Var) => reading.held.is_empty(),
-        _ => false,
-    }
+/// What follows a variable's attributes at the front of a piece, and the bytes after it.
+#[derive(Clone, Copy)]
+struct Tail<'a> {
+    xtype: XType,
+    vsize: u64,
+    begin: u64,
+    after: &'a [u8],
 }
 
-/// Takes the variable that comes next, where the rest of a piece begins with all of it, without attributes, within
-/// the limit and with nothing to mark or to refuse, and tells how many bytes are its. Any other is left as it is.
+/// nc_type vsize begin: the end of var
+#[inline]
+fn whole_tail(version: Version, piece: &[u8]) -> Option<Tail<'_>>
+    ensures passes { IfSome result (λ x. (name ids : List ℕ) (notes : List TheAttr)
+        → PassesBegin (from_type version name ids notes) (placed name ids notes x.xtype x.vsize x.begin)
+        piece.now x.after.now (offset_width_of version)) }
+    ensures less { IfSome result (λ x. length x.after.now < length piece.now) }
+{
+    let (xtype, rest) = xtype(version, piece)?;
+    let (vsize, rest) = size_field(version, rest)?;
+    let (begin, after) = begin_field(version, rest)?;
+    Some(Tail {
+        xtype,
+        vsize,
+        begin,
+        after,
+    })
+}
+
+/// Takes the front of the variable that comes next, up to its attributes, where the rest of a piece begins with all
+/// of it, within the limit and with nothing to mark or to refuse, and tells how many bytes are its. Any other is left
+/// as it is.
 pub fn take_var(
     alloc: Global,
     reading: &mut Reading,
@@ -136,19 +141,52 @@ pub fn take_var(
     ensures memory { IfErr result (λ _. 12 ≤ reading.old.at) }
 {
     let version = reading.built.lists.parts.version;
-    let Some(found) = whole_var(alloc, version, &reading.built.lists.parts.dims, rest)? else {
+    let Some(head) = whole_head(alloc, version, &reading.built.lists.parts.dims, rest)? else {
         return Ok(None);
     };
-    let used = rest.len() - found.after.len();
+    let used = rest.len() - head.after.len();
     if used as u64 > reading.limit - reading.at {
         return Ok(None);
     }
+    let name = Name::from_slice(alloc, head.text)?;
+    reading.built.lists.var = Begun {
+        name,
+        dims: head.ids,
+    };
+    reading.built.lists.attrs = Vec::new(alloc);
+    reading.next = next_attr(alloc, &mut reading.built, Owner::Variable, head.attrs);
+    reading.at += used as u64;
+    Ok(Some(used))
+}
+
+/// Takes what follows the attributes of the variable that has begun, in the same way.
+pub fn take_tail(
+    alloc: Global,
+    reading: &mut Reading,
+    rest: &[u8],
+) -> Result<Option<usize>, AllocError>
+    requires next { reading.old.next ≡ nexts.VarType }
+    requires none { reading.old.held.items ≡ [] }
+    ensures some { IfOk result (λ o. IfSome o (λ n. Went reading.old reading.new rest.now n)) }
+    ensures less { IfOk result (λ o. IfSome o (λ n. effort_of reading.new < effort_of reading.old)) }
+    ensures none { IfOk result (λ o. IfNone o (reading.new ≡ reading.old)) }
+    ensures memory { IfErr result (λ _. 12 ≤ reading.old.at) }
+{
+    let version = reading.built.lists.parts.version;
+    let Some(tail) = whole_tail(version, rest) else {
+        return Ok(None);
+    };
+    let used = rest.len() - tail.after.len();
+    if used as u64 > reading.limit - reading.at {
+        return Ok(None);
+    }
+    let var = begun_var(alloc, &mut reading.built.lists, tail.xtype);
     let place = VarPlace {
-        vsize: found.vsize,
-        begin: found.begin,
+        vsize: tail.vsize,
+        begin: tail.begin,
         begin_at: reading.at + used as u64 - version.offset_width() as u64,
     };
-    match add_var(&mut reading.built.lists.vars, found.var, place) {
+    match add_var(&mut reading.built.lists.vars, var, place) {
         Ok(()) => {
             reading.next = next_var(&mut reading.built);
             reading.at += used as u64;

@@ -1,26 +1,25 @@
-use Rattle.std.proofs.Common.{◌+◌, ◌-◌, ◌∷◌, ◌++◌, ℕ, List, [], length, refl, subst, ap, ◌∙◌, arith}
-use Rattle.ncc_values.specs.Version.{offset_width_of}
-use Rattle.ncc_schema.specs.Schema.{Place}
+use Rattle.std.proofs.Common.{refl, sym, ap, ◌∙◌, arith, ℕ, List, [], subst}
+use Rattle.ncc_schema.specs.declared.schema.Attr.{Attr}
 use Rattle.ncc_schema.specs.declared.schema.Dim.{Dim}
-use Rattle.ncc_schema.specs.declared.schema.Var.{Var}
-use Rattle.ncc_header.specs.Fields.{var}
-use Rattle.ncc_header.specs.Left.{begins_of_vars}
-use Rattle.ncc_header.specs.Passing.{PassesBegin}
-use Rattle.ncc_header.proofs.WholeItems.{went_var}
+use Rattle.ncc_header.specs.Left.{Given, begins_of, come_of, in_var, from_type}
+use Rattle.ncc_header.specs.Grammar.{Grammar, ◌>>=◌, repeat}
+use Rattle.ncc_header.specs.Fields.{attr}
+use Rattle.ncc_header.specs.Passing.{Passes, var_head}
+use Rattle.ncc_header.proofs.WholeItems.{went, after_head, starts_head}
 use Rattle.ncc_header.proofs.whole_var.take_var.Goals as goal
 
-pub returns-in-Ok-clause-some : goal.returns-in-Ok-clause-some
-returns-in-Ok-clause-some c =
+pub returns-clause-some : goal.returns-clause-some
+returns-clause-some c =
     let r = c.args.reading.now in
-    let l = r.built.lists in
-    let v = l.parts.version in
-    let after = c.in-Some.found.after.now in
-    let x : Var × Place = (c.in-Some.found.var, record { vsize = c.in-Some.found.vsize; begin = c.in-Some.found.begin }) in
-    let less = rw c.in-Some.is at c.in_ok-found.ensures.less in
-    let found = rw c.in-Some.is at c.in_ok-found.ensures.passes in
-    let passes = subst (λ (dims : List Dim). PassesBegin (var v dims) x c.args.rest.now after (offset_width_of v)) c.deref.ensures.value found in
-    went_var r _ x c.args.rest.now after _ c.requires.next c.requires.none passes
-    (omega (arith, less)) (omega (arith, c.if-used-reading.false))
-    (rw (← c.in-Ok.ensures.before, ← c.in-Ok.ensures.left) c.next_var-reading.ensures.left)
-    (c.next_var-reading.ensures.begins ∙ c.in-Ok.ensures.begins ∙ ap (λ (n : ℕ). begins_of_vars l.vars ++ (r.at + (length c.args.rest.now - length after) - n) ∷ []) c.offset_width.ensures)
-    c.next_var-reading.ensures.fresh c.requires.none refl refl refl
+    let p = r.built.lists.parts in
+    let head = c.in-Some.head in
+    let less = rw c.in-Some.is at c.in_ok-head.ensures.less in
+    let found = rw c.in-Some.is at c.in_ok-head.ensures.passes in
+    let x : List ℕ × List ℕ × ℕ = (head.text.now, head.ids.items, head.attrs) in
+    let rest : (List ℕ) → (List ℕ) → (List Attr) → Grammar Given = λ text ids items. repeat (λ before. attr p.version) items head.attrs >>= λ notes. in_var p r.built.lists.vars (from_type p.version text ids notes) in
+    went r _ c.args.rest.now head.after.now _ (ap (λ n. come_of n r.built) c.requires.next) c.requires.none (omega (arith, less)) (omega (arith, c.if-used-reading.false))
+    c.next_attr-reading.ensures.fresh c.requires.none refl refl refl
+    (var_head p.version p.dims.items) (after_head p r.built.lists.vars) x
+    (starts_head r c.requires.next) (subst (λ (dims : List Dim). Passes (var_head p.version dims) x c.args.rest.now head.after.now) c.deref.ensures.value found)
+    (c.next_attr-reading.ensures.left ∙ ap (λ (items : List Attr). rest c.in_ok-name.name head.ids.items items) c.new.ensures.items ∙ ap (λ (text : List ℕ). rest text head.ids.items []) c.in_ok-name.ensures.same)
+    (c.next_attr-reading.ensures.begins ∙ sym (ap (λ n. begins_of n r.built.lists.vars) c.requires.next))
