@@ -146,12 +146,7 @@ pub fn after_attr_values(
 }
 
 /// Adds the attribute that has begun, now whole, and tells which field comes then.
-pub fn add_attr(
-    alloc: Global,
-    built: &mut Built,
-    owner: Owner,
-    attr: Attr,
-) -> Result<Next, AllocError>
+fn add_attr(alloc: Global, built: &mut Built, owner: Owner, attr: Attr) -> Result<Next, AllocError>
     ensures left { IfOk result (λ next. left_of next built.new ≡ from_attrs owner built.old.lists
         (built.old.lists.attrs.items ++ attr ∷ []) built.old.lists.attrs_left) }
     ensures begins { IfOk result (λ next. begins_of next built.new.lists.vars

@@ -1,7 +1,7 @@
 //! Taking an attribute that is whole in a piece, with nothing to mark or to refuse, at once.
 
-ghost use Rattle.std.specs.Prelude.{◌≡◌, ◌*◌, ◌%◌, ◌≤◌, ◌<◌, [], length, IfSome, IfNone, IfOk, IfErr};
-ghost use Rattle.ncc_values.specs.Values.{values_of};
+ghost use Rattle.std.specs.Prelude.{◌≡◌, ◌*◌, ◌%◌, ◌≤◌, ◌<◌, [], ◌∷◌, ◌++◌, length, IfSome, IfNone, IfOk, IfErr, OnOk};
+ghost use Rattle.ncc_values.specs.Values.{no_values, values_of};
 ghost use Rattle.ncc_values.specs.XType.{size_of as bytes_each};
 ghost use Rattle.ncc_header.specs.declared.built.Named.TheVariants as named;
 ghost use Rattle.ncc_header.specs.declared.built.Next.TheVariants as nexts;
@@ -9,8 +9,9 @@ ghost use Rattle.ncc_header.specs.Fields.{attr};
 ghost use Rattle.ncc_header.specs.Passing.{Passes, padded};
 ghost use Rattle.ncc_header.specs.Reading.{Went, effort_of};
 
-use crate::attrs::add_attr;
+use crate::attrs::next_attr;
 use crate::built::{Next, Owner};
+use crate::items::push_item;
 use crate::passing::{count, whole_name, with_padding, xtype};
 use crate::reading::Reading;
 use ncc_schema::Attr;
@@ -61,18 +62,41 @@ fn whole_attr(version: Version, piece: &[u8]) -> Option<Found<'_>>
     })
 }
 
-/// The attribute that was found, in memory of its own.
+/// Gives an attribute without name and values those that were found, where it stays.
 #[inline]
-fn owned(alloc: Global, found: Found<'_>) -> Result<Attr, AllocError>
-    requires { length found.values.now % bytes_each found.xtype ≡ 0 }
-    ensures { IfOk result (λ a. a ≡ record {
+fn fill(attr: &mut Attr, found: Found<'_>) -> Result<(), AllocError>
+    requires empty { attr.old ≡ record { name = []; values = no_values found.xtype } }
+    requires whole { length found.values.now % bytes_each found.xtype ≡ 0 }
+    ensures { OnOk result (attr.new ≡ record {
       name = found.entry.name.now;
       values = values_of found.entry.xtype found.entry.values.now;
     }) }
 {
-    let name = Name::from_slice(alloc, found.name)?;
-    let values = Values::of_bytes(alloc, found.xtype, found.values)?;
-    Ok(Attr { name, values })
+    attr.name.extend_from_slice(found.name)?;
+    attr.values.push_from(found.values)
+}
+
+/// Adds the attribute that was found, which so many follow. It is made in its place: to move it costs more.
+#[inline]
+fn push_found(
+    alloc: Global,
+    attrs: &mut Vec<Attr>,
+    found: Found<'_>,
+    left: u64,
+) -> Result<(), AllocError>
+    requires { length found.values.now % bytes_each found.xtype ≡ 0 }
+    ensures { OnOk result (attrs.new.items ≡ attrs.old.items ++ record {
+      name = found.entry.name.now;
+      values = values_of found.entry.xtype found.entry.values.now;
+    } ∷ []) }
+{
+    let number = attrs.len();
+    let empty = Attr {
+        name: Name::new(alloc),
+        values: Values::new(alloc, found.xtype),
+    };
+    push_item(attrs, empty, left)?;
+    fill(&mut attrs[number], found)
 }
 
 /// Takes the attribute that comes next, where the rest of a piece begins with all of it, within the limit and
@@ -97,10 +121,10 @@ pub fn take_attr(
     if used as u64 > reading.limit - reading.at {
         return Ok(None);
     }
-    let attr = owned(alloc, found)?;
-    match add_attr(alloc, &mut reading.built, owner, attr) {
-        Ok(next) => {
-            reading.next = next;
+    let left = reading.built.lists.attrs_left;
+    match push_found(alloc, &mut reading.built.lists.attrs, found, left) {
+        Ok(()) => {
+            reading.next = next_attr(alloc, &mut reading.built, owner, left);
             reading.at += used as u64;
             Ok(Some(used))
         }
