@@ -4,6 +4,7 @@ ghost use Rattle.std.specs.Prelude.{◌≡◌, ◌++◌, ◌<◌, ◌≤◌, len
 ghost use Rattle.std.specs.List.{flat_map};
 ghost use Rattle.ncc_lines.specs.Words.{hex_digit, byte_digits, is_plain, escaped, name_text};
 
+use crate::escapes::{FEW, has_room, push_few};
 use std::alloc::AllocError;
 
 /// A hexadecimal digit, in lower case.
@@ -74,14 +75,33 @@ fn push_plain<'a>(out: &mut Vec<u8>, name: &'a [u8]) -> Result<&'a [u8], AllocEr
     Ok(rest)
 }
 
-/// Adds a name.
+/// Adds the front of a name whose bytes print as they are, and the byte after it, and gives the rest.
+fn push_run<'a>(out: &mut Vec<u8>, name: &'a [u8]) -> Result<&'a [u8], AllocError>
+    requires { 0 < length name.now }
+    ensures rest { IfOk result (λ rest. out.new.items ++ name_text rest.now ≡ out.old.items ++ name_text name.now) }
+    ensures shorter { IfOk result (λ rest. length rest.now < length name.now) }
+{
+    let rest = push_plain(out, name)?;
+    let Some((first, after)) = rest.split_first() else {
+        return Ok(rest);
+    };
+    push_escaped(out, *first)?;
+    Ok(after)
+}
+
+/// Adds a name: where there is room a few bytes at a time, and else run by run, which asks for memory a run at a time.
 pub fn push_name(out: &mut Vec<u8>, name: &[u8]) -> Result<(), AllocError>
     ensures { OnOk result (out.new.items ≡ out.old.items ++ name_text name.now) }
 {
-    let mut rest = push_plain(out, name)?;
-    while let Some((first, after)) = rest.split_first() {
-        push_escaped(out, *first)?;
-        rest = push_plain(out, after)?;
+    let mut rest = name;
+    while !rest.is_empty() {
+        if has_room(out) {
+            let (piece, after) = rest.split_at(rest.len().min(FEW));
+            push_few(out, piece)?;
+            rest = after;
+        } else {
+            rest = push_run(out, rest)?;
+        }
     }
     Ok(())
 }

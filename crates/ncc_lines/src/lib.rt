@@ -2,6 +2,7 @@
 #![tactic(auto)]
 
 mod escape;
+mod escapes;
 mod halt;
 mod heads;
 mod page;
