@@ -67,7 +67,12 @@ fn copy_held(page: &[u8], at: usize, out: &mut [u8])
     requires { at + length out.old ≤ length page.now }
     ensures { out.new ≡ take (length out.old) (drop at page.now) }
 {
-    out.copy_from_slice(&page[at..at + out.len()]);
+    // 4 or 8 bytes are copied without a call.
+    match out.len() {
+        4 => out.copy_from_slice(&page[at..at + 4]),
+        8 => out.copy_from_slice(&page[at..at + 8]),
+        count => out.copy_from_slice(&page[at..at + count]),
+    }
 }
 
 /// Where a read of so many bytes ends, where it is short.

@@ -34,7 +34,12 @@ pub(crate) fn copy_at(buffer: &mut [u8], place: usize, bytes: &[u8])
     ensures bytes { take (place + length bytes.now) buffer.new ≡ take place buffer.old ++ bytes.now }
     ensures room { length buffer.new ≡ length buffer.old }
 {
-    buffer[place..place + bytes.len()].copy_from_slice(bytes);
+    // 4 or 8 bytes are copied without a call.
+    match bytes.len() {
+        4 => buffer[place..place + 4].copy_from_slice(bytes),
+        8 => buffer[place..place + 8].copy_from_slice(bytes),
+        count => buffer[place..place + count].copy_from_slice(bytes),
+    }
 }
 
 /// Copies so many bytes of the buffer, from a place on, to a later one that they don't reach.
