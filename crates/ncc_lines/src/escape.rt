@@ -89,18 +89,21 @@ fn push_run<'a>(out: &mut Vec<u8>, name: &'a [u8]) -> Result<&'a [u8], AllocErro
     Ok(after)
 }
 
-/// Adds a name: where there is room a few bytes at a time, and else run by run, which asks for memory a run at a time.
+/// Adds a name: a few bytes at a time where there is room, and run by run where there is none, which asks for memory
+/// a run at a time. After a few that all print as they are the rest of their run is added at once.
 pub fn push_name(out: &mut Vec<u8>, name: &[u8]) -> Result<(), AllocError>
     ensures { OnOk result (out.new.items ≡ out.old.items ++ name_text name.now) }
 {
     let mut rest = name;
+    let mut goes_on = false;
     while !rest.is_empty() {
-        if has_room(out) {
-            let (piece, after) = rest.split_at(rest.len().min(FEW));
-            push_few(out, piece)?;
-            rest = after;
-        } else {
+        if goes_on || !has_room(out) {
             rest = push_run(out, rest)?;
+            goes_on = false;
+        } else {
+            let (piece, after) = rest.split_at(rest.len().min(FEW));
+            goes_on = push_few(out, piece)?;
+            rest = after;
         }
     }
     Ok(())

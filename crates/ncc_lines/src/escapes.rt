@@ -79,8 +79,8 @@ pub fn has_room(out: &Vec<u8>) -> bool {
     out.capacity() - out.len() >= ROOM
 }
 
-/// Adds a few bytes of a name, as they are printed.
-pub fn push_few(out: &mut Vec<u8>, bytes: &[u8]) -> Result<(), AllocError>
+/// Adds a few bytes of a name, as they are printed, and tells whether all print as they are.
+pub fn push_few(out: &mut Vec<u8>, bytes: &[u8]) -> Result<bool, AllocError>
     requires { length bytes.now ≤ FEW }
     ensures { OnOk result (out.new.items ≡ out.old.items ++ name_text bytes.now) }
 {
@@ -88,5 +88,5 @@ pub fn push_few(out: &mut Vec<u8>, bytes: &[u8]) -> Result<(), AllocError>
     out.extend_from_slice(&[0; ROOM])?;
     let end = lay_out(out.as_mut_slice(), start, bytes);
     out.truncate(end);
-    Ok(())
+    Ok(end == start + bytes.len())
 }
