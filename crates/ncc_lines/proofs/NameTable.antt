@@ -1,6 +1,6 @@
 -- The table of names is held against the definition at each of the 256 bytes, by computing.
-use Rattle.std.proofs.Common.{◌≡◌, ℕ, zero, suc, ◌+◌, ◌-◌, ◌<◌, ◌≤◌, Bool, true, false, ◌&&◌, eqb, List, [], ◌++◌, length, take, get_or, refl, ap, sym, ◌∙◌, inl, inr, arith, length-take-le, take-take, take-add, take_at, drop_at, bytes_eq}
-use Rattle.std.proofs.lemmas.Bool.{cases_eq, eqb-true}
+use Rattle.std.proofs.Common.{◌≡◌, ℕ, zero, suc, ◌+◌, ◌-◌, ◌<◌, ◌≤◌, Bool, true, ◌&&◌, eqb, List, [], ◌++◌, length, take, get_or, refl, ap, sym, ◌∙◌, inl, inr, arith, length-take-le, take-take, take-add, take_at, drop_at, bytes_eq}
+use Rattle.std.proofs.lemmas.Bool.{cases_eq, eqb-true, and_parts}
 use Rattle.std.proofs.lemmas.List.{take_more, flat_map_more}
 use Rattle.std.proofs.lemmas.Slice.{take-put_mid}
 use Rattle.std.proofs.lemmas.Slice.Eq.{bytes_eq-Decides}
@@ -16,23 +16,18 @@ all_below : (ℕ → Bool) → ℕ → Bool
 all_below test zero = true
 all_below test (suc n) = test n && all_below test n
 
-both : (x y : Bool) → (x && y) ≡ true → (x ≡ true) × (y ≡ true)
-both true true h = (refl, refl)
-both true false h = absurd (cc)
-both false y h = absurd (cc)
-
 all_at : (test : ℕ → Bool) (n : ℕ) → all_below test n ≡ true → (b : ℕ) → b < n → test b ≡ true
 unfolding all_below
 all_at test zero h b lt = absurd (omega arith)
 all_at test (suc n) h b lt =
-    let parts = both (test n) (all_below test n) h in
+    let parts = and_parts (test n) (all_below test n) h in
     elim (cases_eq b n) [ inl same ↦ rw same parts.0 | inr other ↦ all_at test n parts.1 b (omega arith) ]
 
 from_test : (e : List ℕ) (n b : ℕ) → is_entry e n b ≡ true → (length e ≡ 4) × ((n ≤ 4) × (take n e ≡ escaped b))
 unfolding is_entry
 from_test e n b h =
-    let parts = both (eqb (length e) 4 && eqb (n - 4) 0) (bytes_eq (take n e) (escaped b)) h in
-    let sizes = both (eqb (length e) 4) (eqb (n - 4) 0) parts.0 in
+    let parts = and_parts (eqb (length e) 4 && eqb (n - 4) 0) (bytes_eq (take n e) (escaped b)) h in
+    let sizes = and_parts (eqb (length e) 4) (eqb (n - 4) 0) parts.0 in
     let few = eqb-true (n - 4) 0 sizes.1 in
     (eqb-true (length e) 4 sizes.0, (omega arith, (bytes_eq-Decides (take n e) (escaped b)).0 parts.1))
 

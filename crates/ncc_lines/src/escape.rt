@@ -102,7 +102,7 @@ pub fn push_name(out: &mut Vec<u8>, name: &[u8]) -> Result<(), AllocError>
             goes_on = false;
         } else {
             let (piece, after) = rest.split_at(rest.len().min(FEW));
-            goes_on = push_few(out, piece)?;
+            goes_on = push_few(out, piece);
             rest = after;
         }
     }

@@ -1,9 +1,8 @@
 //! Names laid out as they are printed, by a table and without a branch for each byte.
 
-ghost use Rattle.std.specs.Prelude.{◌≡◌, ◌+◌, ◌*◌, ◌++◌, ◌≤◌, length, take, OnOk};
+ghost use Rattle.std.specs.Prelude.{◌≡◌, ◌+◌, ◌*◌, ◌++◌, ◌≤◌, length, take, IsTrue};
+ghost use Rattle.std.specs.Vec.{vec_len, vec_capacity};
 ghost use Rattle.ncc_lines.specs.Words.{name_text};
-
-use std::alloc::AllocError;
 
 /// Four bytes for each byte: what it is printed as, and spaces after it.
 static ESCAPES: [[u8; 4]; 256] = [
@@ -74,19 +73,23 @@ fn lay_out(room: &mut [u8], start: usize, bytes: &[u8]) -> usize
     end
 }
 
-/// Whether there is room for a few bytes that are laid out, so that they ask for no memory.
-pub fn has_room(out: &Vec<u8>) -> bool {
+/// Whether there is room for a few bytes that are laid out.
+pub fn has_room(out: &Vec<u8>) -> bool
+    ensures { IsTrue result → vec_len out.now + 128 ≤ vec_capacity out.now }
+{
     out.capacity() - out.len() >= ROOM
 }
 
-/// Adds a few bytes of a name, as they are printed, and tells whether all print as they are.
-pub fn push_few(out: &mut Vec<u8>, bytes: &[u8]) -> Result<bool, AllocError>
-    requires { length bytes.now ≤ FEW }
-    ensures { OnOk result (out.new.items ≡ out.old.items ++ name_text bytes.now) }
+/// Adds a few bytes of a name, as they are printed, into the room that there is, and tells whether all print as they
+/// are. It takes no memory.
+pub fn push_few(out: &mut Vec<u8>, bytes: &[u8]) -> bool
+    requires few { length bytes.now ≤ FEW }
+    requires room { vec_len out.old + 128 ≤ vec_capacity out.old }
+    ensures { out.new.items ≡ out.old.items ++ name_text bytes.now }
 {
     let start = out.len();
-    out.extend_from_slice(&[0; ROOM])?;
+    out.extend_from_slice(&[0; ROOM]).unwrap();
     let end = lay_out(out.as_mut_slice(), start, bytes);
     out.truncate(end);
-    Ok(end == start + bytes.len())
+    end == start + bytes.len()
 }
