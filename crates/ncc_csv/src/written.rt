@@ -1,13 +1,12 @@
 //! Texts that are written so that they end at a given place.
 
-ghost use Rattle.std.specs.Prelude.{◌≡◌, ◌+◌, ◌≤◌, ◌/◌, ◌%◌, ◌++◌, length, take, drop};
+ghost use Rattle.std.specs.Prelude.{◌≡◌, ◌+◌, ◌≤◌, ◌++◌, length, take, drop};
 ghost use Rattle.std.specs.Fmt.{decimal, signed_decimal};
-ghost use Rattle.ncc_lines.specs.Words.{hex_digit};
 ghost use Rattle.ncc_csv.specs.Plain.{IsPlain};
 ghost use Rattle.ncc_csv.specs.Values.{bits_text};
 
 use itoa::write_digits;
-use ncc_lines::digit;
+use ncc_lines::byte_digits;
 
 /// Writes a text, and answers where it starts.
 pub fn write_text(text: &[u8], room: &mut [u8], end: usize) -> usize
@@ -50,62 +49,28 @@ pub fn write_signed(n: i64, room: &mut [u8], end: usize) -> usize
     start - 1
 }
 
-/// The first digit of a byte.
-fn high(b: u8) -> u8
-    ensures { result ≡ hex_digit (b / 16) }
-{
-    digit(b / 16)
-}
-
-/// The second one.
-fn low(b: u8) -> u8
-    ensures { result ≡ hex_digit (b % 16) }
-{
-    digit(b % 16)
-}
-
 /// The bits of a float, in hexadecimal.
 pub fn float_digits(bits: [u8; 4]) -> [u8; 10]
     ensures { result ≡ bits_text bits }
 {
-    let [a, b, c, d] = bits;
-    [
-        b'0',
-        b'x',
-        high(a),
-        low(a),
-        high(b),
-        low(b),
-        high(c),
-        low(c),
-        high(d),
-        low(d),
-    ]
+    let [a, b] = byte_digits(bits[0]);
+    let [c, d] = byte_digits(bits[1]);
+    let [e, f] = byte_digits(bits[2]);
+    let [g, h] = byte_digits(bits[3]);
+    [b'0', b'x', a, b, c, d, e, f, g, h]
 }
 
 /// The bits of a double, in hexadecimal.
 pub fn double_digits(bits: [u8; 8]) -> [u8; 18]
     ensures { result ≡ bits_text bits }
 {
-    let [a, b, c, d, e, f, g, h] = bits;
-    [
-        b'0',
-        b'x',
-        high(a),
-        low(a),
-        high(b),
-        low(b),
-        high(c),
-        low(c),
-        high(d),
-        low(d),
-        high(e),
-        low(e),
-        high(f),
-        low(f),
-        high(g),
-        low(g),
-        high(h),
-        low(h),
-    ]
+    let [a, b] = byte_digits(bits[0]);
+    let [c, d] = byte_digits(bits[1]);
+    let [e, f] = byte_digits(bits[2]);
+    let [g, h] = byte_digits(bits[3]);
+    let [i, j] = byte_digits(bits[4]);
+    let [k, l] = byte_digits(bits[5]);
+    let [m, n] = byte_digits(bits[6]);
+    let [o, p] = byte_digits(bits[7]);
+    [b'0', b'x', a, b, c, d, e, f, g, h, i, j, k, l, m, n, o, p]
 }

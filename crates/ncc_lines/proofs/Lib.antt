@@ -1,2 +1,3 @@
+pub mod DigitTable
 pub mod NameTable
 pub mod SendingText

@@ -12,11 +12,12 @@ use Rattle.ncc_lines.specs.declared.escapes.TheConstants.{ESCAPES, LENGTHS}
 is_entry : List ℕ → ℕ → ℕ → Bool
 is_entry e n b = (eqb (length e) 4 && eqb (n - 4) 0) && bytes_eq (take n e) (escaped b)
 
-all_below : (ℕ → Bool) → ℕ → Bool
+-- a test holds of all numbers below that one
+unfoldable pub all_below : (ℕ → Bool) → ℕ → Bool
 all_below test zero = true
 all_below test (suc n) = test n && all_below test n
 
-all_at : (test : ℕ → Bool) (n : ℕ) → all_below test n ≡ true → (b : ℕ) → b < n → test b ≡ true
+pub all_at : (test : ℕ → Bool) (n : ℕ) → all_below test n ≡ true → (b : ℕ) → b < n → test b ≡ true
 unfolding all_below
 all_at test zero h b lt = absurd (omega arith)
 all_at test (suc n) h b lt =

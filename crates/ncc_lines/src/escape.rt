@@ -5,6 +5,7 @@ ghost use Rattle.std.specs.List.{flat_map};
 ghost use Rattle.ncc_lines.specs.Words.{hex_digit, byte_digits, is_plain, escaped, name_text};
 
 use crate::escapes::{FEW, has_room, push_few};
+use crate::hex::byte_digits;
 use std::alloc::AllocError;
 
 /// A hexadecimal digit, in lower case.
@@ -19,8 +20,7 @@ pub fn digit(n: u8) -> u8
 fn push_digits(out: &mut Vec<u8>, b: u8) -> Result<(), AllocError>
     ensures { OnOk result (out.new.items ≡ out.old.items ++ byte_digits b) }
 {
-    out.extend_from_slice(&[digit(b / 16), digit(b % 16)])?;
-    Ok(())
+    out.extend_from_slice(&byte_digits(b))
 }
 
 /// Adds the digits of all bytes.
