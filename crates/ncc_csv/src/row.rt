@@ -64,7 +64,8 @@ fn place_front(room: &mut [u8], last: usize, start: usize, front: &[u8])
 }
 
 /// Adds a row of a run, its front, the last index and the value, by one copy, and answers where the last index starts in
-/// the room. The front stands there from the row before, whose index started at `last`, where this one starts there too.
+/// the room. The front stands there from the row before, whose index started at `last`, where this one starts there too;
+/// for the first row `last` is 0.
 fn put_row<T: Cell>(
     page: &mut Vec<u8>,
     room: &mut [u8],
