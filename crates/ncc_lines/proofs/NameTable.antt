@@ -12,7 +12,7 @@ use Rattle.ncc_lines.specs.declared.escapes.TheConstants.{ESCAPES, LENGTHS}
 is_entry : List ℕ → ℕ → ℕ → Bool
 is_entry e n b = (eqb (length e) 4 && eqb (n - 4) 0) && bytes_eq (take n e) (escaped b)
 
--- a test holds of all numbers below that one
+-- a test holds of all numbers below n
 unfoldable pub all_below : (ℕ → Bool) → ℕ → Bool
 all_below test zero = true
 all_below test (suc n) = test n && all_below test n

@@ -13,7 +13,7 @@ use std::alloc::AllocError;
 /// As many bytes as an integer takes at most: a space, and 20 digits or a sign and 19.
 const WIDTH: usize = 21;
 
-/// How many integers have a small room, which is sooner cleared.
+/// How many integers have a small room, which takes less time to clear.
 const FEW: usize = 8;
 
 /// An integer of at most 64 bits.
