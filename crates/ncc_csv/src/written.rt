@@ -41,7 +41,12 @@ pub fn write_signed(n: i64, room: &mut [u8], end: usize) -> usize
     ensures short { length (signed_decimal n) ≤ 20 }
     ensures plain { IsPlain (signed_decimal n) }
 {
-    ncc_lines::write_signed(n, room, end)
+    let start = write_digits(n.unsigned_abs(), room, end);
+    if n >= 0 {
+        return start;
+    }
+    room[start - 1] = b'-';
+    start - 1
 }
 
 /// The bits of a float, in hexadecimal.

@@ -26,4 +26,3 @@ pub use refusals::{push_numbered, send_append_refusal, send_records};
 pub use sending::{send_fault, send_file_fault, send_header, send_report};
 pub use style::FloatStyle;
 pub use texts::push_decimal;
-pub use values::integers::write_signed;

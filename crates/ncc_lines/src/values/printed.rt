@@ -7,7 +7,7 @@ ghost use Rattle.ncc_lines.specs.Words.{bits_word};
 
 use crate::escape::{push_bits, push_escaped, push_name};
 use crate::style::FloatStyle;
-use crate::values::integers::push_integers;
+use itoa::{Buffer, Integer};
 use ncc_decimal::{Text, text32, text64};
 use ncc_values::{Char, F32Bits, F64Bits};
 use std::alloc::AllocError;
@@ -47,6 +47,16 @@ fn copy_chars(chars: &[Char], bytes: &mut [u8])
     for (i, c) in chars.iter().enumerate() {
         bytes[i] = c.0;
     }
+}
+
+/// Adds a space and an integer.
+fn push_integer<I: Integer>(out: &mut Vec<u8>, n: I) -> Result<(), AllocError>
+    ensures { OnOk result (out.new.items ≡ out.old.items ++ (codes " " ++ I.text n)) }
+{
+    let mut buffer = Buffer::new();
+    out.extend_from_slice(b" ")?;
+    out.extend_from_slice(buffer.format(n).as_bytes())?;
+    Ok(())
 }
 
 /// Adds a space and the bits of a float.
@@ -115,11 +125,7 @@ impl Printed for i8 {
     ghost text = { λ _. signed_word };
 
     fn print(self, _style: FloatStyle, out: &mut Vec<u8>) -> Result<(), AllocError> {
-        push_integers(out, &[self])
-    }
-
-    fn print_all(values: &[i8], _style: FloatStyle, out: &mut Vec<u8>) -> Result<(), AllocError> {
-        push_integers(out, values)
+        push_integer(out, self)
     }
 }
 
@@ -129,11 +135,7 @@ impl Printed for i16 {
     ghost text = { λ _. signed_word };
 
     fn print(self, _style: FloatStyle, out: &mut Vec<u8>) -> Result<(), AllocError> {
-        push_integers(out, &[self])
-    }
-
-    fn print_all(values: &[i16], _style: FloatStyle, out: &mut Vec<u8>) -> Result<(), AllocError> {
-        push_integers(out, values)
+        push_integer(out, self)
     }
 }
 
@@ -143,11 +145,7 @@ impl Printed for i32 {
     ghost text = { λ _. signed_word };
 
     fn print(self, _style: FloatStyle, out: &mut Vec<u8>) -> Result<(), AllocError> {
-        push_integers(out, &[self])
-    }
-
-    fn print_all(values: &[i32], _style: FloatStyle, out: &mut Vec<u8>) -> Result<(), AllocError> {
-        push_integers(out, values)
+        push_integer(out, self)
     }
 }
 
@@ -157,11 +155,7 @@ impl Printed for i64 {
     ghost text = { λ _. signed_word };
 
     fn print(self, _style: FloatStyle, out: &mut Vec<u8>) -> Result<(), AllocError> {
-        push_integers(out, &[self])
-    }
-
-    fn print_all(values: &[i64], _style: FloatStyle, out: &mut Vec<u8>) -> Result<(), AllocError> {
-        push_integers(out, values)
+        push_integer(out, self)
     }
 }
 
@@ -171,11 +165,7 @@ impl Printed for u8 {
     ghost text = { λ _. unsigned_word };
 
     fn print(self, _style: FloatStyle, out: &mut Vec<u8>) -> Result<(), AllocError> {
-        push_integers(out, &[self])
-    }
-
-    fn print_all(values: &[u8], _style: FloatStyle, out: &mut Vec<u8>) -> Result<(), AllocError> {
-        push_integers(out, values)
+        push_integer(out, self)
     }
 }
 
@@ -185,11 +175,7 @@ impl Printed for u16 {
     ghost text = { λ _. unsigned_word };
 
     fn print(self, _style: FloatStyle, out: &mut Vec<u8>) -> Result<(), AllocError> {
-        push_integers(out, &[self])
-    }
-
-    fn print_all(values: &[u16], _style: FloatStyle, out: &mut Vec<u8>) -> Result<(), AllocError> {
-        push_integers(out, values)
+        push_integer(out, self)
     }
 }
 
@@ -199,11 +185,7 @@ impl Printed for u32 {
     ghost text = { λ _. unsigned_word };
 
     fn print(self, _style: FloatStyle, out: &mut Vec<u8>) -> Result<(), AllocError> {
-        push_integers(out, &[self])
-    }
-
-    fn print_all(values: &[u32], _style: FloatStyle, out: &mut Vec<u8>) -> Result<(), AllocError> {
-        push_integers(out, values)
+        push_integer(out, self)
     }
 }
 
@@ -213,10 +195,6 @@ impl Printed for u64 {
     ghost text = { λ _. unsigned_word };
 
     fn print(self, _style: FloatStyle, out: &mut Vec<u8>) -> Result<(), AllocError> {
-        push_integers(out, &[self])
-    }
-
-    fn print_all(values: &[u64], _style: FloatStyle, out: &mut Vec<u8>) -> Result<(), AllocError> {
-        push_integers(out, values)
+        push_integer(out, self)
     }
 }
