@@ -1,6 +1,5 @@
 pub mod Adding
 pub mod Runs
-mod Fronts
 pub mod Plain
 pub mod Order
 pub mod Selecting

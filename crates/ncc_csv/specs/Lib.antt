@@ -3,7 +3,6 @@ pub mod Values
 pub mod Rows
 pub mod Plain
 pub mod Runs
-pub mod Fronts
 pub mod Names
 pub mod Numbers
 pub mod Picks

@@ -7,7 +7,7 @@ ghost use Rattle.ncc_csv.specs.Runs.{slab_row, first_rows};
 
 use crate::cell::Cell;
 use crate::heads::{count_along, index_along, set_heads, stride_along};
-use crate::row::{put_alone, put_run};
+use crate::row::{ROOM_OF_ROWS, put_alone, put_run};
 use crate::word::Word;
 use ncc_lines::FloatStyle;
 use ncc_slab::Slab;
@@ -18,6 +18,7 @@ use std::alloc::{AllocError, Global};
 fn put_next_run<T: Cell>(
     page: &mut Vec<u8>,
     front: &mut Vec<u8>,
+    room: &mut [u8],
     heads: &mut [Word],
     slab: &Slab,
     number: u64,
@@ -25,6 +26,7 @@ fn put_next_run<T: Cell>(
     style: FloatStyle,
 ) -> Result<usize, AllocError>
     requires ranked { length slab.now.count ≡ length heads.old + 1 }
+    requires room { length room.old ≡ 1824 }
     requires fits { HasIndices slab.now }
     requires some { 0 < length values.now }
     requires there { number + length values.now ≤ selected_count slab.now }
@@ -42,6 +44,7 @@ fn put_next_run<T: Cell>(
     put_run(
         page,
         front,
+        room,
         heads,
         start,
         stride_along(slab, last),
@@ -69,11 +72,14 @@ fn put_runs<T: Cell>(
         ++ first_rows (slab_row slab.now first (map (T.text style) values.now)) (length values.now)) }
 {
     let mut front = Vec::new(alloc);
+    let mut room = [0; ROOM_OF_ROWS];
     let mut done = 0;
     while done < values.len() {
         let rest = values.split_at(done).1;
         let number = first + done as u64;
-        done += put_next_run(page, &mut front, heads, slab, number, rest, style)?;
+        done += put_next_run(
+            page, &mut front, &mut room, heads, slab, number, rest, style,
+        )?;
     }
     Ok(())
 }

@@ -30,7 +30,7 @@ fn bits_of_double(x: F64Bits) -> [u8; 18]
 
 /// A value of a variable.
 pub trait Cell: Copy {
-    ghost use Rattle.std.specs.Prelude.{ℕ, ◌+◌, ◌≤◌, List, ◌++◌, length, take, drop};
+    ghost use Rattle.std.specs.Prelude.{ℕ, ◌+◌, ◌≤◌, List, ◌++◌, length, drop};
     ghost use Rattle.ncc_lines.specs.declared.style.FloatStyle.{FloatStyle};
     ghost use Rattle.ncc_csv.specs.Plain.{IsPlain};
 
@@ -42,7 +42,6 @@ pub trait Cell: Copy {
         requires { (24 ≤ end) × (end ≤ length room.old) }
         ensures start { result + length (text style self) ≡ end }
         ensures written { drop result room.new ≡ text style self ++ drop end room.old }
-        ensures before { take result room.new ≡ take result room.old }
         ensures short { length (text style self) ≤ 24 }
         ensures plain { IsPlain (text style self) };
 }
@@ -95,7 +94,7 @@ impl Cell for F32Bits {
     fn write(self, style: FloatStyle, room: &mut [u8], end: usize) -> usize {
         match style {
             FloatStyle::Bits => write_text(&bits_of_float(self), room, end),
-            FloatStyle::Decimal => write_text(text32(self.0).as_slice(), room, end),
+            FloatStyle::Decimal => text32(self.0).write(room, end),
         }
     }
 }
@@ -108,7 +107,7 @@ impl Cell for F64Bits {
     fn write(self, style: FloatStyle, room: &mut [u8], end: usize) -> usize {
         match style {
             FloatStyle::Bits => write_text(&bits_of_double(self), room, end),
-            FloatStyle::Decimal => write_text(text64(self.0).as_slice(), room, end),
+            FloatStyle::Decimal => text64(self.0).write(room, end),
         }
     }
 }

@@ -1,10 +1,9 @@
 //! Rows of values in memory.
 
-ghost use Rattle.std.specs.Prelude.{◌≡◌, ◌+◌, ◌*◌, ◌-◌, ◌^◌, ◌<◌, ◌≤◌, [], ◌∷◌, ◌++◌, length, map, take, drop, decimal, IfOk, OnOk};
+ghost use Rattle.std.specs.Prelude.{◌≡◌, ◌+◌, ◌*◌, ◌-◌, ◌^◌, ◌<◌, ◌≤◌, ℕ, List, [], ◌∷◌, ◌++◌, length, map, drop, decimal, OnOk};
 ghost use Rattle.std.specs.List.{AllByRecursion};
 ghost use Rattle.ncc_csv.specs.Word.{word_text};
 ghost use Rattle.ncc_csv.specs.Plain.{IsPlain, with_commas};
-ghost use Rattle.ncc_csv.specs.Fronts.{StandsBefore};
 ghost use Rattle.ncc_csv.specs.Rows.{row_line};
 ghost use Rattle.ncc_csv.specs.Runs.{run_row, first_rows};
 
@@ -17,11 +16,15 @@ use std::alloc::AllocError;
 /// As many bytes as the last index and the value take in a row at most, with a comma and a line feed.
 const ROOM: usize = 46;
 
-/// The longest front, in bytes, that stands in the room of a row.
+/// The longest front, in bytes, of rows that are laid out together.
 const FRONT: usize = 64;
 
-/// As many bytes as such a row takes at most.
-const WIDE: usize = 110;
+/// How many rows are laid out together at most.
+const ROWS: usize = 16;
+
+/// The room for these rows, each of at most 110 bytes (a front, an index of 20, a comma, a value of 24, a line feed), and
+/// 64 bytes that nothing needs.
+pub const ROOM_OF_ROWS: usize = 1824;
 
 /// Makes the front of the rows of a run: the indices that they share, with a comma after each.
 fn set_front(front: &mut Vec<u8>, heads: &[Word]) -> Result<(), AllocError>
@@ -40,7 +43,6 @@ fn write_value<T: Cell>(room: &mut [u8], end: usize, value: T, style: FloatStyle
     requires { (24 ≤ end) × (length room.old ≡ end + 1) }
     ensures start { result + length (T.text style value) ≡ end }
     ensures written { drop result room.new ≡ T.text style value ++ 10 ∷ [] }
-    ensures before { take result room.new ≡ take result room.old }
     ensures short { length (T.text style value) ≤ 24 }
     ensures plain { IsPlain (T.text style value) }
 {
@@ -48,47 +50,73 @@ fn write_value<T: Cell>(room: &mut [u8], end: usize, value: T, style: FloatStyle
     value.write(style, room, end)
 }
 
-/// Puts the front of a row before what begins at `start`, where it doesn't stand there from the row before.
+/// Lays a row of a run out so that it ends at `at`, its front, the last index and the value, and answers where it starts.
+/// The front is the last `size` bytes of its array, which is copied whole: what stands before the row is lost.
 #[inline]
-fn place_front(room: &mut [u8], last: usize, start: usize, front: &[u8])
-    requires before { length front.now ≤ start }
-    requires there { start ≤ length room.old }
-    requires stands { start ≡ last → StandsBefore front.now start room.old }
-    ensures stands { StandsBefore front.now start room.new }
-    ensures behind { drop start room.new ≡ drop start room.old }
-{
-    if start == last {
-        return;
-    }
-    room[start - front.len()..start].copy_from_slice(front);
-}
-
-/// Adds a row of a run, its front, the last index and the value, by one copy, and answers where the last index starts in
-/// the room. The front stands there from the row before, whose index started at `last`, where this one starts there too;
-/// for the first row `last` is 0.
-fn put_row<T: Cell>(
-    page: &mut Vec<u8>,
+fn lay_row<T: Cell>(
     room: &mut [u8],
-    last: usize,
-    front: &[u8],
+    at: usize,
+    front: &[u8; FRONT],
+    size: usize,
     index: u64,
     value: T,
     style: FloatStyle,
-) -> Result<usize, AllocError>
-    requires room { length room.old ≡ 110 }
-    requires short { length front.now ≤ 64 }
-    requires stands { 0 < last → StandsBefore front.now last room.old }
-    ensures row { OnOk result (page.new.items
-        ≡ page.old.items ++ (front.now ++ (decimal index ++ 44 ∷ (T.text style value ++ 10 ∷ [])))) }
-    ensures stands { IfOk result (λ n. 0 < n → StandsBefore front.now n room.new) }
+) -> usize
+    requires there { (174 ≤ at) × (at ≤ length room.old) }
+    requires short { size ≤ 64 }
+    ensures row { drop result room.new ≡ (drop (64 - size) front.now
+        ++ (decimal index ++ 44 ∷ (T.text style value ++ 10 ∷ []))) ++ drop at room.old }
+    ensures start { (result ≤ at) × (at ≤ result + 110) }
     ensures plain { IsPlain (T.text style value) }
 {
-    let end = write_value(room, WIDE - 1, value, style) - 1;
+    room[at - 1] = b'\n';
+    let end = value.write(style, room, at - 1) - 1;
     room[end] = b',';
     let start = write_unsigned(index, room, end);
-    place_front(room, last, start, front);
-    page.extend_from_slice(room.split_at(start - front.len()).1)?;
-    Ok(start)
+    room[start - FRONT..start].copy_from_slice(front);
+    start - size
+}
+
+/// Adds the rows of a run from one on up to another, by one copy: they are laid out from the last to the first, where each
+/// is written once.
+fn put_some<T: Cell>(
+    page: &mut Vec<u8>,
+    room: &mut [u8],
+    front: &[u8; FRONT],
+    size: usize,
+    start: u64,
+    stride: u64,
+    values: &[T],
+    from: usize,
+    to: usize,
+    style: FloatStyle,
+) -> Result<(), AllocError>
+    requires room { length room.old ≡ 1824 }
+    requires short { size ≤ 64 }
+    requires span { (from ≤ to) × (to ≤ length values.now) }
+    requires few { to ≤ from + 16 }
+    requires fits { start + (length values.now - 1) * stride < 2 ^ 64 }
+    ensures { (before : List ℕ) (heads : List (List ℕ)) → AllByRecursion IsPlain heads
+        → drop (64 - size) front.now ≡ with_commas heads
+        → page.old.items ≡ before ++ first_rows (run_row heads start stride (map (T.text style) values.now)) from
+        → OnOk result (page.new.items
+        ≡ before ++ first_rows (run_row heads start stride (map (T.text style) values.now)) to) }
+{
+    let mut at = room.len();
+    let mut k = to;
+    while k > from {
+        k -= 1;
+        at = lay_row(
+            room,
+            at,
+            front,
+            size,
+            start + k as u64 * stride,
+            values[k],
+            style,
+        );
+    }
+    page.extend_from_slice(room.split_at(at).1)
 }
 
 /// Adds a row of a run whose front is long.
@@ -120,10 +148,12 @@ pub fn put_alone<T: Cell>(page: &mut Vec<u8>, value: T, style: FloatStyle) -> Re
     page.extend_from_slice(room.split_at(start).1)
 }
 
-/// Adds the rows of values along the last dimension: their last indices are `start`, `start + stride` and so on.
+/// Adds the rows of values along the last dimension: their last indices are `start`, `start + stride` and so on. Rows with
+/// a short front are laid out in the room, whose bytes don't matter before or after.
 pub fn put_run<T: Cell>(
     page: &mut Vec<u8>,
     front: &mut Vec<u8>,
+    room: &mut [u8],
     heads: &[Word],
     start: u64,
     stride: u64,
@@ -131,20 +161,28 @@ pub fn put_run<T: Cell>(
     style: FloatStyle,
 ) -> Result<(), AllocError>
     requires plain { AllByRecursion IsPlain (map word_text heads.now) }
+    requires room { length room.old ≡ 1824 }
     requires fits { start + (length values.now - 1) * stride < 2 ^ 64 }
     ensures { OnOk result (page.new.items ≡ page.old.items
         ++ first_rows (run_row (map word_text heads.now) start stride (map (T.text style) values.now)) (length values.now)) }
 {
     set_front(front, heads)?;
-    let mut room = [0; WIDE];
-    let mut last = 0;
-    for k in 0..values.len() {
-        let index = start + k as u64 * stride;
-        if front.len() > FRONT {
-            put_long_row(page, front, index, values[k], style)?;
-            continue;
+    if front.len() > FRONT {
+        for k in 0..values.len() {
+            put_long_row(page, front, start + k as u64 * stride, values[k], style)?;
         }
-        last = put_row(page, &mut room, last, front, index, values[k], style)?;
+        return Ok(());
+    }
+    let mut shared = [0; FRONT];
+    let size = front.len();
+    shared[FRONT - size..].copy_from_slice(front);
+    let mut done = 0;
+    while done < values.len() {
+        let to = done + ROWS.min(values.len() - done);
+        put_some(
+            page, room, &shared, size, start, stride, values, done, to, style,
+        )?;
+        done = to;
     }
     Ok(())
 }

@@ -1,6 +1,6 @@
 //! Texts that are written so that they end at a given place.
 
-ghost use Rattle.std.specs.Prelude.{◌≡◌, ◌+◌, ◌≤◌, ◌++◌, length, take, drop};
+ghost use Rattle.std.specs.Prelude.{◌≡◌, ◌+◌, ◌≤◌, ◌++◌, length, drop};
 ghost use Rattle.std.specs.Fmt.{decimal, signed_decimal};
 ghost use Rattle.ncc_csv.specs.Plain.{IsPlain};
 ghost use Rattle.ncc_csv.specs.Values.{bits_text};
@@ -13,7 +13,6 @@ pub fn write_text(text: &[u8], room: &mut [u8], end: usize) -> usize
     requires { (length text.now ≤ end) × (end ≤ length room.old) }
     ensures start { result + length text.now ≡ end }
     ensures written { drop result room.new ≡ text.now ++ drop end room.old }
-    ensures before { take result room.new ≡ take result room.old }
 {
     let start = end - text.len();
     room[start..end].copy_from_slice(text);
@@ -25,7 +24,6 @@ pub fn write_unsigned(n: u64, room: &mut [u8], end: usize) -> usize
     requires { (20 ≤ end) × (end ≤ length room.old) }
     ensures start { result + length (decimal n) ≡ end }
     ensures written { drop result room.new ≡ decimal n ++ drop end room.old }
-    ensures before { take result room.new ≡ take result room.old }
     ensures short { length (decimal n) ≤ 20 }
     ensures plain { IsPlain (decimal n) }
 {
@@ -37,7 +35,6 @@ pub fn write_signed(n: i64, room: &mut [u8], end: usize) -> usize
     requires { (20 ≤ end) × (end ≤ length room.old) }
     ensures start { result + length (signed_decimal n) ≡ end }
     ensures written { drop result room.new ≡ signed_decimal n ++ drop end room.old }
-    ensures before { take result room.new ≡ take result room.old }
     ensures short { length (signed_decimal n) ≤ 20 }
     ensures plain { IsPlain (signed_decimal n) }
 {

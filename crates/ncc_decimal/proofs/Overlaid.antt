@@ -1,0 +1,12 @@
+-- A list whose middle was overwritten by another.
+use Rattle.std.proofs.Common.{◌≡◌, ℕ, ◌+◌, ◌≤◌, List, ◌++◌, length, take, drop, sym, ap, ◌∙◌, arith}
+use Rattle.std.proofs.lemmas.List.{drop-drop, drop_at, drop-append-le, length-take-le}
+use borrow.Rule.Slice.PartMut.{put_mid}
+
+-- what stands from an element of the other list on
+pub drop_into : (a k s : ℕ) (xs ys : List ℕ) → a ≤ length xs → length ys ≡ k → s ≤ k → drop (a + s) (put_mid a k xs ys) ≡ drop s ys ++ drop (a + k) xs
+drop_into a k s xs ys fits long le =
+    sym (drop-drop s a (put_mid a k xs ys))
+    ∙ ap (drop s) (drop_at (take a xs) (ys ++ drop k (drop a xs)) a (length-take-le a xs fits))
+    ∙ drop-append-le s ys (drop k (drop a xs)) (omega (arith, long, le))
+    ∙ ap (λ (l : List ℕ). drop s ys ++ l) (drop-drop k a xs)
