@@ -5,6 +5,7 @@ ghost use Rattle.ncc_values.specs.Failures.{Counts};
 ghost use Rattle.ncc_store.specs.Pages.{Holds};
 ghost use Rattle.ncc_store.specs.Store.{written, FrontWritten, AfterWrite, Only, KeepsImages, Elapses, Unmoved};
 
+use crate::copying::copy_from;
 use crate::device::Device;
 use crate::store::Store;
 use std::alloc::{AllocError, Global};
@@ -60,19 +61,6 @@ fn read_page<S: Store>(
     ensures reach { S.reach store.new ≤ max (S.reach store.old) (place + count) }
 {
     store.read_at(place, &mut page[..count])
-}
-
-/// Copies the bytes of a page from one on.
-fn copy_held(page: &[u8], at: usize, out: &mut [u8])
-    requires { at + length out.old ≤ length page.now }
-    ensures { out.new ≡ take (length out.old) (drop at page.now) }
-{
-    // 4 or 8 bytes are copied without a call.
-    match out.len() {
-        4 => out.copy_from_slice(&page[at..at + 4]),
-        8 => out.copy_from_slice(&page[at..at + 8]),
-        count => out.copy_from_slice(&page[at..at + count]),
-    }
 }
 
 /// Where a read of so many bytes ends, where it is short.
@@ -187,6 +175,7 @@ impl<S: Store> AheadStore<S> {
     }
 
     /// Reads what isn't held, a page at once where that is worth it.
+    #[inline(never)]
     fn read_on(&mut self, place: u64, out: &mut [u8]) -> Result<(), Device>
         requires { IsTrue S.tells_bytes → place + length out.old ≤ length (S.bytes (ahead_inner self.old)) }
         ensures told { IsTrue S.tells_bytes
@@ -208,7 +197,7 @@ impl<S: Store> AheadStore<S> {
         }
         self.turn(place, count)?;
         self.ahead = (self.ahead * 2).min(PAGE);
-        copy_held(&self.page, 0, out);
+        copy_from(&self.page, 0, out);
         Ok(())
     }
 }
@@ -258,6 +247,7 @@ impl<S: Store> Store for AheadStore<S> {
         Ok(size)
     }
 
+    #[inline(always)]
     fn read_at(&mut self, place: u64, out: &mut [u8]) -> Result<(), Device>
         requires { IsTrue S.tells_bytes → place + length out.old ≤ length (S.bytes (ahead_inner self.old)) }
         ensures told { IsTrue S.tells_bytes
@@ -278,7 +268,7 @@ impl<S: Store> Store for AheadStore<S> {
             ≤ max (S.reach (ahead_inner self.old)) (max (place + length out.old) (ahead_size self.old)) }
     {
         match self.held_at(place, out.len()) {
-            Some(at) => copy_held(&self.page, at, out),
+            Some(at) => copy_from(&self.page, at, out),
             None => self.read_on(place, out)?,
         }
         self.next = end_of(place, out.len());

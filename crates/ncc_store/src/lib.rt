@@ -2,6 +2,7 @@
 #![tactic(auto)]
 
 mod ahead;
+mod copying;
 mod device;
 mod disk_file;
 mod file;

@@ -6,6 +6,7 @@ ghost use Rattle.ncc_store.specs.Bytes.{AreBytes};
 ghost use Rattle.ncc_store.specs.Store.{written, FrontWritten, AfterWrite, Only, KeepsImages, Elapses, Unmoved};
 ghost use Rattle.ncc_store.specs.declared.log.Call.TheVariants.{Sync};
 
+use crate::copying::copy_from;
 use crate::device::{Device, fail};
 use crate::logging::{sync_logged, write_logged};
 use crate::putting::are_bytes;
@@ -123,8 +124,7 @@ impl Store for LogStore {
         ensures told { out.new ≡ take (length out.old) (drop place (log_bytes self.old)) }
         ensures same { self.new ≡ self.old }
     {
-        let place = place as usize;
-        out.copy_from_slice(&self.bytes[place..place + out.len()]);
+        copy_from(&self.bytes, place as usize, out);
         Ok(())
     }
 

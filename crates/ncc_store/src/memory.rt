@@ -5,6 +5,7 @@ ghost use Rattle.ncc_values.specs.Failures.{last_count, Counts};
 ghost use Rattle.ncc_store.specs.Bytes.{AreBytes};
 ghost use Rattle.ncc_store.specs.Store.{written, FrontWritten};
 
+use crate::copying::copy_from;
 use crate::device::{Device, fail};
 use crate::putting::{are_bytes, put};
 use crate::store::Store;
@@ -86,8 +87,7 @@ impl Store for MemStore {
         ensures told { out.new ≡ take (length out.old) (drop place (memory_bytes self.old)) }
         ensures same { self.new ≡ self.old }
     {
-        let place = place as usize;
-        out.copy_from_slice(&self.bytes[place..place + out.len()]);
+        copy_from(&self.bytes, place as usize, out);
         Ok(())
     }
 

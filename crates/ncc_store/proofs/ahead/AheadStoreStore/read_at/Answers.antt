@@ -8,7 +8,7 @@ returns-clause-told g c =
     let p = c.args.self.now in
     let n = length c.args.out.now in
     λ told. elim c.match-held_at.branch [
-      | in-Some w ↦ w.out-is ∙ w.copy_held.ensures ∙ ap (λ (l : List ℕ). take n (drop w.in-Some.at l)) w.deref.ensures.value
+      | in-Some w ↦ w.out-is ∙ w.copy_from.ensures ∙ ap (λ (l : List ℕ). take n (drop w.in-Some.at l)) w.deref.ensures.value
           ∙ of_page (g.S.Store.bytes p.inner) p.page.items p.start p.held w.in-Some.at n c.args.place (p.holds told) w.in-Some.ensures.some.0 w.in-Some.ensures.some.1
       | in-None+in_ok-read_on-in-None w ↦ w.out-is ∙ w.in_ok-read_on-in-None.ensures.told told
     ]
