@@ -16,6 +16,15 @@ fills_join m n fill = sym (concat_append (replicate m fill) (replicate n fill)) 
 pub one_more : (n : ℕ) (fill : List ℕ) → concat (replicate n fill) ++ fill ≡ concat (replicate (n + 1) fill)
 one_more n fill = ap (λ (l : List ℕ). concat (replicate n fill) ++ l) (sym (append-nil fill)) ∙ fills_join n 1 fill
 
+-- one more of them
+pub next_fill : (place n : ℕ) (fill old before after : List ℕ) → take (place + n * length fill) before ≡ take place old ++ concat (replicate n fill)
+    → take (place + n * length fill + length fill) after ≡ take (place + n * length fill) before ++ fill
+    → take (place + (n + 1) * length fill) after ≡ take place old ++ concat (replicate (n + 1) fill)
+next_fill place n fill old before after so_far turn =
+    let end : place + (n + 1) * length fill ≡ place + n * length fill + length fill = omega (arith, add-mul n 1 (length fill)) in
+    ap (λ (k : ℕ). take k after) end ∙ turn ∙ ap (λ (l : List ℕ). l ++ fill) so_far ∙ append_assoc (take place old) (concat (replicate n fill)) fill
+    ∙ ap (λ (l : List ℕ). take place old ++ l) (one_more n fill)
+
 length-fills : (n : ℕ) (fill : List ℕ) → length (concat (replicate n fill)) ≡ n * length fill
 length-fills zero fill = let none : 0 ≡ 0 * length fill = omega arith in none
 length-fills (suc n) fill = length-append fill (concat (replicate n fill)) ∙ omega (arith, length-fills n fill)

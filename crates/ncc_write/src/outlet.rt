@@ -47,7 +47,25 @@ impl<W: Sink> Outlet<W> {
         }
     }
 
+    /// Puts out the page, and has what ends past it wait.
+    #[inline(never)]
+    fn put_page(&mut self, end: usize) -> Result<(), Failed>
+        requires { (self.old.full ≤ end) × (end < self.old.full + 8) }
+        ensures streams { Streams (W.put (sink_of self.old)) (W.put (sink_of self.new))
+            (take end self.old.buffer.items) (waiting self.new) [] result }
+        ensures pages { (first n m : ℕ) → Paged first n self.old → self.old.filled + m ≡ end
+            → OnOk result (Paged first (n + m) self.new) }
+        ensures count { Counts (W.failures (sink_of self.old)) (W.failures (sink_of self.new)) result }
+    {
+        write_all(&mut self.sink, &self.buffer[..self.full])?;
+        self.buffer.copy_within(self.full..end, 0);
+        self.filled = end - self.full;
+        self.full = PAGE;
+        Ok(())
+    }
+
     /// Has the first `end` bytes of the buffer wait, or go out where they fill it.
+    #[inline(always)]
     fn hold(&mut self, end: usize) -> Result<(), Failed>
         requires { end < self.old.full + 8 }
         ensures streams { Streams (W.put (sink_of self.old)) (W.put (sink_of self.new))
@@ -60,11 +78,7 @@ impl<W: Sink> Outlet<W> {
             self.filled = end;
             return Ok(());
         }
-        write_all(&mut self.sink, &self.buffer[..self.full])?;
-        self.buffer.copy_within(self.full..end, 0);
-        self.filled = end - self.full;
-        self.full = PAGE;
-        Ok(())
+        self.put_page(end)
     }
 
     /// Puts the values from `first` on after what waits: `count` of them, which end at most a value past a page.
@@ -112,6 +126,7 @@ impl<W: Sink> Outlet<W> {
     }
 
     /// Puts bytes after what waits, which end at most where the page does.
+    #[inline(always)]
     fn put_piece(&mut self, piece: &[u8]) -> Result<(), Failed>
         requires { self.old.filled + length piece.now ≤ self.old.full }
         ensures streams { Streams (W.put (sink_of self.old)) (W.put (sink_of self.new))
@@ -125,8 +140,9 @@ impl<W: Sink> Outlet<W> {
         self.hold(end)
     }
 
-    /// Puts all of these bytes after what waits.
-    pub(crate) fn put_bytes(&mut self, bytes: &[u8]) -> Result<(), Failed>
+    /// Puts all of these bytes after what waits, piece by piece.
+    #[inline(never)]
+    fn put_pieces(&mut self, bytes: &[u8]) -> Result<(), Failed>
         ensures streams { Streams (W.put (sink_of self.old)) (W.put (sink_of self.new))
             (waiting self.old) (waiting self.new) bytes.now result }
         ensures pages { (first n : ℕ) → Paged first n self.old
@@ -142,7 +158,23 @@ impl<W: Sink> Outlet<W> {
         Ok(())
     }
 
+    /// Puts all of these bytes after what waits: a value, most often, by a few instructions.
+    #[inline(always)]
+    pub(crate) fn put_bytes(&mut self, bytes: &[u8]) -> Result<(), Failed>
+        ensures streams { Streams (W.put (sink_of self.old)) (W.put (sink_of self.new))
+            (waiting self.old) (waiting self.new) bytes.now result }
+        ensures pages { (first n : ℕ) → Paged first n self.old
+            → OnOk result (Paged first (n + length bytes.now) self.new) }
+        ensures count { Counts (W.failures (sink_of self.old)) (W.failures (sink_of self.new)) result }
+    {
+        if bytes.len() <= self.full - self.filled {
+            return self.put_piece(bytes);
+        }
+        self.put_pieces(bytes)
+    }
+
     /// Puts the bytes of a fill value after what waits, `count` times, so that they end at most one past a page.
+    #[inline(always)]
     fn fill_some(&mut self, fill: &[u8], count: usize) -> Result<(), Failed>
         requires { self.old.filled + count * length fill.now < self.old.full + 8 }
         ensures streams { Streams (W.put (sink_of self.old)) (W.put (sink_of self.new))
@@ -156,8 +188,9 @@ impl<W: Sink> Outlet<W> {
         self.hold(end)
     }
 
-    /// Puts the bytes of a fill value after what waits, `count` times.
-    pub(crate) fn put_fills(&mut self, fill: &[u8], count: u64) -> Result<(), Failed>
+    /// Puts the bytes of a fill value after what waits, `count` times, page by page.
+    #[inline(never)]
+    fn put_many(&mut self, fill: &[u8], count: u64) -> Result<(), Failed>
         requires some { 0 < length fill.now }
         requires short { length fill.now ≤ 8 }
         ensures streams { Streams (W.put (sink_of self.old)) (W.put (sink_of self.new))
@@ -175,6 +208,27 @@ impl<W: Sink> Outlet<W> {
             left -= more as u64;
         }
         Ok(())
+    }
+
+    /// Puts the bytes of a fill value after what waits, `count` times: few, most often, or none as padding.
+    #[inline(always)]
+    pub(crate) fn put_fills(&mut self, fill: &[u8], count: u64) -> Result<(), Failed>
+        requires some { 0 < length fill.now }
+        requires short { length fill.now ≤ 8 }
+        ensures streams { Streams (W.put (sink_of self.old)) (W.put (sink_of self.new))
+            (waiting self.old) (waiting self.new)
+            (concat (replicate count fill.now)) result }
+        ensures pages { (first n : ℕ) → Paged first n self.old
+            → OnOk result (Paged first (n + length (concat (replicate count fill.now))) self.new) }
+        ensures count { Counts (W.failures (sink_of self.old)) (W.failures (sink_of self.new)) result }
+    {
+        if count == 0 {
+            return Ok(());
+        }
+        if count <= 8_192 && count as usize * fill.len() <= self.full - self.filled {
+            return self.fill_some(fill, count as usize);
+        }
+        self.put_many(fill, count)
     }
 
     /// Puts out all that waits.

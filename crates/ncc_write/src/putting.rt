@@ -29,6 +29,7 @@ pub(crate) fn put_at(
 }
 
 /// Puts bytes into the buffer, from a place on.
+#[inline(always)]
 pub(crate) fn copy_at(buffer: &mut [u8], place: usize, bytes: &[u8])
     requires { place + length bytes.now ≤ length buffer.old }
     ensures bytes { take (place + length bytes.now) buffer.new ≡ take place buffer.old ++ bytes.now }
@@ -52,8 +53,55 @@ fn copy_on(buffer: &mut [u8], place: usize, count: usize, to: usize)
     buffer.copy_within(place..place + count, to);
 }
 
-/// Puts the bytes of a fill value into the buffer `count` times, from a place on, and tells where they end. What is
-/// there is copied behind itself, so that each copy but the last is twice as long as the one before it.
+/// How many fill values are put one by one, before what is there is copied.
+const FEW: usize = 64;
+
+/// Puts the bytes of a fill value into the buffer `count` times, from a place on, one by one.
+#[inline(always)]
+fn fill_singly(buffer: &mut [u8], place: usize, fill: &[u8], count: usize)
+    requires { place + count * length fill.now ≤ length buffer.old }
+    ensures bytes { take (place + count * length fill.now) buffer.new
+        ≡ take place buffer.old ++ concat (replicate count fill.now) }
+    ensures room { length buffer.new ≡ length buffer.old }
+{
+    for done in 0..count {
+        copy_at(buffer, place + done * fill.len(), fill);
+    }
+}
+
+/// The same for a size that the compiler knows: it makes wide moves of many small ones.
+#[inline(always)]
+fn fill_sized<const N: usize>(buffer: &mut [u8], place: usize, fill: &[u8], count: usize)
+    requires size { length fill.now ≡ N }
+    requires room { place + count * length fill.now ≤ length buffer.old }
+    ensures bytes { take (place + count * length fill.now) buffer.new
+        ≡ take place buffer.old ++ concat (replicate count fill.now) }
+    ensures room { length buffer.new ≡ length buffer.old }
+{
+    let mut value = [0; N];
+    value.copy_from_slice(&fill[..N]);
+    fill_singly(buffer, place, &value, count);
+}
+
+/// The same for a size of any type.
+fn fill_few(buffer: &mut [u8], place: usize, fill: &[u8], count: usize)
+    requires { place + count * length fill.now ≤ length buffer.old }
+    ensures bytes { take (place + count * length fill.now) buffer.new
+        ≡ take place buffer.old ++ concat (replicate count fill.now) }
+    ensures room { length buffer.new ≡ length buffer.old }
+{
+    match fill.len() {
+        1 => fill_sized::<1>(buffer, place, fill, count),
+        2 => fill_sized::<2>(buffer, place, fill, count),
+        4 => fill_sized::<4>(buffer, place, fill, count),
+        8 => fill_sized::<8>(buffer, place, fill, count),
+        _ => fill_singly(buffer, place, fill, count),
+    }
+}
+
+/// Puts the bytes of a fill value into the buffer `count` times, from a place on, and tells where they end. After the
+/// first of them what is there is copied behind itself, so that each copy but the last is twice as long as the one
+/// before it.
 pub(crate) fn fill_at(buffer: &mut [u8], place: usize, fill: &[u8], count: usize) -> usize
     requires { place + count * length fill.now ≤ length buffer.old }
     ensures end { result ≡ place + count * length fill.now }
@@ -61,14 +109,10 @@ pub(crate) fn fill_at(buffer: &mut [u8], place: usize, fill: &[u8], count: usize
     ensures room { length buffer.new ≡ length buffer.old }
 {
     let size = fill.len();
-    let mut done = 0;
+    let mut done = count.min(FEW);
+    fill_few(buffer, place, fill, done);
     while done < count {
         let more = done.min(count - done);
-        if more == 0 {
-            copy_at(buffer, place, fill);
-            done = 1;
-            continue;
-        }
         copy_on(buffer, place, more * size, place + done * size);
         done += more;
     }

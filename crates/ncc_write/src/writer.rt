@@ -91,7 +91,7 @@ impl<W: Sink> FileWriter<W> {
     }
 
     /// What is put for the slab of the next value, and in which record.
-    #[inline]
+    #[inline(always)]
     fn turn(&self) -> (Turn, u64)
         requires { self.now.slab < self.now.course.slabs }
         ensures turn { result.0 ≡ turn_at self.now.course self.now.slab }
@@ -117,6 +117,7 @@ impl<W: Sink> FileWriter<W> {
     }
 
     /// Goes on to the next slab, of which nothing is there yet.
+    #[inline(always)]
     fn open_slab(&mut self) -> Result<(), Failed>
         requires { self.old.slab < self.old.course.slabs }
         ensures next { OnOk result (self.new.slab ≡ self.old.slab + 1) }
@@ -141,6 +142,7 @@ impl<W: Sink> FileWriter<W> {
     }
 
     /// Pads a slab that has all its elements, and goes on to the next one.
+    #[inline(always)]
     fn close_slab(&mut self) -> Result<(), Failed>
         requires { self.old.slab < self.old.course.slabs }
         ensures next { OnOk result (self.new.slab ≡ self.old.slab + 1) }
@@ -157,6 +159,7 @@ impl<W: Sink> FileWriter<W> {
     }
 
     /// Goes on after so many elements of the slab, whose bytes were put after what waits.
+    #[inline(always)]
     fn go_on(&mut self, count: u64) -> Result<(), Failed>
         requires there { self.old.slab < self.old.course.slabs }
         requires room { count ≤ self.old.left }
@@ -173,6 +176,7 @@ impl<W: Sink> FileWriter<W> {
     }
 
     /// Takes values that fit in the slab.
+    #[inline(always)]
     fn take(&mut self, values: &Values) -> Result<(), Failed>
         requires there { self.old.slab < self.old.course.slabs }
         requires room { count_of values.now ≤ self.old.left }
@@ -187,6 +191,7 @@ impl<W: Sink> FileWriter<W> {
     }
 
     /// Takes the bytes of so many values that fit in the slab.
+    #[inline(always)]
     fn take_bytes(&mut self, count: u64, bytes: &[u8]) -> Result<(), Failed>
         requires there { self.old.slab < self.old.course.slabs }
         requires room { count ≤ self.old.left }

@@ -19,6 +19,7 @@ loop-done-preserved c =
     let place_in : c.args.place ≤ length c.args.buffer.now = omega (arith, c.requires) in
     record {
       within = omega (arith, c.min-more.ensures, c.loop-done-test.true);
+      some = λ less. omega (arith, at.some c.loop-done-test.true);
       bytes = more_fills c.args.place c.loop-done.done c.min-more.result c.args.fill.now c.args.buffer.now c.loop-done.buffer c.copy_on.new.buffer
           place_in (omega (arith, c.min-more.ensures)) at.bytes c.copy_on.ensures.bytes;
       room = c.copy_on.ensures.room ∙ at.room;

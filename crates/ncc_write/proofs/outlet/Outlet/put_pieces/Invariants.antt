@@ -1,7 +1,7 @@
 use Rattle.std.proofs.Common.{◌≡◌, ℕ, ◌+◌, ◌≤◌, ◌-◌, Ok, length, take}
 use Rattle.ncc_write.specs.Outlet.{Paged, sink_of, waiting}
 use Rattle.ncc_write.specs.Streams.{Streams}
-use Rattle.ncc_write.proofs.outlet.Outlet.put_bytes.Given as goal
+use Rattle.ncc_write.proofs.outlet.Outlet.put_pieces.Given as goal
 
 abbrev pub invariant-loop-done : goal.invariant-loop-done
 invariant-loop-done g l = record {

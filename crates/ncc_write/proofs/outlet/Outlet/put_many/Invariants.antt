@@ -2,7 +2,7 @@ use Rattle.std.proofs.Common.{◌≡◌, ℕ, ◌+◌, ◌*◌, ◌≤◌, ◌-�
 use Rattle.std.specs.List.{concat}
 use Rattle.ncc_write.specs.Outlet.{Paged, sink_of, waiting}
 use Rattle.ncc_write.specs.Streams.{Streams}
-use Rattle.ncc_write.proofs.outlet.Outlet.put_fills.Given as goal
+use Rattle.ncc_write.proofs.outlet.Outlet.put_many.Given as goal
 
 abbrev pub invariant-loop-left : goal.invariant-loop-left
 invariant-loop-left g l = record {

@@ -3,7 +3,7 @@ use Rattle.std.proofs.lemmas.List.{length-take-le}
 use Rattle.ncc_write.specs.Outlet.{Paged, sink_of, waiting}
 use Rattle.ncc_write.specs.Streams.{Streams}
 use Rattle.ncc_write.proofs.Streaming.{bytes_fail_at, next_bytes}
-use Rattle.ncc_write.proofs.outlet.Outlet.put_bytes.Goals as goal
+use Rattle.ncc_write.proofs.outlet.Outlet.put_pieces.Goals as goal
 
 pub returns-in_err-put_piece-clause-streams : goal.returns-in_err-put_piece-clause-streams
 returns-in_err-put_piece-clause-streams g c =
