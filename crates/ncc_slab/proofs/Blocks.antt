@@ -1,5 +1,5 @@
 -- Elements that lie one after the other, by the axes of a grid.
-use Rattle.std.proofs.Common.{◌≡◌, ℕ, suc, ◌+◌, ◌-◌, ◌*◌, ◌/◌, ◌%◌, ◌<◌, ◌≤◌, inl, inr, ltb, Bool, true, false, List, [], ◌∷◌, length, get_or, drop, drop-cons, refl, sym, ap, subst, ◌∙◌, arith, mod-lt}
+use Rattle.std.proofs.Common.{◌≡◌, ℕ, suc, ◌+◌, ◌-◌, ◌*◌, ◌/◌, ◌%◌, ◌<◌, ◌≤◌, ◌⊎◌, inl, inr, ltb, Bool, true, false, List, [], ◌∷◌, length, get_or, drop, drop-cons, refl, sym, ap, subst, ◌∙◌, arith, mod-lt}
 use Rattle.std.proofs.Math.Nat.{mul_assoc, add-mul, eq-or-lt_of_le}
 use Rattle.std.proofs.lemmas.Bool.{ltb-true, ltb-false}
 use Rattle.std.proofs.lemmas.List.{drop_all}
@@ -62,11 +62,22 @@ module _ (size : ℕ) (axes : List Axis) (k : ℕ) (lt : k < length axes) (wide 
       ∙ ap (λ (m : ℕ). q * a.step + m) same
       ∙ omega (arith, ap (λ (l : List Axis). offset_at l n) (next_axis axes k lt))
 
-  pub same_index_by : (w n i : ℕ) → w ≡ a.width → i < w - n % w → offset_at rest (n % w + i) ≡ offset_at rest (n % w) + i * size
+  pub offset_by : (w step n q r : ℕ) → w ≡ a.width → step ≡ a.step → q ≡ n / w → r ≡ n % w → offset_at (drop k axes) n ≡ q * step + offset_at rest r
+  offset_by w step n q r width step_is index left =
+      ap (λ (l : List Axis). offset_at l n) (next_axis axes k lt)
+      ∙ ap (λ (m : ℕ). n / m * a.step + offset_at rest (n % m)) (sym width)
+      ∙ ap (λ (m : ℕ). n / w * m + offset_at rest (n % w)) (sym step_is)
+      ∙ ap (λ (m : ℕ). m * step + offset_at rest (n % w)) (sym index)
+      ∙ ap (λ (m : ℕ). q * step + offset_at rest m) (sym left)
+
+  pub same_index_by : (w n i r : ℕ) → w ≡ a.width → r ≡ n % w → i < w - r → offset_at rest (r + i) ≡ offset_at rest r + i * size
       → offset_at (drop k axes) (n + i) ≡ offset_at (drop k axes) n + i * size
-  same_index_by w n i is =
-      subst (λ (m : ℕ). i < m - n % m → offset_at rest (n % m + i) ≡ offset_at rest (n % m) + i * size → offset_at (drop k axes) (n + i) ≡ offset_at (drop k axes) n + i * size)
-      (sym is) (same_index n i)
+  same_index_by w n i r width left =
+      let is : r ≡ n % a.width = left ∙ ap (λ (m : ℕ). n % m) width in
+      subst (λ (m : ℕ). i < m - r → offset_at rest (r + i) ≡ offset_at rest r + i * size → offset_at (drop k axes) (n + i) ≡ offset_at (drop k axes) n + i * size)
+      (sym width)
+      (subst (λ (m : ℕ). i < a.width - m → offset_at rest (m + i) ≡ offset_at rest m + i * size → offset_at (drop k axes) (n + i) ≡ offset_at (drop k axes) n + i * size)
+      (sym is) (same_index n i))
 
 -- after all axes but those without a gap
 pub dense_goes_on : (size : ℕ) (axes : List Axis) → IsDense size axes → (n i : ℕ) → offset_at axes (n + i) ≡ offset_at axes n + i * size
@@ -85,3 +96,31 @@ module _ (f : ℕ → ℕ) (n count more place size : ℕ) (one : (i : ℕ) → 
 
   pub runs_join : (i : ℕ) → i < count + more → f (n + i) ≡ place + i * size
   runs_join i below = by_test (ltb i count) i refl below
+
+-- ---- runs of elements at even distances
+
+-- where that is their size, or where it is one element
+pub run_adjoins : (f : ℕ → ℕ) (n place step size count : ℕ) → ((i : ℕ) → i < count → f (n + i) ≡ place + i * step) → (step ≡ size) ⊎ (count ≤ 1)
+    → (i : ℕ) → i < count → f (n + i) ≡ place + i * size
+run_adjoins f n place step size count even (inl same) i below = even i below ∙ ap (λ (m : ℕ). place + i * m) same
+run_adjoins f n place step size count even (inr one) i below =
+    let none : i ≡ 0 = omega (arith, one, below) in
+    even i below ∙ ap (λ (m : ℕ). place + m * step) none ∙ omega (arith, ap (λ (m : ℕ). m * size) none)
+
+pub run_begins : (f : ℕ → ℕ) (n place step count : ℕ) → 0 < count → ((i : ℕ) → i < count → f (n + i) ≡ place + i * step) → f n ≡ place
+run_begins f n place step count some even = ap f (let same : n ≡ n + 0 = omega arith in same) ∙ even 0 some ∙ omega arith
+
+-- without its first ones
+pub run_behind : (f : ℕ → ℕ) (n gone count place step : ℕ) → ((i : ℕ) → i < count → f (n + i) ≡ place + i * step)
+    → (i : ℕ) → i < count - gone → f (n + gone + i) ≡ place + gone * step + i * step
+run_behind f n gone count place step even i below =
+    ap f (let same : n + gone + i ≡ n + (gone + i) = omega arith in same) ∙ even (gone + i) (omega (arith, below)) ∙ omega (arith, add-mul gone i step)
+
+-- and after them a run of which each adjoins
+pub runs_adjoin : (f : ℕ → ℕ) (n count more place next step size : ℕ) → ((i : ℕ) → i < count → f (n + i) ≡ place + i * size) → next ≡ place + count * size
+    → 0 < more → ((i : ℕ) → i < more → f (n + count + i) ≡ next + i * step) → (step ≡ size) ⊎ (more ≤ 1)
+    → (i : ℕ) → i < count + more → f (n + i) ≡ place + i * size
+runs_adjoin f n count more place next step size one here some even each =
+    let first = run_begins f (n + count) next step more some even in
+    runs_join f n count more place size one (first ∙ here)
+    (λ i below. run_adjoins f (n + count) next step size more even each i below ∙ ap (λ (m : ℕ). m + i * size) (sym first))

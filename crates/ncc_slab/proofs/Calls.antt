@@ -62,11 +62,11 @@ one_more size f a (suc k) (suc m) some apart =
     rw one (let more = breaks_more size f a k m next in omega (arith, more))
 
 -- where a stretch ends the next element doesn't adjoin
-pub ends_apart : (size : ℕ) (f : ℕ → ℕ) (first done more : ℕ) → 0 < more → ((i : ℕ) → i < more → f (first + done + i) ≡ f (first + done) + i * size)
-    → (f (first + done + more) ≡ f (first + done) + more * size → ⊥) → f (first + (done + more)) ≡ f (first + (done + more) - 1) + size → ⊥
-ends_apart size f first done zero some adjoin not is = absurd (omega (arith, some))
-ends_apart size f first done (suc k) some adjoin not is =
-    let last : f (first + (done + suc k) - 1) ≡ f (first + done) + k * size =
+pub ends_apart : (size : ℕ) (f : ℕ → ℕ) (first done more place : ℕ) → 0 < more → ((i : ℕ) → i < more → f (first + done + i) ≡ place + i * size)
+    → (f (first + done + more) ≡ place + more * size → ⊥) → f (first + (done + more)) ≡ f (first + (done + more) - 1) + size → ⊥
+ends_apart size f first done zero place some adjoin not is = absurd (omega (arith, some))
+ends_apart size f first done (suc k) place some adjoin not is =
+    let last : f (first + (done + suc k) - 1) ≡ place + k * size =
     ap f (let same : first + (done + suc k) - 1 ≡ first + done + k = omega arith in same) ∙ adjoin k (omega arith) in
     let here : f (first + done + suc k) ≡ f (first + (done + suc k)) = ap f (let same : first + done + suc k ≡ first + (done + suc k) = omega arith in same) in
     not (omega (arith, is, last, here))

@@ -57,9 +57,9 @@ room_there done more count size out le long =
     )
 
 -- the elements of a stretch end where its last one does
-pub stretch_end : (f : ℕ → ℕ) (next more size end : ℕ) → 0 < more → ((i : ℕ) → i < more → f (next + i) ≡ f next + i * size)
-    → f (next + (more - 1)) + size ≤ end → f next + more * size ≤ end
-stretch_end f next more size end some adjoin last =
+pub stretch_end : (f : ℕ → ℕ) (next more place size end : ℕ) → 0 < more → ((i : ℕ) → i < more → f (next + i) ≡ place + i * size)
+    → f (next + (more - 1)) + size ≤ end → place + more * size ≤ end
+stretch_end f next more place size end some adjoin last =
     omega (arith, adjoin (more - 1) (omega (arith, some)), last, last_and_one more size some)
 
 pub part_long : (left size n : ℕ) (buffer : List ℕ) → n ≡ min left (length buffer / size) → length (take (n * size) buffer) ≡ n * size

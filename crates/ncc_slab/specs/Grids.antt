@@ -2,6 +2,7 @@
 use Rattle.std.specs.Prelude.{◌≡◌, ℕ, ◌+◌, ◌-◌, ◌*◌, ◌<◌, ◌≤◌, List, length, get_or, drop}
 use Rattle.ncc_slab.specs.declared.axis.Axis.{Axis}
 use Rattle.ncc_slab.specs.declared.grid.Grid.{Grid}
+use Rattle.ncc_slab.specs.declared.grid.Run.{Run}
 use Rattle.ncc_slab.specs.Axes.{offset_at, place_at, places_from, no_axis}
 
 abbrev pub grid_place : Grid → (n : ℕ) → ℕ
@@ -39,3 +40,8 @@ IsDense size axes = (n : ℕ) → offset_at axes n ≡ n * size
 pub record IsDenseFrom (size : ℕ) (g : Grid) (number : ℕ) : Type 0 where
   pub there : number < length g.axes.items
   pub dense : IsDense size (drop number g.axes.items)
+
+-- these elements from the n-th on lie so far apart
+pub record IsRun (step : ℕ) (g : Grid) (n : ℕ) (run : Run) : Type 0 where
+  pub some : 0 < run.count
+  pub even : (i : ℕ) → i < run.count → grid_place g (n + i) ≡ run.place + i * step

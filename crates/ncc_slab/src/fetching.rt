@@ -1,6 +1,6 @@
 //! Fetching the elements of a selection, a stretch of adjoining ones by one call.
 
-ghost use Rattle.std.specs.Prelude.{◌≡◌, ◌≢◌, ◌⊎◌, ◌+◌, ◌-◌, ◌*◌, ◌<◌, ◌≤◌, ◌^◌, ℕ, length, take, min, max, IsTrue, IfOk, OnOk, OnErr};
+ghost use Rattle.std.specs.Prelude.{◌≡◌, ◌≢◌, ◌⊎◌, ◌+◌, ◌-◌, ◌*◌, ◌<◌, ◌≤◌, ◌^◌, ℕ, length, take, min, max, IsTrue, IfOk, IfSome, OnOk, OnErr};
 ghost use Rattle.ncc_values.specs.Failures.{Counts};
 ghost use Rattle.ncc_values.specs.Values.{type_of, count_of};
 ghost use Rattle.ncc_values.specs.XType.{size_of};
@@ -8,33 +8,56 @@ ghost use Rattle.ncc_store.specs.Store.{Unmoved, KeepsImages};
 ghost use Rattle.ncc_layout.specs.Placed.{file_length_of};
 ghost use Rattle.ncc_check.specs.Files.{store_of, schema_of, placed_of, must_reopen};
 ghost use Rattle.ncc_slab.specs.Answers.{buffer_length, part_count, PartCounts};
-ghost use Rattle.ncc_slab.specs.Grids.{grid_place, grid_count, grid_places, grid_rest, EndBy};
+ghost use Rattle.ncc_slab.specs.Grids.{grid_place, grid_count, grid_places, grid_rest, EndBy, IsDenseFrom, IsRun};
 ghost use Rattle.ncc_slab.specs.Selected.{bytes_at_places, AddsPlaces};
 ghost use Rattle.ncc_slab.specs.Stretches.{stretches, part_stretches, all_stretches};
 ghost use Rattle.ncc_slab.specs.Apart.{places_apart};
 
 use crate::fault::SlabFault;
-use crate::grid::Grid;
+use crate::grid::{Grid, Run};
 use ncc_check::NcFile;
 use ncc_store::{Device, Store, laws as store_laws};
 use ncc_values::Values;
 
-/// How many elements from the n-th on, at most so many, lie one after another.
-fn stretch(grid: &Grid, size: u64, n: u64, most: u64) -> u64
+/// How many elements from the n-th on, at most so many, lie one after another, where those of this run do, and the run
+/// after them.
+fn stretch(
+    grid: &Grid,
+    dense: Option<usize>,
+    step: u64,
+    size: u64,
+    n: u64,
+    run: Run,
+    most: u64,
+) -> (u64, Run)
     requires ends { (length : ℕ) × (length < 2 ^ 64) × EndBy length size grid.now }
     requires there { n + most ≤ grid_count grid.now }
-    requires some { 0 < most }
-    ensures some { 0 < result }
-    ensures most { result ≤ most }
-    ensures adjoin { (i : ℕ) → i < result → grid_place grid.now (n + i) ≡ grid_place grid.now n + i * size }
-    ensures longest { (result ≡ most) ⊎ (grid_place grid.now (n + result) ≢ grid_place grid.now n + result * size) }
+    requires dense { IfSome dense (IsDenseFrom step grid.now) }
+    requires run { IsRun step grid.now n run }
+    requires within { run.count ≤ most }
+    requires one { (step ≡ size) ⊎ (run.count ≡ 1) }
+    ensures some { 0 < result.0 }
+    ensures most { result.0 ≤ most }
+    ensures adjoin { (i : ℕ) → i < result.0 → grid_place grid.now (n + i) ≡ run.place + i * size }
+    ensures longest { (result.0 ≡ most) ⊎ (grid_place grid.now (n + result.0) ≢ run.place + result.0 * size) }
+    ensures next { result.0 < most → IsRun step grid.now (n + result.0) result.1 }
+    ensures within { result.0 < most → result.0 + result.1.count ≤ most }
 {
-    let place = grid.place(n);
-    let mut count = grid.block(size, n, most);
-    while count < most && grid.place(n + count) == place + count * size {
-        count += grid.block(size, n + count, most - count);
+    let mut count = run.count;
+    while count < most {
+        let next = grid.run(dense, n + count, most - count);
+        if next.place != run.place + count * size {
+            return (count, next);
+        }
+        if step != size && next.count > 1 {
+            // The first of these adjoins, and the second doesn't.
+            let place = next.place + step;
+            let left = next.count - 1;
+            return (count + 1, Run { place, count: left });
+        }
+        count += next.count;
     }
-    count
+    (most, run)
 }
 
 /// Fills `out` with elements that lie at even distances, each by a call of its own.
@@ -98,27 +121,41 @@ fn fetch_elements<S: Store>(
         ≤ max (S.reach (store_of file.old)) (file_length_of (placed_of file.old)) }
 {
     store_laws::unmoved_calls_join::<S>();
+    if count == 0 {
+        return Ok(());
+    }
     let step = grid.step();
+    let dense = grid.dense_from(step);
+    let mut run = grid.run(dense, first, count);
     let mut done = 0;
     while done < count {
-        let next = first + done;
-        if step != size as u64 {
-            let even = grid.block(step, next, count - done);
-            if even > 1 {
-                // Each but the last of these is followed by one that doesn't adjoin.
-                let begin = done as usize * size;
-                let end = (done + (even - 1)) as usize * size;
-                let room = &mut out[begin..end];
-                fetch_apart(file, grid.place(next), step, size, even - 1, room)?;
-                done += even - 1;
-                continue;
-            }
+        if step != size as u64 && run.count > 1 {
+            // Each but the last of these is followed by one that doesn't adjoin.
+            let apart = run.count - 1;
+            let begin = done as usize * size;
+            let end = (done + apart) as usize * size;
+            fetch_apart(file, run.place, step, size, apart, &mut out[begin..end])?;
+            done += apart;
+            run = Run {
+                place: run.place + apart * step,
+                count: 1,
+            };
+            continue;
         }
-        let more = stretch(grid, size as u64, next, count - done);
+        let (more, next) = stretch(
+            grid,
+            dense,
+            step,
+            size as u64,
+            first + done,
+            run,
+            count - done,
+        );
         let begin = done as usize * size;
         let end = (done + more) as usize * size;
-        file.fetch(grid.place(next), &mut out[begin..end])?;
+        file.fetch(run.place, &mut out[begin..end])?;
         done += more;
+        run = next;
     }
     Ok(())
 }

@@ -1,6 +1,6 @@
 //! The places of a selection, each by its number.
 
-ghost use Rattle.std.specs.Prelude.{◌≡◌, ◌+◌, ◌*◌, ◌<◌, ◌≤◌, ◌^◌, ℕ, length, IsTrue, IfSome};
+ghost use Rattle.std.specs.Prelude.{◌≡◌, ◌+◌, ◌*◌, ◌/◌, ◌%◌, ◌<◌, ◌≤◌, ◌^◌, ℕ, length, IsTrue, IfSome};
 ghost use Rattle.ncc_slab.specs.Axes.{place_at, places_from, AreWide};
 
 use crate::axis::Axis;
@@ -17,8 +17,28 @@ pub struct Grid {
     ghost small: { count < 2 ^ 64 },
 }
 
+/// Elements at even distances: where the first lies, and how many they are.
+#[derive(Clone, Copy)]
+pub struct Run {
+    pub place: u64,
+    pub count: u64,
+}
+
+/// The index along an axis of this width, and the number among the elements that share it.
+#[inline(always)]
+fn index_along(number: u64, width: u64) -> (u64, u64)
+    requires { 0 < width }
+    ensures { (result.0 ≡ number / width) × (result.1 ≡ number % width) }
+{
+    // The width of the last axis, which a division would take as long for.
+    if width == 1 {
+        return (number, 0);
+    }
+    (number / width, number % width)
+}
+
 impl Grid {
-    ghost use Rattle.ncc_slab.specs.Grids.{grid_place, grid_count, grid_places, Adjoins, IsDenseFrom};
+    ghost use Rattle.ncc_slab.specs.Grids.{grid_place, grid_count, grid_places, Adjoins, IsDenseFrom, IsRun};
 
     /// A grid of so many elements.
     pub fn new(base: u64, axes: Vec<Axis>, count: u64) -> Grid
@@ -71,12 +91,12 @@ impl Grid {
         step as u128 == width as u128 * size as u128
     }
 
-    /// The first axis from which on elements of this size lie without a gap, where there is one.
-    fn dense_from(&self, size: u64) -> Option<usize>
-        ensures { IfSome result (IsDenseFrom size self.now) }
+    /// The first axis from which on elements lie this far apart, where there is one.
+    pub fn dense_from(&self, step: u64) -> Option<usize>
+        ensures { IfSome result (IsDenseFrom step self.now) }
     {
         let mut from = self.axes.len();
-        while from > 0 && self.adjoins(from - 1, size) {
+        while from > 0 && self.adjoins(from - 1, step) {
             from -= 1;
         }
         if from == self.axes.len() {
@@ -85,24 +105,32 @@ impl Grid {
         Some(from)
     }
 
-    /// How many elements from the n-th on surely lie one after another, at most so many: all as far as no
-    /// index changes but along the axes without a gap.
-    pub fn block(&self, size: u64, n: u64, most: u64) -> u64
-        requires { 0 < most }
-        ensures some { 0 < result }
-        ensures most { result ≤ most }
-        ensures adjoin { (i : ℕ) → i < result → grid_place self.now (n + i) ≡ grid_place self.now n + i * size }
+    /// The elements from the n-th on that surely lie as far apart as along the axes from `dense` on, at most so many: all
+    /// as far as no index changes along another axis.
+    pub fn run(&self, dense: Option<usize>, n: u64, most: u64) -> Run
+        requires there { n < grid_count self.now }
+        requires some { 0 < most }
+        ensures most { result.count ≤ most }
+        ensures run { (step : ℕ) → IfSome dense (IsDenseFrom step self.now) → IsRun step self.now n result }
     {
-        let Some(from) = self.dense_from(size) else {
-            return 1;
+        let Some(from) = dense else {
+            return Run {
+                place: self.place(n),
+                count: 1,
+            };
         };
-        let mut block = most;
+        let mut place = self.base;
         let mut number = n;
-        for k in 0..from {
-            let width = self.axes[k].width;
-            number %= width;
-            block = block.min(width - number);
+        let mut count = most;
+        for k in 0..self.axes.len() {
+            let Axis { step, width } = self.axes[k];
+            let (index, rest) = index_along(number, width);
+            place += index * step;
+            number = rest;
+            if k < from {
+                count = count.min(width - rest);
+            }
         }
-        block
+        Run { place, count }
     }
 }

@@ -4,7 +4,7 @@ use Rattle.std.specs.List.{range_with_len}
 use Rattle.ncc_store.specs.Store.{Unmoved, KeepsImages}
 use Rattle.ncc_layout.specs.Placed.{file_length_of}
 use Rattle.ncc_check.specs.Files.{store_of, schema_of, placed_of, must_reopen}
-use Rattle.ncc_slab.specs.Grids.{grid_place, grid_rest}
+use Rattle.ncc_slab.specs.Grids.{grid_place, grid_rest, IsRun}
 use Rattle.ncc_slab.specs.Stretches.{stretches}
 use Rattle.ncc_slab.specs.Selected.{bytes_at_places}
 use Rattle.ncc_slab.proofs.fetching.fetch_elements.Given as goal
@@ -20,6 +20,8 @@ invariant-loop-done g l = record {
   kept : KeepsImages (g.S.Store.images (store_of l.fn.file)) (g.S.Store.images (store_of l.file));
   calls : g.S.Store.calls (store_of l.file) ≤ g.S.Store.calls (store_of l.fn.file) + stretches l.size (map (grid_place l.grid) (range_with_len l.first l.done));
   apart : l.done < l.count → 0 < l.done → grid_place l.grid (l.first + l.done) ≡ grid_place l.grid (l.first + l.done - 1) + l.size → ⊥;
+  run : l.done < l.count → IsRun l.step l.grid (l.first + l.done) l.run;
+  left : l.done < l.count → l.done + l.run.count ≤ l.count;
   reach : g.S.Store.reach (store_of l.file) ≤ max (g.S.Store.reach (store_of l.fn.file)) (file_length_of (placed_of l.fn.file));
   count : g.S.Store.failures (store_of l.file) ≡ g.S.Store.failures (store_of l.fn.file);
 }

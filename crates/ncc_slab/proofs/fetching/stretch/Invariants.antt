@@ -6,7 +6,7 @@ abbrev pub invariant-loop-count : goal.invariant-loop-count
 invariant-loop-count l = record {
   some : 0 < l.count;
   within : l.count ≤ l.most;
-  adjoin : (i : ℕ) → i < l.count → grid_place l.grid (l.n + i) ≡ l.place + i * l.size;
+  adjoin : (i : ℕ) → i < l.count → grid_place l.grid (l.n + i) ≡ l.run.place + i * l.size;
 }
 
 abbrev pub decreases-loop-count : goal.decreases-loop-count

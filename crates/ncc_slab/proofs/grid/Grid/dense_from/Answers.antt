@@ -11,6 +11,6 @@ loop-from-preserved c =
     let next : k + 1 ≡ c.loop-from.from = omega (arith, c.loop-from-test.true) in
     record {
       within = omega (arith, at.within);
-      dense = λ lt. dense_more c.args.size axes k lt c.args.self.now.wide (c.if-adjoins.ensures refl).step_is (c.if-adjoins.ensures refl).last
-          (λ more. subst (λ (m : ℕ). IsDense c.args.size (drop m axes)) (sym next) (at.dense (omega (arith, more, next))));
+      dense = λ lt. dense_more c.args.step axes k lt c.args.self.now.wide (c.if-adjoins.ensures refl).step_is (c.if-adjoins.ensures refl).last
+          (λ more. subst (λ (m : ℕ). IsDense c.args.step (drop m axes)) (sym next) (at.dense (omega (arith, more, next))));
     }

@@ -5,7 +5,7 @@ use Rattle.ncc_slab.proofs.grid.Grid.dense_from.Given as goal
 abbrev pub invariant-loop-from : goal.invariant-loop-from
 invariant-loop-from l = record {
   within : l.from ≤ length l.self.axes.items;
-  dense : l.from < length l.self.axes.items → IsDense l.size (drop l.from l.self.axes.items);
+  dense : l.from < length l.self.axes.items → IsDense l.step (drop l.from l.self.axes.items);
 }
 
 abbrev pub decreases-loop-from : goal.decreases-loop-from
