@@ -1,5 +1,5 @@
 -- How many stretches a run of places has, and how many calls of a store its parts take.
-use Rattle.std.proofs.Common.{◌≡◌, ℕ, zero, suc, ◌+◌, ◌-◌, ◌*◌, ◌/◌, ◌<◌, ◌≤◌, min, eqb, cond, Bool, List, [], map, length, take, drop, sym, ap, ◌∙◌, arith}
+use Rattle.std.proofs.Common.{◌≡◌, ℕ, zero, suc, ◌+◌, ◌-◌, ◌*◌, ◌/◌, ◌<◌, ◌≤◌, min, eqb, cond, Bool, [], map, length, take, drop, sym, ap, ◌∙◌, arith}
 use Rattle.std.specs.Prelude.{sum_by}
 use Rattle.std.specs.List.{range_with_len}
 use Rattle.std.proofs.lemmas.Bool.{ne_eqb}
@@ -73,12 +73,12 @@ ends_apart size f first done (suc k) place some adjoin not is =
 
 -- ---- parts
 
--- the first part of a run of places, by the length of the buffer
-pub first_part : (f : ℕ → ℕ) (first left n room size : ℕ) (buffer : List ℕ) → n ≡ min left (length buffer / room) → length buffer ≡ 65536 → room ≡ size
+-- the first part of a run of places
+pub first_part : (f : ℕ → ℕ) (first left n room size : ℕ) → n ≡ min left (65536 / room) → room ≡ size
     → stretches room (take n (map f (range_with_len first left))) ≡ part_stretches size (map f (range_with_len first left))
-first_part f first left n room size buffer is long same =
+first_part f first left n room size is same =
     let places = map f (range_with_len first left) in
-    let counted : n ≡ part_count size places = is ∙ ap (λ (m : ℕ). min left (m / room)) long ∙ ap (λ (m : ℕ). min left (65536 / m)) same
+    let counted : n ≡ part_count size places = is ∙ ap (λ (m : ℕ). min left (65536 / m)) same
     ∙ ap (λ (m : ℕ). min m (65536 / size)) (sym (length-map-range_with_len f first left)) in
     ap (λ (m : ℕ). stretches m (take n places)) same ∙ ap (λ (m : ℕ). stretches size (take m places)) counted
 

@@ -4,7 +4,7 @@ use Rattle.std.specs.List.{range_with_len}
 use Rattle.std.proofs.Math.Seq.{take-add}
 use Rattle.std.proofs.Math.Nat.{add-mul}
 use Rattle.std.proofs.lemmas.List.{drop-drop, length-take, length-drop}
-use Rattle.std.proofs.lemmas.Nat.{mul-le, div-add-mod'}
+use Rattle.std.proofs.lemmas.Nat.{mul-le}
 use Rattle.std.proofs.lemmas.List.FromFn.{length-map-range_with_len}
 use Rattle.std.proofs.lemmas.Grind.{flat_map-append}
 use Rattle.ncc_slab.specs.Selected.{bytes_at, bytes_at_places}
@@ -62,9 +62,12 @@ pub stretch_end : (f : ℕ → ℕ) (next more place size end : ℕ) → 0 < mor
 stretch_end f next more place size end some adjoin last =
     omega (arith, adjoin (more - 1) (omega (arith, some)), last, last_and_one more size some)
 
-pub part_long : (left size n : ℕ) (buffer : List ℕ) → n ≡ min left (length buffer / size) → length (take (n * size) buffer) ≡ n * size
-part_long left size n buffer is =
-    omega (arith, length-take (n * size) buffer, mul-le n size (length buffer / size) size (omega (arith, is)) (omega arith), div-add-mod' (length buffer) size)
+pub part_long : (left size room n : ℕ) (buffer : List ℕ) → n ≡ min left (65536 / size) → size ≡ room
+    → min left (65536 / room) * room ≤ length buffer → length (take (n * size) buffer) ≡ n * size
+part_long left size room n buffer is same fits =
+    let most : n * size ≡ min left (65536 / room) * room =
+    ap (λ (m : ℕ). m * size) is ∙ ap (λ (m : ℕ). min left (65536 / m) * m) same in
+    omega (arith, length-take (n * size) buffer, most, fits)
 
 pub part_counted : (f : ℕ → ℕ) (first left n room : ℕ) → n ≡ min left room → length (take n (map f (range_with_len first left))) ≡ n
 part_counted f first left n room is = omega (arith, length-take n (map f (range_with_len first left)), length-map-range_with_len f first left, is)

@@ -1,6 +1,6 @@
 //! Fetching the elements of a selection, a stretch of adjoining ones by one call.
 
-ghost use Rattle.std.specs.Prelude.{◌≡◌, ◌≢◌, ◌⊎◌, ◌+◌, ◌-◌, ◌*◌, ◌<◌, ◌≤◌, ◌^◌, ℕ, length, take, min, max, IsTrue, IfOk, IfSome, OnOk, OnErr};
+ghost use Rattle.std.specs.Prelude.{◌≡◌, ◌≢◌, ◌⊎◌, ◌+◌, ◌-◌, ◌*◌, ◌<◌, ◌≤◌, ◌^◌, ◌/◌, ℕ, length, take, min, max, IsTrue, IfOk, IfSome, OnOk, OnErr};
 ghost use Rattle.ncc_values.specs.Failures.{Counts};
 ghost use Rattle.ncc_values.specs.Values.{type_of, count_of};
 ghost use Rattle.ncc_values.specs.XType.{size_of};
@@ -15,6 +15,7 @@ ghost use Rattle.ncc_slab.specs.Apart.{places_apart};
 
 use crate::fault::SlabFault;
 use crate::grid::{Grid, Run};
+use crate::reading::BUFFER;
 use ncc_check::NcFile;
 use ncc_store::{Device, Store, laws as store_laws};
 use ncc_values::Values;
@@ -160,8 +161,8 @@ fn fetch_elements<S: Store>(
     Ok(())
 }
 
-/// Adds the next part of the values, as many as the buffer has room for, and tells how many. After an
-/// `Err` the values are as they were.
+/// Adds the next part of the values, those of 65,536 bytes or all that are left, and tells how many. The buffer has
+/// room for them. After an `Err` the values are as they were.
 pub fn add_part<S: Store>(
     file: &mut NcFile<S>,
     grid: &Grid,
@@ -171,7 +172,8 @@ pub fn add_part<S: Store>(
 ) -> Result<u64, SlabFault>
     requires ends { EndBy (file_length_of (placed_of file.old)) (size_of (type_of values.old)) grid.now }
     requires there { first ≤ grid_count grid.now }
-    requires room { length buffer.old ≡ buffer_length }
+    requires room { min (grid_count grid.now - first) (buffer_length / size_of (type_of values.old))
+        * size_of (type_of values.old) ≤ length buffer.old }
     ensures took { IfOk result (λ n. n ≡ part_count (size_of (type_of values.old)) (grid_rest grid.now first)) }
     ensures told { IsTrue S.tells_bytes → IfOk result (λ n. AddsPlaces (S.bytes (store_of file.old))
         (size_of (type_of values.old)) (take n (grid_rest grid.now first)) values.old values.new) }
@@ -190,7 +192,7 @@ pub fn add_part<S: Store>(
         ≤ max (S.reach (store_of file.old)) (file_length_of (placed_of file.old)) }
 {
     let size = values.xtype().size();
-    let room = (buffer.len() / size) as u64;
+    let room = (BUFFER / size) as u64;
     let count = (grid.count() - first).min(room);
     let part = &mut buffer[..count as usize * size];
     fetch_elements(file, grid, size, first, count, part)?;
@@ -207,7 +209,8 @@ pub fn add_all<S: Store>(
     values: &mut Values,
 ) -> Result<(), SlabFault>
     requires ends { EndBy (file_length_of (placed_of file.old)) (size_of (type_of values.old)) grid.now }
-    requires room { length buffer.old ≡ buffer_length }
+    requires room { min (grid_count grid.now) (buffer_length / size_of (type_of values.old))
+        * size_of (type_of values.old) ≤ length buffer.old }
     ensures told { IsTrue S.tells_bytes → OnOk result (AddsPlaces (S.bytes (store_of file.old))
         (size_of (type_of values.old)) (grid_places grid.now) values.old values.new) }
     ensures typed { type_of values.new ≡ type_of values.old }

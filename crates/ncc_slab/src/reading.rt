@@ -57,7 +57,10 @@ pub fn read_slab<S: Store>(
 {
     let grid = grid_of(alloc, file.placed(), var, slab)?;
     let mut values = Values::new(alloc, file.placed().xtype(var));
-    let mut buffer = vec![in alloc; 0; BUFFER]?;
+    // A small selection has a small buffer: all of it is cleared.
+    let size = values.xtype().size();
+    let most = grid.count().min((BUFFER / size) as u64) as usize;
+    let mut buffer = vec![in alloc; 0; most * size]?;
     add_all(file, &grid, &mut buffer, &mut values)?;
     Ok(values)
 }

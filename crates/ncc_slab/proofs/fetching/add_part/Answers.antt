@@ -1,4 +1,4 @@
-use Rattle.std.proofs.Common.{◌≡◌, ℕ, ◌-◌, ◌*◌, ◌/◌, min, length, take, refl, sym, ap, ◌∙◌, arith}
+use Rattle.std.proofs.Common.{◌≡◌, ℕ, ◌-◌, ◌*◌, ◌/◌, ◌≤◌, min, length, take, refl, sym, ap, subst, ◌∙◌, arith}
 use Rattle.std.proofs.lemmas.List.FromFn.{length-map-range_with_len}
 use Rattle.ncc_values.specs.XType.{size_of}
 use Rattle.ncc_values.specs.Values.{type_of, count_of, with_bytes}
@@ -15,13 +15,14 @@ pub returns-clause-took : goal.returns-clause-took
 returns-clause-took g c =
     let grid = c.args.grid.now in
     let left = length-map-range_with_len (place_at grid.base grid.axes.items) c.args.first (grid.count - c.args.first) in
-    rw (c.min-count.ensures, c.count.ensures, c.size-size.ensures, c.xtype.ensures) (rw (c.requires.room, left) refl)
+    rw (c.min-count.ensures, c.count.ensures, c.size-size.ensures, c.xtype.ensures) (rw left refl)
 
 pub returns-clause-counted : goal.returns-clause-counted
 returns-clause-counted g c =
     let size = c.size-size.ensures ∙ ap size_of c.xtype.ensures in
     let long : length c.fetch_elements.new.out ≡ c.min-count.result * c.size-size.result =
-    c.fetch_elements.auto.out ∙ part_long (c.count.result - c.args.first) c.size-size.result c.min-count.result c.args.buffer.now c.min-count.ensures in
+    c.fetch_elements.auto.out ∙ part_long (c.count.result - c.args.first) c.size-size.result _ c.min-count.result c.args.buffer.now c.min-count.ensures size
+    (subst (λ (m : ℕ). min (m - c.args.first) (65536 / size_of (type_of c.args.values.now)) * size_of (type_of c.args.values.now) ≤ length c.args.buffer.now) (sym c.count.ensures) c.requires.room) in
     ap count_of c.in_ok-push_from.ensures.ok
     ∙ count_of-with_bytes c.args.values.now c.min-count.result c.fetch_elements.new.out (long ∙ ap (λ (n : ℕ). c.min-count.result * n) size)
 
@@ -35,9 +36,10 @@ returns-clause-told g c = λ told.
     let out : c.fetch_elements.new.out ≡ bytes_at_places bytes (size_of (type_of c.args.values.now)) (take n (grid_rest grid first)) =
     c.in_ok-fetch_elements.ensures.told told ∙ ap (λ (m : ℕ). bytes_at_places bytes m (take n (grid_rest grid first))) size in
     let long : length c.fetch_elements.new.out ≡ n * size_of (type_of c.args.values.now) =
-    c.fetch_elements.auto.out ∙ part_long (c.count.result - first) c.size-size.result n c.args.buffer.now c.min-count.ensures ∙ ap (λ (m : ℕ). n * m) size in
-    let counted = part_counted (place_at grid.base grid.axes.items) first (grid.count - first) n (length c.args.buffer.now / c.size-size.result)
-    (c.min-count.ensures ∙ ap (λ (m : ℕ). min (m - first) (length c.args.buffer.now / c.size-size.result)) c.count.ensures) in
+    c.fetch_elements.auto.out ∙ part_long (c.count.result - first) c.size-size.result _ n c.args.buffer.now c.min-count.ensures size
+    (subst (λ (m : ℕ). min (m - first) (65536 / size_of (type_of c.args.values.now)) * size_of (type_of c.args.values.now) ≤ length c.args.buffer.now) (sym c.count.ensures) c.requires.room) ∙ ap (λ (m : ℕ). n * m) size in
+    let counted = part_counted (place_at grid.base grid.axes.items) first (grid.count - first) n (65536 / c.size-size.result)
+    (c.min-count.ensures ∙ ap (λ (m : ℕ). min (m - first) (65536 / c.size-size.result)) c.count.ensures) in
     record {
       is = c.in_ok-push_from.ensures.ok ∙ ap (with_bytes c.args.values.now) out;
       whole = sym (ap length out) ∙ long ∙ sym (ap (λ (m : ℕ). m * size_of (type_of c.args.values.now)) counted);
@@ -47,22 +49,22 @@ pub returns-in_err-fetch_elements-clause-calls : goal.returns-in_err-fetch_eleme
 returns-in_err-fetch_elements-clause-calls g c =
     let grid = c.args.grid.now in
     let size : c.size-size.result ≡ size_of (type_of c.args.values.now) = c.size-size.ensures ∙ ap size_of c.xtype.ensures in
-    let counted = first_part (place_at grid.base grid.axes.items) c.args.first (grid.count - c.args.first) c.min-count.result c.size-size.result (size_of (type_of c.args.values.now)) c.args.buffer.now
-    (c.min-count.ensures ∙ ap (λ (m : ℕ). min (m - c.args.first) (length c.args.buffer.now / c.size-size.result)) c.count.ensures) c.requires.room size in
+    let counted = first_part (place_at grid.base grid.axes.items) c.args.first (grid.count - c.args.first) c.min-count.result c.size-size.result (size_of (type_of c.args.values.now))
+    (c.min-count.ensures ∙ ap (λ (m : ℕ). min (m - c.args.first) (65536 / c.size-size.result)) c.count.ensures) size in
     omega (arith, c.in_err-fetch_elements.ensures.calls, counted)
 
 pub returns-in_err-push_from-clause-calls : goal.returns-in_err-push_from-clause-calls
 returns-in_err-push_from-clause-calls g c =
     let grid = c.args.grid.now in
     let size : c.size-size.result ≡ size_of (type_of c.args.values.now) = c.size-size.ensures ∙ ap size_of c.xtype.ensures in
-    let counted = first_part (place_at grid.base grid.axes.items) c.args.first (grid.count - c.args.first) c.min-count.result c.size-size.result (size_of (type_of c.args.values.now)) c.args.buffer.now
-    (c.min-count.ensures ∙ ap (λ (m : ℕ). min (m - c.args.first) (length c.args.buffer.now / c.size-size.result)) c.count.ensures) c.requires.room size in
+    let counted = first_part (place_at grid.base grid.axes.items) c.args.first (grid.count - c.args.first) c.min-count.result c.size-size.result (size_of (type_of c.args.values.now))
+    (c.min-count.ensures ∙ ap (λ (m : ℕ). min (m - c.args.first) (65536 / c.size-size.result)) c.count.ensures) size in
     omega (arith, c.in_ok-fetch_elements.ensures.calls, counted)
 
 pub returns-clause-calls : goal.returns-clause-calls
 returns-clause-calls g c =
     let grid = c.args.grid.now in
     let size : c.size-size.result ≡ size_of (type_of c.args.values.now) = c.size-size.ensures ∙ ap size_of c.xtype.ensures in
-    let counted = first_part (place_at grid.base grid.axes.items) c.args.first (grid.count - c.args.first) c.min-count.result c.size-size.result (size_of (type_of c.args.values.now)) c.args.buffer.now
-    (c.min-count.ensures ∙ ap (λ (m : ℕ). min (m - c.args.first) (length c.args.buffer.now / c.size-size.result)) c.count.ensures) c.requires.room size in
+    let counted = first_part (place_at grid.base grid.axes.items) c.args.first (grid.count - c.args.first) c.min-count.result c.size-size.result (size_of (type_of c.args.values.now))
+    (c.min-count.ensures ∙ ap (λ (m : ℕ). min (m - c.args.first) (65536 / c.size-size.result)) c.count.ensures) size in
     omega (arith, c.in_ok-fetch_elements.ensures.calls, counted)
