@@ -80,6 +80,7 @@ impl Turn {
     ghost use Rattle.ncc_write.specs.Turns.{turn_fill};
 
     /// The bytes of a fill value.
+    #[inline(always)]
     pub(crate) fn fill(&self) -> &[u8]
         ensures fill { result.now ≡ turn_fill self.now }
         ensures some { 0 < length result.now }

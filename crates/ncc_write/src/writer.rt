@@ -240,6 +240,7 @@ impl<W: Sink> FileWriter<W> {
 
     /// Takes the next values by their bytes, as `put` takes the values: as they stand in a file, one after another,
     /// each with its most significant byte first. A copy of a slab needs no values in between.
+    #[inline(always)]
     pub fn put_bytes(&mut self, xtype: XType, bytes: &[u8]) -> Result<(), WriteFault>
         requires whole { length bytes.now % size_of xtype ≡ 0 }
         ensures answer { (start : Option (List ℕ)) (w : Standing) → Stands start (W.put (sink_in self.old)) self.old w
