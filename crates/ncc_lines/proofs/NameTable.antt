@@ -2,9 +2,7 @@
 use Rattle.std.proofs.Common.{◌≡◌, ℕ, zero, suc, ◌+◌, ◌-◌, ◌<◌, ◌≤◌, Bool, true, ◌&&◌, eqb, List, [], ◌++◌, length, take, get_or, refl, ap, sym, ◌∙◌, inl, inr, arith, length-take-le, take-take, take-add, take_at, drop_at, bytes_eq}
 use Rattle.std.proofs.lemmas.Bool.{cases_eq, eqb-true, and_parts}
 use Rattle.std.proofs.lemmas.List.{take_more, flat_map_more}
-use Rattle.std.proofs.lemmas.Slice.{take-put_mid}
 use Rattle.std.proofs.lemmas.Slice.Eq.{bytes_eq-Decides}
-use borrow.Rule.Slice.PartMut.{put_mid}
 use Rattle.ncc_lines.specs.Words.{escaped, name_text}
 use Rattle.ncc_lines.specs.declared.escapes.TheConstants.{ESCAPES, LENGTHS}
 
@@ -38,11 +36,11 @@ unfolding all_below is_entry
 entry_at b lt = from_test _ _ b (all_at (λ k. is_entry (get_or ESCAPES k []) (get_or LENGTHS k 0) k) 256 refl b lt)
 
 -- an entry is written after what was laid out, and its first n bytes count
-pub entry_laid : (room e bytes front : List ℕ) (end k n i : ℕ) → take end room ≡ front ++ name_text (take i bytes) → i < length bytes → end + 4 ≤ length room
-    → length e ≡ 4 → n ≤ 4 → take n e ≡ escaped (get_or bytes i 0) → take (end + n) (put_mid end k room e) ≡ front ++ name_text (take (i + 1) bytes)
-entry_laid room e bytes front end k n i so_far more fits four few text =
+pub entry_laid : (room laid e bytes front : List ℕ) (end n i : ℕ) → take end room ≡ front ++ name_text (take i bytes) → i < length bytes → end + 4 ≤ length room
+    → take (end + 4) laid ≡ take end room ++ e → length e ≡ 4 → n ≤ 4 → take n e ≡ escaped (get_or bytes i 0)
+    → take (end + n) laid ≡ front ++ name_text (take (i + 1) bytes)
+entry_laid room laid e bytes front end n i so_far more fits written four few text =
     let long = length-take-le end room (omega arith) in
-    let written : take (end + 4) (put_mid end k room e) ≡ take end room ++ e = take-put_mid end k room e (end + 4) (omega arith) (omega arith) in
-    sym (take-take (end + n) (end + 4) (put_mid end k room e) (omega arith)) ∙ ap (take (end + n)) written ∙ take-add end n (take end room ++ e)
+    sym (take-take (end + n) (end + 4) laid (omega arith)) ∙ ap (take (end + n)) written ∙ take-add end n (take end room ++ e)
     ∙ (λ j. take_at (take end room) e end long j ++ take n (drop_at (take end room) e end long j))
     ∙ (λ j. so_far j ++ text j) ∙ flat_map_more escaped front (take i bytes) (get_or bytes i 0) ∙ ap (λ (l : List ℕ). front ++ name_text l) (sym (take_more bytes i 0 more))

@@ -57,6 +57,19 @@ pub const FEW: usize = 32;
 /// The room that they take at most.
 const ROOM: usize = 128;
 
+/// Writes four bytes, one by one: a copy asks first whether the places overlap, which takes as long again.
+#[inline]
+fn put_four(room: &mut [u8], at: usize, four: &[u8; 4])
+    requires { at + 4 ≤ length room.old }
+    ensures len { length room.new ≡ length room.old }
+    ensures put { take (at + 4) room.new ≡ take at room.old ++ four.now }
+{
+    room[at] = four[0];
+    room[at + 1] = four[1];
+    room[at + 2] = four[2];
+    room[at + 3] = four[3];
+}
+
 /// Lays a few bytes out from `start` on, as they are printed, and tells where they end.
 fn lay_out(room: &mut [u8], start: usize, bytes: &[u8]) -> usize
     requires { start + 4 * length bytes.now ≤ length room.old }
@@ -67,7 +80,7 @@ fn lay_out(room: &mut [u8], start: usize, bytes: &[u8]) -> usize
     let mut end = start;
     for b in bytes {
         let b = *b as usize;
-        room[end..end + 4].copy_from_slice(&ESCAPES[b]);
+        put_four(room, end, &ESCAPES[b]);
         end += LENGTHS[b] as usize;
     }
     end

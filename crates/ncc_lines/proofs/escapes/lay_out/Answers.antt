@@ -1,5 +1,4 @@
 use Rattle.std.proofs.Common.{[], get_or, arith, ◌∙◌}
-use borrow.Rule.Slice.PartMut.{same_len_mid}
 use Rattle.ncc_lines.proofs.NameTable.{entry_at, entry_laid}
 use Rattle.ncc_lines.specs.declared.escapes.TheConstants.{ESCAPES, LENGTHS}
 use Rattle.ncc_lines.proofs.escapes.lay_out.Goals as goal
@@ -10,8 +9,8 @@ loop-b-preserved c =
     let byte = c.type_inv.bytes c.loop-b.b-index in
     let entry = entry_at b (omega arith) in
     record {
-      len = same_len_mid _ _ _ _ c.copy_from_slice.ensures.len ∙ c.loop-b.invariant.len;
+      len = c.put_four.ensures.len ∙ c.loop-b.invariant.len;
       within = omega (arith, entry.1.0);
-      laid = rw c.copy_from_slice.ensures.after
-          (entry_laid c.loop-b.room (get_or ESCAPES b []) c.args.bytes.now _ c.loop-b.end _ (get_or LENGTHS b 0) c.loop-b.b-index c.loop-b.invariant.laid c.loop-b-test.true (omega arith) entry.0 entry.1.0 entry.1.1);
+      laid = entry_laid c.loop-b.room _ (get_or ESCAPES b []) c.args.bytes.now _ c.loop-b.end (get_or LENGTHS b 0) c.loop-b.b-index c.loop-b.invariant.laid c.loop-b-test.true (omega arith)
+          c.put_four.ensures.put entry.0 entry.1.0 entry.1.1;
     }
