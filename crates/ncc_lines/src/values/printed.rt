@@ -7,6 +7,7 @@ ghost use Rattle.ncc_lines.specs.Words.{bits_word};
 
 use crate::escape::{push_bits, push_escaped, push_name};
 use crate::style::FloatStyle;
+use crate::values::integers::push_integers;
 use itoa::{Buffer, Integer};
 use ncc_decimal::{Text, text32, text64};
 use ncc_values::{Char, F32Bits, F64Bits};
@@ -127,6 +128,10 @@ impl Printed for i8 {
     fn print(self, _style: FloatStyle, out: &mut Vec<u8>) -> Result<(), AllocError> {
         push_integer(out, self)
     }
+
+    fn print_all(values: &[i8], _style: FloatStyle, out: &mut Vec<u8>) -> Result<(), AllocError> {
+        push_integers(out, values)
+    }
 }
 
 impl Printed for i16 {
@@ -136,6 +141,10 @@ impl Printed for i16 {
 
     fn print(self, _style: FloatStyle, out: &mut Vec<u8>) -> Result<(), AllocError> {
         push_integer(out, self)
+    }
+
+    fn print_all(values: &[i16], _style: FloatStyle, out: &mut Vec<u8>) -> Result<(), AllocError> {
+        push_integers(out, values)
     }
 }
 
@@ -147,6 +156,10 @@ impl Printed for i32 {
     fn print(self, _style: FloatStyle, out: &mut Vec<u8>) -> Result<(), AllocError> {
         push_integer(out, self)
     }
+
+    fn print_all(values: &[i32], _style: FloatStyle, out: &mut Vec<u8>) -> Result<(), AllocError> {
+        push_integers(out, values)
+    }
 }
 
 impl Printed for i64 {
@@ -156,6 +169,10 @@ impl Printed for i64 {
 
     fn print(self, _style: FloatStyle, out: &mut Vec<u8>) -> Result<(), AllocError> {
         push_integer(out, self)
+    }
+
+    fn print_all(values: &[i64], _style: FloatStyle, out: &mut Vec<u8>) -> Result<(), AllocError> {
+        push_integers(out, values)
     }
 }
 
@@ -167,6 +184,10 @@ impl Printed for u8 {
     fn print(self, _style: FloatStyle, out: &mut Vec<u8>) -> Result<(), AllocError> {
         push_integer(out, self)
     }
+
+    fn print_all(values: &[u8], _style: FloatStyle, out: &mut Vec<u8>) -> Result<(), AllocError> {
+        push_integers(out, values)
+    }
 }
 
 impl Printed for u16 {
@@ -176,6 +197,10 @@ impl Printed for u16 {
 
     fn print(self, _style: FloatStyle, out: &mut Vec<u8>) -> Result<(), AllocError> {
         push_integer(out, self)
+    }
+
+    fn print_all(values: &[u16], _style: FloatStyle, out: &mut Vec<u8>) -> Result<(), AllocError> {
+        push_integers(out, values)
     }
 }
 
@@ -187,6 +212,10 @@ impl Printed for u32 {
     fn print(self, _style: FloatStyle, out: &mut Vec<u8>) -> Result<(), AllocError> {
         push_integer(out, self)
     }
+
+    fn print_all(values: &[u32], _style: FloatStyle, out: &mut Vec<u8>) -> Result<(), AllocError> {
+        push_integers(out, values)
+    }
 }
 
 impl Printed for u64 {
@@ -196,5 +225,9 @@ impl Printed for u64 {
 
     fn print(self, _style: FloatStyle, out: &mut Vec<u8>) -> Result<(), AllocError> {
         push_integer(out, self)
+    }
+
+    fn print_all(values: &[u64], _style: FloatStyle, out: &mut Vec<u8>) -> Result<(), AllocError> {
+        push_integers(out, values)
     }
 }
