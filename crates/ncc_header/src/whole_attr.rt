@@ -1,6 +1,7 @@
 //! Taking an attribute that is whole in a piece, with nothing to mark or to refuse, at once.
 
 ghost use Rattle.std.specs.Prelude.{◌≡◌, ◌*◌, ◌%◌, ◌≤◌, ◌<◌, [], ◌∷◌, ◌++◌, length, IfSome, IfNone, IfOk, IfErr, OnOk};
+ghost use Rattle.std.specs.Vec.{vec_len, vec_capacity};
 ghost use Rattle.ncc_values.specs.Values.{no_values, values_of};
 ghost use Rattle.ncc_values.specs.XType.{size_of as bytes_each};
 ghost use Rattle.ncc_header.specs.declared.built.Named.TheVariants as named;
@@ -11,7 +12,7 @@ ghost use Rattle.ncc_header.specs.Reading.{Went, effort_of};
 
 use crate::attrs::next_attr;
 use crate::built::{Next, Owner};
-use crate::items::push_item;
+use crate::items::make_room;
 use crate::passing::{count, whole_name, with_padding, xtype};
 use crate::reading::Reading;
 use ncc_schema::Attr;
@@ -76,6 +77,40 @@ fn fill(attr: &mut Attr, found: Found<'_>) -> Result<(), AllocError>
     attr.values.push_from(found.values)
 }
 
+/// Adds an attribute of this type without name and values, where there is room.
+#[inline(always)]
+fn push_empty_of(alloc: Global, attrs: &mut Vec<Attr>, xtype: XType)
+    requires { vec_len attrs.old < vec_capacity attrs.old }
+    ensures { attrs.new.items ≡ attrs.old.items ++ record { name = []; values = no_values xtype } ∷ [] }
+{
+    attrs.push_reserved(Attr {
+        name: Name::new(alloc),
+        values: Values::new(alloc, xtype),
+    });
+}
+
+/// The same. Where the type is known before, the attribute is made in its place; else it is put together elsewhere
+/// and moved, by reads that wait for the bytes that were just stored.
+#[inline]
+fn push_empty(alloc: Global, attrs: &mut Vec<Attr>, xtype: XType)
+    requires { vec_len attrs.old < vec_capacity attrs.old }
+    ensures { attrs.new.items ≡ attrs.old.items ++ record { name = []; values = no_values xtype } ∷ [] }
+{
+    match xtype {
+        XType::Byte => push_empty_of(alloc, attrs, XType::Byte),
+        XType::Char => push_empty_of(alloc, attrs, XType::Char),
+        XType::Short => push_empty_of(alloc, attrs, XType::Short),
+        XType::Int => push_empty_of(alloc, attrs, XType::Int),
+        XType::Float => push_empty_of(alloc, attrs, XType::Float),
+        XType::Double => push_empty_of(alloc, attrs, XType::Double),
+        XType::UByte => push_empty_of(alloc, attrs, XType::UByte),
+        XType::UShort => push_empty_of(alloc, attrs, XType::UShort),
+        XType::UInt => push_empty_of(alloc, attrs, XType::UInt),
+        XType::Int64 => push_empty_of(alloc, attrs, XType::Int64),
+        XType::UInt64 => push_empty_of(alloc, attrs, XType::UInt64),
+    }
+}
+
 /// Adds the attribute that was found, which so many follow. It is made in its place: to move it costs more.
 #[inline]
 fn push_found(
@@ -91,11 +126,8 @@ fn push_found(
     } ∷ []) }
 {
     let number = attrs.len();
-    let empty = Attr {
-        name: Name::new(alloc),
-        values: Values::new(alloc, found.xtype),
-    };
-    push_item(attrs, empty, left)?;
+    make_room(attrs, left)?;
+    push_empty(alloc, attrs, found.xtype);
     fill(&mut attrs[number], found)
 }
 
