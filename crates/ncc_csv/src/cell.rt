@@ -6,7 +6,7 @@ ghost use Rattle.ncc_values.specs.declared.xtype.XType.TheVariants.{Float, Doubl
 ghost use Rattle.ncc_csv.specs.Values.{bits_text};
 
 use crate::written::{double_digits, float_digits, write_signed, write_text, write_unsigned};
-use ncc_decimal::{text32, text64};
+use ncc_decimal::{write32, write64};
 use ncc_lines::FloatStyle;
 use ncc_values::{Char, External, F32Bits, F64Bits};
 
@@ -94,7 +94,7 @@ impl Cell for F32Bits {
     fn write(self, style: FloatStyle, room: &mut [u8], end: usize) -> usize {
         match style {
             FloatStyle::Bits => write_text(&bits_of_float(self), room, end),
-            FloatStyle::Decimal => text32(self.0).write(room, end),
+            FloatStyle::Decimal => write32(self.0, room, end),
         }
     }
 }
@@ -107,7 +107,7 @@ impl Cell for F64Bits {
     fn write(self, style: FloatStyle, room: &mut [u8], end: usize) -> usize {
         match style {
             FloatStyle::Bits => write_text(&bits_of_double(self), room, end),
-            FloatStyle::Decimal => text64(self.0).write(room, end),
+            FloatStyle::Decimal => write64(self.0, room, end),
         }
     }
 }

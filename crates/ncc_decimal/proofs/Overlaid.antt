@@ -1,5 +1,5 @@
--- A list whose middle was overwritten by another.
-use Rattle.std.proofs.Common.{◌≡◌, ℕ, ◌+◌, ◌≤◌, List, ◌++◌, length, take, drop, sym, ap, ◌∙◌, arith}
+-- A list whose middle was overwritten by another, or whose end by a text.
+use Rattle.std.proofs.Common.{◌≡◌, ℕ, ◌+◌, ◌≤◌, List, ◌++◌, length, take, drop, sym, ap, ◌∙◌, length-append, length-drop, arith}
 use Rattle.std.proofs.lemmas.List.{drop-drop, drop_at, drop-append-le, length-take-le}
 use borrow.Rule.Slice.PartMut.{put_mid}
 
@@ -10,3 +10,9 @@ drop_into a k s xs ys fits long le =
     ∙ ap (drop s) (drop_at (take a xs) (ys ++ drop k (drop a xs)) a (length-take-le a xs fits))
     ∙ drop-append-le s ys (drop k (drop a xs)) (omega (arith, long, le))
     ∙ ap (λ (l : List ℕ). drop s ys ++ l) (drop-drop k a xs)
+
+-- where a text begins that stands before what was there, by where that begins
+pub written_length : (new old text : List ℕ) (first end : ℕ) → length new ≡ length old → end ≤ length old → first ≤ end → drop first new ≡ text ++ drop end old
+    → first + length text ≡ end
+written_length new old text first end long within le is =
+    omega (arith, long, within, le, ap length is, length-drop first new, length-append text (drop end old), length-drop end old)
