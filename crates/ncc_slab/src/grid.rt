@@ -30,7 +30,7 @@ fn index_along(number: u64, width: u64) -> (u64, u64)
     requires { 0 < width }
     ensures { (result.0 ≡ number / width) × (result.1 ≡ number % width) }
 {
-    // The width of the last axis, which a division would take as long for.
+    // The last axis has this width, and a division by it takes as long as any.
     if width == 1 {
         return (number, 0);
     }

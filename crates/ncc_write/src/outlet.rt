@@ -225,6 +225,7 @@ impl<W: Sink> Outlet<W> {
         if count == 0 {
             return Ok(());
         }
+        // No more than these, of 8 bytes each, end within a page.
         if count <= 8_192 && count as usize * fill.len() <= self.full - self.filled {
             return self.fill_some(fill, count as usize);
         }

@@ -8,7 +8,6 @@ ghost use Rattle.ncc_lines.specs.Words.{bits_word};
 use crate::escape::{push_bits, push_escaped, push_name};
 use crate::style::FloatStyle;
 use crate::values::integers::push_integers;
-use itoa::{Buffer, Integer};
 use ncc_decimal::{Text, text32, text64};
 use ncc_values::{Char, F32Bits, F64Bits};
 use std::alloc::AllocError;
@@ -48,16 +47,6 @@ fn copy_chars(chars: &[Char], bytes: &mut [u8])
     for (i, c) in chars.iter().enumerate() {
         bytes[i] = c.0;
     }
-}
-
-/// Adds a space and an integer.
-fn push_integer<I: Integer>(out: &mut Vec<u8>, n: I) -> Result<(), AllocError>
-    ensures { OnOk result (out.new.items ≡ out.old.items ++ (codes " " ++ I.text n)) }
-{
-    let mut buffer = Buffer::new();
-    out.extend_from_slice(b" ")?;
-    out.extend_from_slice(buffer.format(n).as_bytes())?;
-    Ok(())
 }
 
 /// Adds a space and the bits of a float.
@@ -126,7 +115,7 @@ impl Printed for i8 {
     ghost text = { λ _. signed_word };
 
     fn print(self, _style: FloatStyle, out: &mut Vec<u8>) -> Result<(), AllocError> {
-        push_integer(out, self)
+        push_integers(out, &[self])
     }
 
     fn print_all(values: &[i8], _style: FloatStyle, out: &mut Vec<u8>) -> Result<(), AllocError> {
@@ -140,7 +129,7 @@ impl Printed for i16 {
     ghost text = { λ _. signed_word };
 
     fn print(self, _style: FloatStyle, out: &mut Vec<u8>) -> Result<(), AllocError> {
-        push_integer(out, self)
+        push_integers(out, &[self])
     }
 
     fn print_all(values: &[i16], _style: FloatStyle, out: &mut Vec<u8>) -> Result<(), AllocError> {
@@ -154,7 +143,7 @@ impl Printed for i32 {
     ghost text = { λ _. signed_word };
 
     fn print(self, _style: FloatStyle, out: &mut Vec<u8>) -> Result<(), AllocError> {
-        push_integer(out, self)
+        push_integers(out, &[self])
     }
 
     fn print_all(values: &[i32], _style: FloatStyle, out: &mut Vec<u8>) -> Result<(), AllocError> {
@@ -168,7 +157,7 @@ impl Printed for i64 {
     ghost text = { λ _. signed_word };
 
     fn print(self, _style: FloatStyle, out: &mut Vec<u8>) -> Result<(), AllocError> {
-        push_integer(out, self)
+        push_integers(out, &[self])
     }
 
     fn print_all(values: &[i64], _style: FloatStyle, out: &mut Vec<u8>) -> Result<(), AllocError> {
@@ -182,7 +171,7 @@ impl Printed for u8 {
     ghost text = { λ _. unsigned_word };
 
     fn print(self, _style: FloatStyle, out: &mut Vec<u8>) -> Result<(), AllocError> {
-        push_integer(out, self)
+        push_integers(out, &[self])
     }
 
     fn print_all(values: &[u8], _style: FloatStyle, out: &mut Vec<u8>) -> Result<(), AllocError> {
@@ -196,7 +185,7 @@ impl Printed for u16 {
     ghost text = { λ _. unsigned_word };
 
     fn print(self, _style: FloatStyle, out: &mut Vec<u8>) -> Result<(), AllocError> {
-        push_integer(out, self)
+        push_integers(out, &[self])
     }
 
     fn print_all(values: &[u16], _style: FloatStyle, out: &mut Vec<u8>) -> Result<(), AllocError> {
@@ -210,7 +199,7 @@ impl Printed for u32 {
     ghost text = { λ _. unsigned_word };
 
     fn print(self, _style: FloatStyle, out: &mut Vec<u8>) -> Result<(), AllocError> {
-        push_integer(out, self)
+        push_integers(out, &[self])
     }
 
     fn print_all(values: &[u32], _style: FloatStyle, out: &mut Vec<u8>) -> Result<(), AllocError> {
@@ -224,7 +213,7 @@ impl Printed for u64 {
     ghost text = { λ _. unsigned_word };
 
     fn print(self, _style: FloatStyle, out: &mut Vec<u8>) -> Result<(), AllocError> {
-        push_integer(out, self)
+        push_integers(out, &[self])
     }
 
     fn print_all(values: &[u64], _style: FloatStyle, out: &mut Vec<u8>) -> Result<(), AllocError> {
