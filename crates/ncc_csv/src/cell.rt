@@ -34,6 +34,9 @@ pub trait Cell: Copy {
     ghost use Rattle.ncc_lines.specs.declared.style.FloatStyle.{FloatStyle};
     ghost use Rattle.ncc_csv.specs.Plain.{IsPlain};
 
+    /// The fewest rows of a run that are laid out together: with fewer, setting the room up takes longer than it saves.
+    const FEWEST: usize = 3;
+
     /// What a row shows of it.
     ghost text: { FloatStyle → Self → List ℕ };
 
@@ -144,6 +147,9 @@ impl Cell for u32 {
 
 impl Cell for i64 {
     ghost use Rattle.std.specs.Fmt.{signed_decimal};
+
+    /// Measured: up to 6 rows are sooner one by one.
+    const FEWEST: usize = 7;
 
     ghost text = { λ _. signed_decimal };
 

@@ -38,16 +38,16 @@ fn set_front(front: &mut Vec<u8>, heads: &[Word]) -> Result<(), AllocError>
     Ok(())
 }
 
-/// Writes a value and a line feed, which is the last of the room, and answers where the value starts.
-fn write_value<T: Cell>(room: &mut [u8], end: usize, value: T, style: FloatStyle) -> usize
-    requires { (24 ≤ end) × (length room.old ≡ end + 1) }
-    ensures start { result + length (T.text style value) ≡ end }
+/// Writes a value and a line feed at the end of the room, and answers where the value starts.
+fn write_value<T: Cell>(room: &mut [u8], value: T, style: FloatStyle) -> usize
+    requires { length room.old ≡ 46 }
+    ensures start { result + length (T.text style value) ≡ 45 }
     ensures written { drop result room.new ≡ T.text style value ++ 10 ∷ [] }
     ensures short { length (T.text style value) ≤ 24 }
     ensures plain { IsPlain (T.text style value) }
 {
-    room[end] = b'\n';
-    value.write(style, room, end)
+    room[ROOM - 1] = b'\n';
+    value.write(style, room, ROOM - 1)
 }
 
 /// Lays a row of a run out so that it ends at `at`, its front, the last index and the value, and answers where it starts.
@@ -119,8 +119,8 @@ fn put_some<T: Cell>(
     page.extend_from_slice(room.split_at(at).1)
 }
 
-/// Adds a row of a run whose front is long.
-fn put_long_row<T: Cell>(
+/// Adds a row of a run: its front, the last index and the value.
+fn put_row<T: Cell>(
     page: &mut Vec<u8>,
     front: &[u8],
     index: u64,
@@ -132,7 +132,7 @@ fn put_long_row<T: Cell>(
     ensures plain { IsPlain (T.text style value) }
 {
     let mut room = [0; ROOM];
-    let end = write_value(&mut room, ROOM - 1, value, style) - 1;
+    let end = write_value(&mut room, value, style) - 1;
     room[end] = b',';
     let start = write_unsigned(index, &mut room, end);
     page.extend_from_slice(front)?;
@@ -144,12 +144,46 @@ pub fn put_alone<T: Cell>(page: &mut Vec<u8>, value: T, style: FloatStyle) -> Re
     ensures { OnOk result (page.new.items ≡ page.old.items ++ row_line (T.text style value ∷ [])) }
 {
     let mut room = [0; ROOM];
-    let start = write_value(&mut room, ROOM - 1, value, style);
+    let start = write_value(&mut room, value, style);
     page.extend_from_slice(room.split_at(start).1)
 }
 
-/// Adds the rows of values along the last dimension: their last indices are `start`, `start + stride` and so on. Rows with
-/// a short front are laid out in the room, whose bytes don't matter before or after.
+/// Adds the rows of a run with a short front, up to 16 at a time. It is kept out of line: inlined, it makes runs of one
+/// row slower.
+#[inline(never)]
+fn put_together<T: Cell>(
+    page: &mut Vec<u8>,
+    room: &mut [u8],
+    front: &[u8],
+    start: u64,
+    stride: u64,
+    values: &[T],
+    style: FloatStyle,
+) -> Result<(), AllocError>
+    requires room { length room.old ≡ 1824 }
+    requires short { length front.now ≤ 64 }
+    requires fits { start + (length values.now - 1) * stride < 2 ^ 64 }
+    ensures { (heads : List (List ℕ)) → AllByRecursion IsPlain heads → front.now ≡ with_commas heads
+        → OnOk result (page.new.items
+        ≡ page.old.items ++ first_rows (run_row heads start stride (map (T.text style) values.now)) (length values.now)) }
+{
+    let mut shared = [0; FRONT];
+    let size = front.len();
+    shared[FRONT - size..].copy_from_slice(front);
+    let mut done = 0;
+    while done < values.len() {
+        let to = done + ROWS.min(values.len() - done);
+        put_some(
+            page, room, &shared, size, start, stride, values, done, to, style,
+        )?;
+        done = to;
+    }
+    Ok(())
+}
+
+/// Adds the rows of values along the last dimension: their last indices are `start`, `start + stride` and so on. Where
+/// there are fewer than `FEWEST`, or their front is long, each is added by itself; else they are laid out in the room,
+/// whose bytes don't matter before or after.
 pub fn put_run<T: Cell>(
     page: &mut Vec<u8>,
     front: &mut Vec<u8>,
@@ -167,22 +201,11 @@ pub fn put_run<T: Cell>(
         ++ first_rows (run_row (map word_text heads.now) start stride (map (T.text style) values.now)) (length values.now)) }
 {
     set_front(front, heads)?;
-    if front.len() > FRONT {
-        for k in 0..values.len() {
-            put_long_row(page, front, start + k as u64 * stride, values[k], style)?;
-        }
-        return Ok(());
+    if values.len() >= T::FEWEST && front.len() <= FRONT {
+        return put_together(page, room, front, start, stride, values, style);
     }
-    let mut shared = [0; FRONT];
-    let size = front.len();
-    shared[FRONT - size..].copy_from_slice(front);
-    let mut done = 0;
-    while done < values.len() {
-        let to = done + ROWS.min(values.len() - done);
-        put_some(
-            page, room, &shared, size, start, stride, values, done, to, style,
-        )?;
-        done = to;
+    for k in 0..values.len() {
+        put_row(page, front, start + k as u64 * stride, values[k], style)?;
     }
     Ok(())
 }

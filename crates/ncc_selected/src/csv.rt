@@ -6,6 +6,7 @@ mod fronts;
 mod helpers;
 mod named;
 mod parts;
+mod runs;
 mod sheets;
 mod texts;
 

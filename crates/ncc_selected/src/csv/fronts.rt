@@ -23,14 +23,26 @@ fn file(alloc: Global, rank: u32) -> Result<Vec<u32>, AllocError> {
     Ok(words)
 }
 
-/// The sheet of its last three values.
+/// The sheet of its values.
 fn sheet(alloc: Global, rank: u32) -> Result<String, AllocError> {
     let mut text = String::new(alloc);
     for _ in 0..rank {
         text.push_str("a,")?;
     }
     text.push_str("m\n")?;
-    for end in ["8,7\n", "9,-30000\n", "10,12\n"] {
+    for end in [
+        "0,0\n",
+        "1,0\n",
+        "2,0\n",
+        "3,0\n",
+        "4,0\n",
+        "5,0\n",
+        "6,0\n",
+        "7,0\n",
+        "8,7\n",
+        "9,-30000\n",
+        "10,12\n",
+    ] {
         for _ in 1..rank {
             text.push_str("0,")?;
         }
@@ -52,8 +64,8 @@ fn numbers(alloc: Global, rank: u32, number: u64, last: u64) -> Result<Vec<u64>,
 /// Of so many dimensions this sheet is sent.
 fn expect_rows<R: Abort + AllocGlobal>(rt: &R, rank: u32) -> Result<(), AllocError> {
     let alloc = rt.alloc();
-    let start = numbers(alloc, rank, 0, 8)?;
-    let count = numbers(alloc, rank, 1, 3)?;
+    let start = numbers(alloc, rank, 0, 0)?;
+    let count = numbers(alloc, rank, 1, 11)?;
     let stride = numbers(alloc, rank, 1, 1)?;
     let words = file(alloc, rank)?;
     let text = sheet(alloc, rank)?;
@@ -62,7 +74,7 @@ fn expect_rows<R: Abort + AllocGlobal>(rt: &R, rank: u32) -> Result<(), AllocErr
 
 #[test]
 fn rows_have_their_front_however_long(rt: HostRuntime) -> Result<(), Fail> {
-    // A front of 64 bytes is the longest that stays in the room of a row.
+    // A front of 64 bytes is the longest of rows that are laid out together.
     for rank in [1, 2, 32, 33, 34, 90] {
         expect_rows(&rt, rank)?;
     }

@@ -17,8 +17,8 @@ loop-k-preserved g c =
     let value = text c.index-values-k.result in
     let same : value ≡ get_or texts k [] = ap text c.index-values-k.is ∙ sym (get_or-map text c.args.values.now k c.index-values-k.result [] c.loop-k-test.true) in
     let rest = decimal index ++ 44 ∷ (value ++ 10 ∷ []) in
-    let line = ap (λ (t : List ℕ). t ++ rest) (c.deref.ensures.value ∙ c.in_ok-set_front.ensures)
-    ∙ sym (run_line heads index value c.requires.plain c.in_ok-put_long_row.ensures.plain)
+    let line = ap (λ (t : List ℕ). t ++ rest) (c.deref-in-loop-k.ensures.value ∙ c.in_ok-set_front.ensures)
+    ∙ sym (run_line heads index value c.requires.plain c.in_ok-put_row.ensures.plain)
     ∙ ap (λ (t : List ℕ). row_line (heads ++ decimal index ∷ t ∷ [])) same in
-    one_row_more (run_row heads c.args.start c.args.stride texts) c.args.page.now.items c.loop-k.page.items c.put_long_row.new.page.items (c.deref.result.now ++ rest) k
-    c.loop-k.invariant c.in_ok-put_long_row.ensures.row line
+    one_row_more (run_row heads c.args.start c.args.stride texts) c.args.page.now.items c.loop-k.page.items c.put_row.new.page.items (c.deref-in-loop-k.result.now ++ rest) k
+    c.loop-k.invariant c.in_ok-put_row.ensures.row line
