@@ -1,4 +1,4 @@
--- Elements that lie one after the other, by the axes of a grid.
+-- Elements at even distances, by the axes of a grid.
 use Rattle.std.proofs.Common.{◌≡◌, ℕ, suc, ◌+◌, ◌-◌, ◌*◌, ◌/◌, ◌%◌, ◌<◌, ◌≤◌, ◌⊎◌, inl, inr, ltb, Bool, true, false, List, [], ◌∷◌, length, get_or, drop, drop-cons, refl, sym, ap, subst, ◌∙◌, arith, mod-lt}
 use Rattle.std.proofs.Math.Nat.{mul_assoc, add-mul, eq-or-lt_of_le}
 use Rattle.std.proofs.lemmas.Bool.{ltb-true, ltb-false}
@@ -79,7 +79,7 @@ module _ (size : ℕ) (axes : List Axis) (k : ℕ) (lt : k < length axes) (wide 
       (subst (λ (m : ℕ). i < a.width - m → offset_at rest (m + i) ≡ offset_at rest m + i * size → offset_at (drop k axes) (n + i) ≡ offset_at (drop k axes) n + i * size)
       (sym is) (same_index n i))
 
--- after all axes but those without a gap
+-- along axes on which each element lies this far from the one before it
 pub dense_goes_on : (size : ℕ) (axes : List Axis) → IsDense size axes → (n i : ℕ) → offset_at axes (n + i) ≡ offset_at axes n + i * size
 dense_goes_on size axes dense n i = omega (arith, dense (n + i), dense n, add-mul n i size)
 

@@ -22,17 +22,18 @@ grid_rest g n = places_from g.base g.axes.items n (g.count - n)
 abbrev pub EndBy : (length size : ℕ) → Grid → Type 0
 EndBy length size g = (n : ℕ) → n < grid_count g → grid_place g n + size ≤ length
 
--- ---- elements without a gap
+-- ---- elements at even distances: `size` is that of an element, or any other distance
 
 abbrev pub axis_at : Grid → (number : ℕ) → Axis
 axis_at g k = get_or g.axes.items k no_axis
 
--- an index of this axis lies right after all elements that share the one before it; along the last axis these are one
+-- an index of this axis moves a place by the distance for each of the elements that share it; along the last axis these
+-- are one
 pub record Adjoins (size : ℕ) (g : Grid) (number : ℕ) : Type 0 where
   pub step_is : (axis_at g number).step ≡ (axis_at g number).width * size
   pub last : number + 1 ≡ length g.axes.items → (axis_at g number).width ≡ 1
 
--- along these axes each element lies right after the one before it
+-- along these axes each element lies this far from the one before it
 abbrev pub IsDense : (size : ℕ) → List Axis → Type 0
 IsDense size axes = (n : ℕ) → offset_at axes n ≡ n * size
 

@@ -78,8 +78,8 @@ impl Grid {
         }
     }
 
-    /// Does an index of this axis lie right after all that share the one before it? The last axis does only
-    /// where each element has an index of its own.
+    /// Does an index of this axis move a place by this distance for each of the elements that share it? An index of the
+    /// last axis does so only where each element has its own.
     fn adjoins(&self, axis: usize, size: u64) -> bool
         requires { axis < length self.now.axes.items }
         ensures { IsTrue result → Adjoins size self.now axis }
