@@ -76,6 +76,12 @@ expect "an empty file" 1 "fault EndsEarly at 0" "" list nothing.nc
 expect "no such file to check" 3 "" "error device" check not_there.nc
 expect "a folder to check" 3 "" "error device" check .
 expect "an empty file to check" 1 "fault EndsEarly at 0" "" check nothing.nc
+{
+  printf 'CDF\1\0\0\0\0\0\0\0\0\0\0\0\0\0\0\0\x0c\x7f\xff\xff\xff'
+  for _ in {1..34}; do printf '\0\0\0\0\0\0\0\6\0\0\0\0'; done
+} > counted.nc
+counted=$(printf 'status 1\nfault EndsEarly at 432\n')
+count "34 attributes of 2,147,483,647, in a gigabyte" "$counted" "$(ulimit -v 1000000 && seen check counted.nc)"
 expect "a header of the given limit" 0 "ok CDF-1 records 0 variables 0" "" check --max-header 32 empty.nc
 expect "a header past the given limit" 1 "fault HeaderTooLong at 28" "" check --max-header 31 empty.nc
 expect "version" 0 "ncc 0.1.0" "" --version

@@ -8,6 +8,7 @@ mod feeding;
 pub mod helpers;
 mod laws;
 mod lengths;
+mod limits;
 mod memory;
 mod names;
 mod pieces;

@@ -3,8 +3,8 @@
 use super::helpers::{records, written};
 use super::plain::end_of;
 use ncc_files::{
-    EMPTY, FIXED, FIXED_IN_CDF_2, FIXED_IN_CDF_5, LIMIT, RECORDS, TITLED, TWO_RECORD_VARIABLES,
-    bytes_of,
+    ATTRIBUTES, EMPTY, FIXED, FIXED_IN_CDF_2, FIXED_IN_CDF_5, LIMIT, RECORDS, TITLED,
+    TWO_RECORD_VARIABLES, bytes_of,
 };
 use ncc_header::{Fault, FaultKind, Header, HeaderError, decode};
 use std::alloc::{AllocError, Global};
@@ -108,6 +108,16 @@ fn cuts(rt: HostRuntime) -> Result<(), Fail> {
         60,
         &[0, 3, 4, 8, 12, 16, 20, 24, 28, 33, 36, 40, 44, 49, 52, 56],
     )?;
+    ends_early(
+        &rt,
+        &ATTRIBUTES,
+        184,
+        &[
+            0, 3, 4, 8, 12, 16, 20, 24, 28, 32, 36, 37, 40, 44, 48, 52, 56, 60, 61, 64, 68, 72, 76,
+            80, 81, 84, 88, 92, 100, 104, 105, 108, 112, 116, 120, 124, 128, 132, 133, 136, 140,
+            144, 148, 152, 156, 157, 160, 164, 168, 171, 172, 176, 180,
+        ],
+    )?;
     Ok(())
 }
 
@@ -145,6 +155,12 @@ fn fixed_changed(rt: HostRuntime) -> Result<(), Fail> {
     words_changed_agree(&rt, &FIXED, 80)?;
     words_changed_agree(&rt, &FIXED_IN_CDF_2, 84)?;
     words_changed_agree(&rt, &FIXED_IN_CDF_5, 128)?;
+    Ok(())
+}
+
+#[test]
+fn attributes_changed(rt: HostRuntime) -> Result<(), Fail> {
+    words_changed_agree(&rt, &ATTRIBUTES, 184)?;
     Ok(())
 }
 

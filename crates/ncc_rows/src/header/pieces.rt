@@ -3,8 +3,8 @@
 use super::helpers::length_of;
 use super::plain::end_of;
 use ncc_files::{
-    EMPTY, FIXED, FIXED_IN_CDF_2, FIXED_IN_CDF_5, LIMIT, RECORDS, TITLED, TWO_RECORD_VARIABLES,
-    bytes_of,
+    ATTRIBUTES, EMPTY, FIXED, FIXED_IN_CDF_2, FIXED_IN_CDF_5, LIMIT, RECORDS, TITLED,
+    TWO_RECORD_VARIABLES, bytes_of,
 };
 use ncc_header::{Decoder, FuseSource, HeaderError, ReadSource, read_header};
 use std::alloc::{AllocError, Global};
@@ -49,6 +49,7 @@ fn pieces(rt: HostRuntime) -> Result<(), Fail> {
     pieces_agree(&rt, &RECORDS)?;
     pieces_agree(&rt, &TWO_RECORD_VARIABLES)?;
     pieces_agree(&rt, &TITLED)?;
+    pieces_agree(&rt, &ATTRIBUTES)?;
     Ok(())
 }
 
