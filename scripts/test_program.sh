@@ -81,7 +81,9 @@ expect "an empty file to check" 1 "fault EndsEarly at 0" "" check nothing.nc
   for _ in {1..34}; do printf '\0\0\0\0\0\0\0\6\0\0\0\0'; done
 } > counted.nc
 counted=$(printf 'status 1\nfault EndsEarly at 432\n')
-count "34 attributes of 2,147,483,647, in a gigabyte" "$counted" "$(ulimit -v 1000000 && seen check counted.nc)"
+count "34 attributes of 2,147,483,647, in 32 megabytes" "$counted" "$(ulimit -v 32000 && seen check counted.nc)"
+rows=$(printf 'status 0\ndim,vx\n0,3\n1,1\n2,4\n3,1\n4,5\n')
+count "csv in 32 megabytes" "$rows" "$(ulimit -v 32000 && seen csv tiny.nc vx)"
 expect "a header of the given limit" 0 "ok CDF-1 records 0 variables 0" "" check --max-header 32 empty.nc
 expect "a header past the given limit" 1 "fault HeaderTooLong at 28" "" check --max-header 31 empty.nc
 expect "version" 0 "ncc 0.1.0" "" --version

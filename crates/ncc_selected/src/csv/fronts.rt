@@ -75,7 +75,7 @@ fn expect_rows<R: Abort + AllocGlobal>(rt: &R, rank: u32) -> Result<(), AllocErr
 #[test]
 fn rows_have_their_front_however_long(rt: HostRuntime) -> Result<(), Fail> {
     // A front of 64 bytes is the longest of rows that are laid out together.
-    for rank in [1, 2, 32, 33, 34, 90] {
+    for rank in [1, 2, 32, 33, 34, 90, 1024] {
         expect_rows(&rt, rank)?;
     }
     Ok(())
