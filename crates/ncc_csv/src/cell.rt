@@ -148,7 +148,7 @@ impl Cell for u32 {
 impl Cell for i64 {
     ghost use Rattle.std.specs.Fmt.{signed_decimal};
 
-    /// Measured: up to 6 rows are sooner one by one.
+    /// Of these, 3 to 6 rows together took longer than one by one at the start.
     const FEWEST: usize = 7;
 
     ghost text = { λ _. signed_decimal };
