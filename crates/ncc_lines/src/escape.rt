@@ -8,6 +8,9 @@ use crate::escapes::{FEW, has_room, push_few};
 use crate::hex::byte_digits;
 use std::alloc::AllocError;
 
+/// A name of at most so many bytes goes run by run where there is no room at its start, as into a text of its own.
+const SHORT: usize = 128;
+
 /// A hexadecimal digit, in lower case.
 pub fn digit(n: u8) -> u8
     requires { n < 16 }
@@ -89,11 +92,26 @@ fn push_run<'a>(out: &mut Vec<u8>, name: &'a [u8]) -> Result<&'a [u8], AllocErro
     Ok(after)
 }
 
+/// Adds a name run by run.
+fn push_runs(out: &mut Vec<u8>, name: &[u8]) -> Result<(), AllocError>
+    ensures { OnOk result (out.new.items ≡ out.old.items ++ name_text name.now) }
+{
+    let mut rest = push_plain(out, name)?;
+    while let Some((first, after)) = rest.split_first() {
+        push_escaped(out, *first)?;
+        rest = push_plain(out, after)?;
+    }
+    Ok(())
+}
+
 /// Adds a name: a few bytes at a time where there is room, and run by run where there is none, which asks for memory
 /// a run at a time. After a few that all print as they are the rest of their run is added at once.
 pub fn push_name(out: &mut Vec<u8>, name: &[u8]) -> Result<(), AllocError>
     ensures { OnOk result (out.new.items ≡ out.old.items ++ name_text name.now) }
 {
+    if name.len() <= SHORT && !has_room(out) {
+        return push_runs(out, name);
+    }
     let mut rest = name;
     let mut goes_on = false;
     while !rest.is_empty() {
