@@ -8,7 +8,8 @@ use crate::escapes::{FEW, has_room, push_few};
 use crate::hex::byte_digits;
 use std::alloc::AllocError;
 
-/// A name of at most so many bytes goes run by run where there is no room at its start, as into a text of its own.
+/// A name of at most so many bytes goes run by run to its end where there is no room at its start: a text that is made
+/// for a short name alone begins with none, and gets none in which a few bytes can be laid out.
 const SHORT: usize = 128;
 
 /// A hexadecimal digit, in lower case.
@@ -104,8 +105,9 @@ fn push_runs(out: &mut Vec<u8>, name: &[u8]) -> Result<(), AllocError>
     Ok(())
 }
 
-/// Adds a name: a few bytes at a time where there is room, and run by run where there is none, which asks for memory
-/// a run at a time. After a few that all print as they are the rest of their run is added at once.
+/// Adds a name: a few bytes at a time where there is room, and run by run where there is none (a short one to its
+/// end), which asks for memory a run at a time. After a few that all print as they are the rest of their run is added
+/// at once.
 pub fn push_name(out: &mut Vec<u8>, name: &[u8]) -> Result<(), AllocError>
     ensures { OnOk result (out.new.items ≡ out.old.items ++ name_text name.now) }
 {
