@@ -8,8 +8,8 @@ use crate::escapes::{FEW, has_room, push_few};
 use crate::hex::byte_digits;
 use std::alloc::AllocError;
 
-/// A name of at most so many bytes goes run by run to its end where there is no room at its start: a text that is made
-/// for a short name alone begins with none, and gets none in which a few bytes can be laid out.
+/// A name of at most so many bytes goes run by run to its end where there is no room at its start, as in a text that is
+/// made for it alone.
 const SHORT: usize = 128;
 
 /// A hexadecimal digit, in lower case.
