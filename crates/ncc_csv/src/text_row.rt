@@ -10,7 +10,7 @@ ghost use Rattle.ncc_csv.specs.TextRuns.{numbered_row};
 use crate::heads::set_heads;
 use crate::word::Word;
 use csv::{Error, Writer};
-use ncc_lines::push_name;
+use ncc_lines::push_text;
 use ncc_slab::Slab;
 use std::alloc::AllocError;
 use std::io::Write;
@@ -70,7 +70,7 @@ pub fn put_numbered_row<W: Write + Drop>(
 {
     set_heads(heads, slab, number);
     shown.clear();
-    push_name(shown, without_end_nuls(text))?;
+    push_text(shown, without_end_nuls(text))?;
     match put_text_row(w, heads, shown) {
         Ok(()) => Ok(()),
         Err(_) => Err(AllocError),

@@ -8,10 +8,6 @@ use crate::escapes::{FEW, has_room, push_few};
 use crate::hex::byte_digits;
 use std::alloc::AllocError;
 
-/// A name of at most so many bytes goes run by run to its end where there is no room at its start, as in a text that is
-/// made for it alone.
-const SHORT: usize = 128;
-
 /// A hexadecimal digit, in lower case.
 pub fn digit(n: u8) -> u8
     requires { n < 16 }
@@ -93,27 +89,11 @@ fn push_run<'a>(out: &mut Vec<u8>, name: &'a [u8]) -> Result<&'a [u8], AllocErro
     Ok(after)
 }
 
-/// Adds a name run by run.
-fn push_runs(out: &mut Vec<u8>, name: &[u8]) -> Result<(), AllocError>
-    ensures { OnOk result (out.new.items ≡ out.old.items ++ name_text name.now) }
-{
-    let mut rest = push_plain(out, name)?;
-    while let Some((first, after)) = rest.split_first() {
-        push_escaped(out, *first)?;
-        rest = push_plain(out, after)?;
-    }
-    Ok(())
-}
-
-/// Adds a name: a few bytes at a time where there is room, and run by run where there is none (a short one to its
-/// end), which asks for memory a run at a time. After a few that all print as they are the rest of their run is added
-/// at once.
+/// Adds a name: a few bytes at a time where there is room, and run by run where there is none, which asks for memory
+/// a run at a time. After a few that all print as they are the rest of their run is added at once.
 pub fn push_name(out: &mut Vec<u8>, name: &[u8]) -> Result<(), AllocError>
     ensures { OnOk result (out.new.items ≡ out.old.items ++ name_text name.now) }
 {
-    if name.len() <= SHORT && !has_room(out) {
-        return push_runs(out, name);
-    }
     let mut rest = name;
     let mut goes_on = false;
     while !rest.is_empty() {
@@ -125,6 +105,22 @@ pub fn push_name(out: &mut Vec<u8>, name: &[u8]) -> Result<(), AllocError>
             goes_on = push_few(out, piece);
             rest = after;
         }
+    }
+    Ok(())
+}
+
+/// Adds a name to a list of its own: run by run to its end where there is no room at its start, as most short names have
+/// it there, and else as `push_name` does.
+pub fn push_text(out: &mut Vec<u8>, name: &[u8]) -> Result<(), AllocError>
+    ensures { OnOk result (out.new.items ≡ out.old.items ++ name_text name.now) }
+{
+    if has_room(out) {
+        return push_name(out, name);
+    }
+    let mut rest = push_plain(out, name)?;
+    while let Some((first, after)) = rest.split_first() {
+        push_escaped(out, *first)?;
+        rest = push_plain(out, after)?;
     }
     Ok(())
 }

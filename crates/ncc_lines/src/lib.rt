@@ -16,7 +16,7 @@ mod texts;
 mod values;
 mod verdict;
 
-pub use escape::{digit, push_name};
+pub use escape::{digit, push_name, push_text};
 pub use halt::Halt;
 pub use heads::dim_name;
 pub use hex::byte_digits;
