@@ -110,7 +110,8 @@ pub fn push_name(out: &mut Vec<u8>, name: &[u8]) -> Result<(), AllocError>
 }
 
 /// Adds a name to a list of its own: run by run to its end where there is no room at its start, as most short names have
-/// it there, and else as `push_name` does.
+/// it there, and else as `push_name` does. It is kept out of line: inlined, it makes short texts slower.
+#[inline(never)]
 pub fn push_text(out: &mut Vec<u8>, name: &[u8]) -> Result<(), AllocError>
     ensures { OnOk result (out.new.items ≡ out.old.items ++ name_text name.now) }
 {
