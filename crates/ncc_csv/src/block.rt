@@ -15,7 +15,7 @@ use std::alloc::{AllocError, Global};
 
 /// Adds the rows of the elements that share all indices but the last with the element of this number, from that
 /// one on, and answers how many.
-fn put_next_run<T: Cell>(
+fn put_next_run<T: Cell, const TOGETHER: bool>(
     page: &mut Vec<u8>,
     front: &mut Vec<u8>,
     room: &mut [u8],
@@ -41,7 +41,7 @@ fn put_next_run<T: Cell>(
     set_heads(heads, slab, number / count);
     let n = values.len().min((count - at) as usize);
     let start = index_along(slab, last, at);
-    put_run(
+    put_run::<T, TOGETHER>(
         page,
         front,
         room,
@@ -55,7 +55,7 @@ fn put_next_run<T: Cell>(
 }
 
 /// Adds the rows of the elements from this number on, run by run.
-fn put_runs<T: Cell>(
+fn put_runs<T: Cell, const TOGETHER: bool>(
     alloc: Global,
     page: &mut Vec<u8>,
     heads: &mut [Word],
@@ -77,7 +77,7 @@ fn put_runs<T: Cell>(
     while done < values.len() {
         let rest = values.split_at(done).1;
         let number = first + done as u64;
-        done += put_next_run(
+        done += put_next_run::<T, TOGETHER>(
             page, &mut front, &mut room, heads, slab, number, rest, style,
         )?;
     }
@@ -103,7 +103,8 @@ fn put_scalar<T: Cell>(
     Ok(())
 }
 
-/// Adds the rows of the elements from this number on.
+/// Adds the rows of the elements from this number on. Short runs have a loop of their own: what rows together need would
+/// make each of them a little slower.
 pub fn put_rows<T: Cell>(
     alloc: Global,
     page: &mut Vec<u8>,
@@ -123,5 +124,8 @@ pub fn put_rows<T: Cell>(
     if slab.count.is_empty() {
         return put_scalar(page, slab, first, values, style);
     }
-    put_runs(alloc, page, heads, slab, first, values, style)
+    if count_along(slab, heads.len()) < T::FEWEST as u64 {
+        return put_runs::<T, false>(alloc, page, heads, slab, first, values, style);
+    }
+    put_runs::<T, true>(alloc, page, heads, slab, first, values, style)
 }

@@ -181,10 +181,10 @@ fn put_together<T: Cell>(
     Ok(())
 }
 
-/// Adds the rows of values along the last dimension: their last indices are `start`, `start + stride` and so on. Where
-/// there are fewer than `FEWEST`, or their front is long, each is added by itself; else they are laid out in the room,
-/// whose bytes don't matter before or after.
-pub fn put_run<T: Cell>(
+/// Adds the rows of values along the last dimension: their last indices are `start`, `start + stride` and so on. With
+/// `TOGETHER`, `FEWEST` of them or more with a short front are laid out in the room, whose bytes don't matter before or
+/// after; else each is added by itself.
+pub fn put_run<T: Cell, const TOGETHER: bool>(
     page: &mut Vec<u8>,
     front: &mut Vec<u8>,
     room: &mut [u8],
@@ -201,7 +201,7 @@ pub fn put_run<T: Cell>(
         ++ first_rows (run_row (map word_text heads.now) start stride (map (T.text style) values.now)) (length values.now)) }
 {
     set_front(front, heads)?;
-    if values.len() >= T::FEWEST && front.len() <= FRONT {
+    if TOGETHER && values.len() >= T::FEWEST && front.len() <= FRONT {
         return put_together(page, room, front, start, stride, values, style);
     }
     for k in 0..values.len() {
