@@ -39,6 +39,7 @@ fn set_front(front: &mut Vec<u8>, heads: &[Word]) -> Result<(), AllocError>
 }
 
 /// Writes a value and a line feed at the end of the room, and answers where the value starts.
+#[inline(always)]
 fn write_value<T: Cell>(room: &mut [u8], value: T, style: FloatStyle) -> usize
     requires { length room.old ≡ 46 }
     ensures start { result + length (T.text style value) ≡ 45 }
@@ -119,7 +120,9 @@ fn put_some<T: Cell>(
     page.extend_from_slice(room.split_at(at).1)
 }
 
-/// Adds a row of a run: its front, the last index and the value.
+/// Adds a row of a run: its front, the last index and the value. It is kept in line: a call would make runs of one row
+/// slower.
+#[inline(always)]
 fn put_row<T: Cell>(
     page: &mut Vec<u8>,
     front: &[u8],
