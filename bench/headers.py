@@ -73,13 +73,27 @@ def descending(count):
     return header([], variables), bytes(count)
 
 
+def twenty_attributes():
+    return [attribute(b"attribute_%d" % i, b"some text about it.") for i in range(20)]
+
+
+def empty_attributes(count):
+    """A header of so many attributes without a value."""
+    return header([attribute(b"attribute_%d" % i, b"") for i in range(count)], []), b""
+
+
+def one_attribute(length):
+    """A header of one text of so many bytes."""
+    return header([attribute(b"text", b"a" * length)], []), b""
+
+
 def listed_files():
-    twenty = [attribute(b"attribute_%d" % i, b"some text about it.") for i in range(20)]
+    twenty = twenty_attributes()
     return {
         "2000_variables_of_20_attributes": scalars(2000, twenty),
         "24000_variables": scalars(24000, []),
         "24000_variables_of_20_attributes": scalars(24000, twenty),
-        "one_attribute_of_60_MiB": (header([attribute(b"text", b"a" * (60 << 20))], []), b""),
+        "one_attribute_of_60_MiB": one_attribute(60 << 20),
     }
 
 
@@ -88,21 +102,23 @@ def checked_files():
     files = listed_files()
     for count in (20000, 80000):
         files[f"{count}_variables_in_descending_order"] = descending(count)
-    names = [attribute(b"attribute_%d" % i, b"") for i in range(100000)]
-    files["100000_attributes"] = (header(names, []), b"")
+    files["100000_attributes"] = empty_attributes(100000)
     return files
 
 
-def shapes():
-    """One file of each shape of header."""
-    files = checked_files()
-    names = ["24000_variables_of_20_attributes", "24000_variables", "80000_variables_in_descending_order"]
-    names += ["100000_attributes", "one_attribute_of_60_MiB"]
-    files = {name: files[name] for name in names}
-    files["24000_variables_of_rank_3"] = of_rank_3(24000)
-    files["24000_dimensions"] = (header([], [], [dimension(i, 4) for i in range(24000)]), b"")
-    files["small_file"] = scalars(3, [attribute(b"units", b"meters")])
-    return files
+def shapes(part=1):
+    """One file of each shape of header; each count is divided by `part`."""
+    some, many, names = 24000 // part, 80000 // part, 100000 // part
+    return {
+        f"{some}_variables_of_20_attributes": scalars(some, twenty_attributes()),
+        f"{some}_variables": scalars(some, []),
+        f"{many}_variables_in_descending_order": descending(many),
+        f"{names}_attributes": empty_attributes(names),
+        f"one_attribute_of_{60 // part}_MiB": one_attribute((60 << 20) // part),
+        f"{some}_variables_of_rank_3": of_rank_3(some),
+        f"{some}_dimensions": (header([], [], [dimension(i, 4) for i in range(some)]), b""),
+        "small_file": scalars(3, [attribute(b"units", b"meters")]),
+    }
 
 
 def main(which, folder):

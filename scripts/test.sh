@@ -1,7 +1,7 @@
 #!/usr/bin/env bash
 # All tests: the gate `rt ci` (every proof from nothing, the must-fail edits, the unit tests, the program's own
-# run), then the program that it built (scripts/test_program.sh), and the examples of the pages (scripts/pages.sh). The
-# last line is `N passed, M failed` of all.
+# run), then the program that it built (scripts/test_program.sh), the examples of the pages (scripts/pages.sh), and what
+# the programs take (bench/count). The last line is `N passed, M failed` of all.
 set -uo pipefail
 top=$(cd "$(dirname "$0")/.." && pwd)
 log=$(mktemp)
@@ -43,5 +43,6 @@ cd "$top" || exit 1
 part rt ci
 part scripts/test_program.sh crates/ncc_cli/out/ncc_cli
 part scripts/pages.sh crates/ncc_cli/out/ncc_cli
+part bench/count
 echo "$passed passed, $failed failed"
 [ "$status" = 0 ] && [ "$failed" = 0 ]
