@@ -136,6 +136,7 @@ while IFS='|' read -r command about options; do
     "$(grep -A 1 '^Example:$' out | tail -n 1 | grep -o "^  ncc $command ")"
   count "help of $command: its options" "$options" \
     "$(grep -oE '^ +(-h, )?--[a-z0-9-]+' out | grep -oE -- '--[a-z0-9-]+$' | paste -sd ' ')"
+  count "help of $command: its longest line" yes "$(awk 'length > most { most = length } END { print (most > 100 ? most : "yes") }' out)"
   count "help of $command: its statuses" "  2  the command line is wrong|  3  a device or memory failed" \
     "$(tail -n 2 out | paste -sd '|')"
 done <<'END'
@@ -447,7 +448,7 @@ neither "convert to a link to no file" nowhere.nc
 count "convert to a link to no file: no part is made" absent "$([ -e link.nc.part ] || echo absent)"
 expect "convert to a folder" 3 "" "error device" convert --to 2 tiny.nc .
 expect "convert into no folder" 3 "" "error device
-ncc: not_there/new.nc: no such file or folder" convert --verbose --to 2 tiny.nc not_there/new.nc
+ncc: not_there: no such file or folder" convert --verbose --to 2 tiny.nc not_there/new.nc
 expect "convert to an empty name" 3 "" "error device" convert --to 2 tiny.nc ""
 neither "convert to an empty name" ""
 
@@ -713,6 +714,16 @@ expect "a folder, told" 3 "" "error device
 ncc: .: is a folder" list --verbose .
 expect "a file in place of a folder, told" 3 "" "error device
 ncc: tiny.nc/x: no such file or folder" csv --verbose tiny.nc/x v
+ln -s circle_2.nc circle_1.nc
+ln -s circle_1.nc circle_2.nc
+expect "links in a circle, told" 3 "" "error device
+ncc: circle_1.nc: too many symbolic links" check --verbose circle_1.nc
+rm circle_1.nc circle_2.nc
+long=$(printf '%300s' '' | tr ' ' a)
+expect "too long a name, told" 3 "" "error device
+ncc: $long: the name is too long" extend --verbose "$long" 1
+"$ncc" list --verbose - > out 2> err < .
+count "a folder as standard input, told" "3 error device ncc: -: is a folder" "$? $(echo $(cat out err))"
 expect "several files, told" 3 "tiny.nc: ok CDF-1 records 0 variables 1" "not_there.nc: error device
 ncc: not_there.nc: no such file or folder" check --verbose not_there.nc tiny.nc
 expect "in brief, told" 3 "3${tab}error device${tab}not_there.nc" "ncc: not_there.nc: no such file or folder" \

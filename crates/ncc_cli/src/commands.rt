@@ -11,7 +11,8 @@ const STATUSES: &str = "Example:
   ncc check ocean.nc
 
 `ncc help COMMAND` says more of a command, and `ncc help faults` lists all faults, notes and
-refusals.
+refusals. A netCDF-4 file is an HDF5 file, and isn't read (BadMagic): `nccopy -k cdf5 IN OUT`
+makes a classic file of it.
 
 Status:
   0  it passed
@@ -27,8 +28,14 @@ Of several files each line has the path, a colon and a space before it, and the 
 worst. A FILE - is standard input, where it is the only one. A list of names has a NUL byte after
 each, as `find -print0` writes them.
 
-A header may have 67108864 bytes; a longer one is the fault HeaderTooLong. `ncc help faults`
-lists all faults.
+A header may have 67108864 bytes; a longer one is the fault HeaderTooLong.
+
+Faults (`ncc help faults` says more):
+  another kind of file   BadMagic (netCDF-4, say), BadVersion
+  cut short              EndsEarly
+  the header is wrong    NegativeCount, BadTag, BadType, TwoRecordDims, BadDimId,
+                         RecordDimNotFirst, NegativeOffset
+  too long a header      HeaderTooLong
 
 Status:
   0  listed
@@ -42,7 +49,7 @@ const CHECK_STATUSES: &str = "Example:
 
 It prints `ok`, the version, the number of records and of variables, and a line for each note:
 something unusual that a reader can live with. Of a file that doesn't pass it prints the first
-fault and its offset in bytes. `ncc help faults` lists all faults and notes.
+fault and its offset in bytes.
 
 Of several files each line has the path, a colon and a space before it, and the status is the
 worst. With --brief there is one line for each: the status, the answer and the path, with tabs
@@ -50,6 +57,18 @@ between them. A list of names has a NUL byte after each, as `find -print0` write
 
 A header may have 67108864 bytes, or as many as --max-header says; a longer one is the
 fault HeaderTooLong.
+
+Faults (`ncc help faults` says more):
+  another kind of file   BadMagic (netCDF-4, say), BadVersion
+  cut short              EndsEarly, Truncated
+  the header is wrong    NegativeCount, BadTag, BadType, TwoRecordDims, BadDimId,
+                         RecordDimNotFirst, NegativeOffset
+  too long a header      HeaderTooLong
+  places share bytes     InHeader, Overlap, RecordWindow, FixedAfterRecords
+  too large              TooLarge
+
+Notes: VsizeField, HeaderPadding, TaggedEmpty, NameRule, DuplicateName, UnalignedBegin, Order,
+LargeCount.
 
 Status:
   0  it passed
@@ -66,9 +85,11 @@ is 0 for the start, 1 for the stride, and for the count as many as fit. VAR is t
 the file, where `list` prints \\x20 for a space.
 
 The first row names the dimensions and the variable. Each other row has the indices of an
-element in the whole array, and its value; a char is the number of its byte, and a float or
+element in the whole array, and its value as it is stored: scale_factor, add_offset, missing
+values and units of time are not applied. A char is the number of its byte, and a float or
 a double is shown by its bits, or with --decimal as a number. With --text the last dimension of
-a char variable is one field: its bytes as `list` prints them, without the NULs at the end.
+a char variable is one field: its bytes as `list` prints them, without the NULs at the end. A
+netCDF-4 file isn't read (BadMagic): `nccopy -k cdf5 IN OUT` makes a classic file of it.
 
 It prints `refused NoVariable` where no variable has the name, `refused RankMismatch` where a list
 has not one number for each dimension, `refused ZeroStride K` and `refused Outside K` where a
@@ -85,8 +106,9 @@ const EXTEND_STATUSES: &str = "Example:
   ncc extend series.nc 1
 
 N records of fill values are added, each with its own syncs: whatever stops it, a file that was
-whole on the disk passes with those that were added. It prints how many records there are then. A refusal is the only line,
-and leaves the records before it. With N 0 nothing is written.
+whole on the disk passes with those that were added. A program may then write their values in
+place. It prints how many records there are. A refusal is the only line, and leaves the records
+before it. With N 0 nothing is written.
 
 It prints `refused NoRecordVariable` where no variable has records, `refused NotPacked` where the
 records don't follow one another, `refused Streaming` where the file is still being written, and
@@ -141,9 +163,7 @@ fn names_argument<'a>(alloc: Global) -> Result<Arg<'a>, AllocError> {
     Arg::new(alloc, "files-from0")
         .long("files-from0")
         .value_name("LIST")
-        .help(
-            "Takes the names of the files from LIST, each ended by a NUL byte; - is standard input",
-        )
+        .help("Takes file names from LIST, a NUL byte after each; - is standard input")
         .action(ArgAction::Set)
         .conflicts_with("FILE")
 }

@@ -3,7 +3,7 @@
 use crate::finishing::{Ended, flushed};
 use crate::limited::converted;
 use crate::new_file::NewFile;
-use crate::paths::open_store;
+use crate::paths::{folder_of, open_store};
 use crate::reasons::{Reason, Trouble};
 use ncc_engines::Answer;
 use ncc_header::WriteSink;
@@ -50,7 +50,12 @@ pub fn convert<'a, R: Files<File = File> + AllocGlobal, O: Write, P: Progress>(
     let mut sink = WriteSink::new(writer);
     let (_, answer) = converted(rt.alloc(), ahead, version, &mut target, &mut sink, progress);
     if let Some(reason) = target.reason() {
-        trouble = Trouble { name: to, reason };
+        let name = if target.in_folder() {
+            folder_of(to)
+        } else {
+            to
+        };
+        trouble = Trouble { name, reason };
     }
     let mut writer = sink.into_inner();
     Ended {

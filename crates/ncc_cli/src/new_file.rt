@@ -4,7 +4,9 @@ ghost use Rattle.std.specs.Prelude.{◌≡◌, ◌≤◌, false, None};
 ghost use Rattle.ncc_schema.specs.Sink.{write_failures};
 ghost use Rattle.ncc_values.specs.Failures.{last_count, joint_count, Rose};
 
-use crate::paths::{expect_free, link_file, make_file, remove_file, rename_file, sync_folder};
+use crate::paths::{
+    expect_free, link_file, make_file, open_folder, remove_file, rename_file, sync_folder,
+};
 use crate::reasons::{PART, Reason, reason_of};
 use crate::watched::Watched;
 use ncc_header::WriteSink;
@@ -23,6 +25,7 @@ pub struct NewFile<'a, R> {
     part: Vec<u8>,
     entries: Entries,
     reason: Option<Reason>,
+    in_folder: bool,
     failures: u64,
     ghost counted: { failures ≤ last_count },
 }
@@ -48,6 +51,7 @@ impl<'a, R: Files<File = File>> NewFile<'a, R> {
                 unlinked: false,
             },
             reason: None,
+            in_folder: false,
             failures: 0,
         })
     }
@@ -55,6 +59,11 @@ impl<'a, R: Files<File = File>> NewFile<'a, R> {
     /// Why it failed first, if it did.
     pub fn reason(&self) -> Option<Reason> {
         self.reason
+    }
+
+    /// Whether it was the folder that failed first.
+    pub fn in_folder(&self) -> bool {
+        self.in_folder
     }
 
     /// Keeps the first reason.
@@ -86,6 +95,17 @@ impl<'a, R: Files<File = File>> NewFile<'a, R> {
         self.note(Some(reason));
         count_failure(&mut self.failures);
         Device
+    }
+
+    /// A failure of the folder for this reason.
+    fn fail_folder(&mut self, reason: Reason) -> Device
+        ensures entries { self.new.entries ≡ self.old.entries }
+        ensures rose { Rose self.old.failures self.new.failures }
+    {
+        if self.reason.is_none() {
+            self.in_folder = true;
+        }
+        self.fail(reason)
     }
 }
 
@@ -132,6 +152,10 @@ impl<'a, R: Files<File = File>> Target for NewFile<'a, R> {
     }
 
     fn make_part(&mut self) -> Result<WriteSink<Watched<File>>, Device> {
+        // (it is synced at the end: what can't even be opened is found before anything is written)
+        if let Err(reason) = open_folder(self.files, self.name) {
+            return Err(self.fail_folder(reason));
+        }
         match make_file(self.files, &self.part) {
             Ok(file) => {
                 self.entries = Entries {
@@ -227,7 +251,7 @@ impl<'a, R: Files<File = File>> Target for NewFile<'a, R> {
     fn settle_folder(&mut self) -> Result<(), Device> {
         match sync_folder(self.files, self.name) {
             Ok(()) => Ok(()),
-            Err(reason) => Err(self.fail(reason)),
+            Err(reason) => Err(self.fail_folder(reason)),
         }
     }
 }

@@ -132,11 +132,16 @@ pub fn folder_of(name: &[u8]) -> &[u8] {
     }
 }
 
-/// Brings to the disk which names are in the folder of this one.
-pub fn sync_folder<R: Files<File = File>>(rt: &R, name: &[u8]) -> Result<(), Reason> {
+/// Opens the folder of a name.
+pub fn open_folder<R: Files<File = File>>(rt: &R, name: &[u8]) -> Result<File, Reason> {
     let folder = path_of(folder_of(name))?;
     match OpenOptions::new().read(true).open(rt, folder) {
-        Ok(folder) => done(folder.sync_all()),
+        Ok(folder) => Ok(folder),
         Err(error) => Err(reason_of(error.kind())),
     }
+}
+
+/// Brings to the disk which names are in the folder of this one.
+pub fn sync_folder<R: Files<File = File>>(rt: &R, name: &[u8]) -> Result<(), Reason> {
+    done(open_folder(rt, name)?.sync_all())
 }

@@ -16,6 +16,10 @@ pub enum Reason {
     PartStays,
     Full,
     ReadOnly,
+    /// Links lead to one another, or through too many.
+    Loop,
+    /// A name is longer than the system takes.
+    LongName,
     /// Another program has the lock of a file that is to be written.
     Locked,
     /// The name isn't UTF-8, which the library of the system's calls wants.
@@ -48,6 +52,8 @@ pub fn reason_of(kind: ErrorKind) -> Reason {
         ErrorKind::StorageFull => Reason::Full,
         ErrorKind::QuotaExceeded => Reason::Full,
         ErrorKind::ReadOnlyFilesystem => Reason::ReadOnly,
+        ErrorKind::FilesystemLoop => Reason::Loop,
+        ErrorKind::InvalidFilename => Reason::LongName,
         ErrorKind::BrokenPipe => Reason::Closed,
         _ => Reason::Other,
     }
@@ -64,6 +70,8 @@ fn words(reason: Reason) -> &'static str {
         Reason::PartStays => "can't be removed",
         Reason::Full => "no space left",
         Reason::ReadOnly => "read-only file system",
+        Reason::Loop => "too many symbolic links",
+        Reason::LongName => "the name is too long",
         Reason::Locked => "is being written",
         Reason::NoText => "the name isn't UTF-8",
         Reason::CutName => "no NUL byte stands after this name in the list",

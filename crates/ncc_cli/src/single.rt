@@ -4,6 +4,7 @@ use crate::finishing::{Ended, flushed};
 use crate::limited::{extended_file, listed, selected};
 use crate::paths::{open_file, open_store};
 use crate::reasons::{Reason, Trouble};
+use crate::watched::Watched;
 use ncc_csv::Pick;
 use ncc_engines::{Answer, check_engine};
 use ncc_header::{ReadSource, WriteSink};
@@ -61,7 +62,13 @@ pub fn list<'a, R: Files<File = File> + AllocGlobal, I: Read, O: Write>(
     out: &mut O,
 ) -> Ended<'a> {
     if reads_input && name == b"-".as_slice() {
-        return ended(name, list_reader(rt.alloc(), input, style, out));
+        let mut input = Watched::new(input);
+        let answer = list_reader(rt.alloc(), &mut input, style, out);
+        let reason = input.reason().unwrap_or(Reason::Other);
+        return Ended {
+            answer,
+            trouble: Some(Trouble { name, reason }),
+        };
     }
     match open_file(rt, name) {
         Ok(file) => ended(name, list_reader(rt.alloc(), file, style, out)),

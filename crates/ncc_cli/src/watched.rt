@@ -1,17 +1,17 @@
-//! A writer that remembers why it failed.
+//! A writer or reader that remembers why it failed.
 
 use crate::reasons::{Reason, reason_of};
 use std::io;
-use std::io::Write;
+use std::io::{Read, Write};
 
-/// A writer, and why it failed last.
+/// A writer or reader, and why it failed last.
 #[derive(Drop)]
 pub struct Watched<W> {
     inner: W,
     reason: Option<Reason>,
 }
 
-impl<W: Write> Watched<W> {
+impl<W> Watched<W> {
     pub fn new(inner: W) -> Watched<W> {
         Watched {
             inner,
@@ -44,6 +44,18 @@ impl<W: Write> Write for Watched<W> {
     fn flush(&mut self) -> io::Result<()> {
         match self.inner.flush() {
             Ok(()) => Ok(()),
+            Err(error) => {
+                self.reason = Some(reason_of(error.kind()));
+                Err(error)
+            }
+        }
+    }
+}
+
+impl<R: Read> Read for Watched<R> {
+    fn read(&mut self, bytes: &mut [u8]) -> io::Result<usize> {
+        match self.inner.read(bytes) {
+            Ok(n) => Ok(n),
             Err(error) => {
                 self.reason = Some(reason_of(error.kind()));
                 Err(error)
