@@ -1,22 +1,18 @@
 #!/usr/bin/env python3
 """Writes the files that bench/count has read: `counted.py FOLDER`. They are small, and alike each time."""
 
+import math
 import os
 import struct
 import sys
 
-from headers import header, listed, name, number, padded, shapes
+from headers import attribute, header, listed, name, number, shapes
 from values import big_endian, of_one_variable
 
 
 def pattern(index):
     """Numbers of 16 bits with a sign, of all sizes."""
     return index * 7919 % 65536 - 32768
-
-
-def chars(text, values):
-    """An attribute of type char."""
-    return name(text) + number(2) + number(len(values)) + padded(values)
 
 
 def integers(text, count):
@@ -27,18 +23,16 @@ def integers(text, count):
 def notes():
     """Headers of global attributes alone."""
     letters = b"".join(b"%d," % (i * 7919) for i in range(300_000))
-    yield "text", [chars(b"text", letters[:1_000_000])]
+    yield "text", [attribute(b"text", letters[:1_000_000])]
     lines = b"\n".join(letters[i : i + 63] for i in range(0, 1_000_000, 63))
-    yield "lines", [chars(b"lines", lines)]
+    yield "lines", [attribute(b"lines", lines)]
     for count, each in ((1, 16_000), (2, 12_000), (9, 5_000), (1_000, 100)):
         yield f"integers_{count}", [integers(b"list_%d" % i, count) for i in range(each)]
 
 
 def grid(code, size, shape, values):
     """A file of one variable v over dimensions of these lengths, of values of so many bytes."""
-    total = size
-    for length in shape:
-        total *= length
+    total = size * math.prod(shape)
     dimensions = [(b"dimension_%d" % i, length) for i, length in enumerate(shape)]
     return of_one_variable(0, dimensions, code, total + -total % 4, values + bytes(-total % 4))
 
