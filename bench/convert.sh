@@ -1,10 +1,12 @@
 #!/usr/bin/env bash
 # Times `ncc convert` from CDF-1 to CDF-2 and to CDF-5: of a file of 512 MiB, which are two fixed variables of 60 MiB and
 # 896 records of three variables of 64 to 256 KiB, and of one of 200,000 records of three variables of 4 to 8 bytes.
-# Beside it stand `cp`, and `nccopy` where that is installed (netcdf-bin), whose file must be the same; a sync of the
-# new file follows each of the two, as `ncc` makes one. The runs go by turns, and medians of five are told, with the peak memory. The program is the first word, or the ncc of the path: one that scripts/install.sh
-# built. TMPDIR says which disk: on one in memory syncs cost nothing. The aim is less than half of nccopy's time and less
-# than 16 MiB of memory, for the first file at most 1.1 of cp's time, and for the second 3.
+# Beside it stand `cp --reflink=never`, which reads and writes the bytes as `ncc` does; `cp`, which has the system copy them
+# where it can (copy_file_range); and `nccopy` where that is installed (netcdf-bin), whose file must be the same. A sync of
+# the new file follows each of them, as `ncc` makes one. The runs go by turns, and medians of five are told, with the peak
+# memory. The program is the first word, or the ncc of the path: one that scripts/install.sh built. TMPDIR says which disk:
+# on one in memory syncs cost nothing. The aim is less than half of nccopy's time and less than 16 MiB of memory, for the
+# first file at most 1.1 of the time of `cp --reflink=never` and 1.3 of that of `cp`, and for the second 3 of the former.
 set -euo pipefail
 ncc=${1:-ncc}
 here=$(cd "$(dirname "$0")" && pwd)
@@ -39,6 +41,9 @@ converted() {
 copied() {
     cp --reflink=never "$1" "$folder/new.nc" && sync "$folder/new.nc"
 }
+copied_inside() {
+    cp "$1" "$folder/new.nc" && sync "$folder/new.nc"
+}
 nccopied() {
     nccopy -k "$2" "$1" "$folder/new.nc" && sync "$folder/new.nc"
 }
@@ -56,7 +61,7 @@ ratio() {
 
 # Times a file into a version, which nccopy names so.
 convert() {
-    local title=$1 file=$folder/$2.nc version=$3 kind=$4 taken=() plain=() peer=() line
+    local title=$1 file=$folder/$2.nc version=$3 kind=$4 taken=() plain=() inside=() peer=() line
     rm -f "$folder/new.nc" "$folder/kept.nc"
     converted "$file" "$version" > /dev/null
     mv "$folder/new.nc" "$folder/kept.nc"
@@ -68,12 +73,14 @@ convert() {
     for _ in 1 2 3 4 5; do
         taken+=("$(anew converted "$file" "$version")")
         plain+=("$(anew copied "$file")")
+        inside+=("$(anew copied_inside "$file")")
         if command -v nccopy > /dev/null; then peer+=("$(anew nccopied "$file" "$kind")"); fi
     done
     rm -f "$folder/new.nc"
     line="$title to CDF-$version: ncc convert $(($(median "${taken[@]}") / 1000)) ms,"
     line+=" $(peak "$ncc" convert --to "$version" "$file" "$folder/new.nc") KiB"
-    line+="; cp $(($(median "${plain[@]}") / 1000)) ms, ratio $(ratio "$(median "${taken[@]}")" "$(median "${plain[@]}")")"
+    line+="; cp --reflink=never $(($(median "${plain[@]}") / 1000)) ms, ratio $(ratio "$(median "${taken[@]}")" "$(median "${plain[@]}")")"
+    line+="; cp $(($(median "${inside[@]}") / 1000)) ms, ratio $(ratio "$(median "${taken[@]}")" "$(median "${inside[@]}")")"
     if [ ${#peer[@]} -gt 0 ]; then
         rm -f "$folder/new.nc"
         line+="; nccopy $(($(median "${peer[@]}") / 1000)) ms, $(peak nccopy -k "$kind" "$file" "$folder/new.nc") KiB,"

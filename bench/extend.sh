@@ -1,8 +1,9 @@
 #!/usr/bin/env bash
 # Times `ncc extend`: 1,000 records to a file of one lone record variable, a short, and 16 records of 65,536 shorts to
 # one of 512 MiB. Beside it stands a C program that makes the same writes and syncs (extend_writes.c), by heart, and
-# without a look at the file. The program is the first word, or the ncc of the path: one that scripts/install.sh built.
-# The file must lie on a disk whose syncs are real: TMPDIR says where. The aim is at most 1.25 of the C program's time.
+# without a look at the file. The two go by turns, and the least of nine runs is told of each. The program is the first
+# word, or the ncc of the path: one that scripts/install.sh built. The file must lie on a disk whose syncs are real:
+# TMPDIR says where. The aim is at most 1.25 of the C program's time.
 set -euo pipefail
 ncc=${1:-ncc}
 here=$(cd "$(dirname "$0")" && pwd)
@@ -30,28 +31,27 @@ fresh() {
     sync "$folder/copy.nc"
 }
 
-# The least microseconds of seven runs on a fresh copy of a file.
-least_of() {
-    local file=$1 best=
+# The microseconds of a run on a fresh copy of a file.
+on_fresh() {
+    fresh "$1"
     shift
-    for _ in 1 2 3 4 5 6 7; do
-        fresh "$file"
-        best=$(lesser "$best" "$(once "$@")")
-    done
-    echo "$best"
+    once "$@"
 }
 
 # Times N records more of so many bytes, from an offset on, after so many records.
 extend() {
-    local title=$1 file=$2 more=$3 size=$4 place=$5 first=$6 taken peer
+    local title=$1 file=$2 more=$3 size=$4 place=$5 first=$6 taken= peer=
     fresh "$file"
     "$ncc" extend "$folder/copy.nc" "$more" > /dev/null
     cp --sparse=always "$folder/copy.nc" "$folder/extended.nc"
     fresh "$file"
     "$folder/extend_writes" "$folder/copy.nc" "$more" "$size" "$place" "$first" > /dev/null
     cmp "$folder/copy.nc" "$folder/extended.nc"
-    taken=$(least_of "$file" "$ncc" extend "$folder/copy.nc" "$more")
-    peer=$(least_of "$file" "$folder/extend_writes" "$folder/copy.nc" "$more" "$size" "$place" "$first")
+    for _ in 1 2 3 4 5 6 7 8 9; do
+        taken=$(lesser "$taken" "$(on_fresh "$file" "$ncc" extend "$folder/copy.nc" "$more")")
+        peer=$(lesser "$peer" \
+            "$(on_fresh "$file" "$folder/extend_writes" "$folder/copy.nc" "$more" "$size" "$place" "$first")")
+    done
     fresh "$file"
     echo "$title: ncc extend $((taken / 1000)) ms, $(peak "$ncc" extend "$folder/copy.nc" "$more") KiB; the same writes and" \
         "syncs $((peer / 1000)) ms, ratio $(awk "BEGIN { printf \"%.2f\", $taken / $peer }")"

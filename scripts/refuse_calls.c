@@ -1,6 +1,7 @@
 // Refuses calls of a run. The variable REFUSED has the number of one allocation; FAILED has a call and a number, as
-// `fsync 2`: that one fails, and no other; UNSYNCED has a number: each sync from that one on; UNLINKED, where it is
-// there, means each second name of a file, as file systems do that have none. With OVERTAKEN each call that would give a
+// `fsync 2`: that one fails, and no other, with the error of the system whose number follows (4, EINTR, in `fsync 2 4`),
+// or else with EIO; UNSYNCED has a number: each sync from that one on; UNLINKED, where it is there, means each second
+// name of a file, as file systems do that have none. With OVERTAKEN each call that would give a
 // file its second name finds that another run has made a file of that name just before, which holds "theirs". At the end of the run it writes how many
 // allocations there were onto the file that COUNTED names, and how many of the calls below onto the one that CALLS
 // names. Onto the one that TRACED names it writes each sync, link, unlink and rename as it comes, with its path.
@@ -11,18 +12,20 @@
 #include <stdio.h>
 #include <stdlib.h>
 #include <string.h>
+#include <sys/file.h>
 #include <sys/types.h>
 #include <unistd.h>
 
-enum { PWRITE, WRITE, FSYNC, LINK, UNLINK, RENAME, KINDS };
+enum { PREAD, PWRITE, WRITE, FSYNC, FLOCK, LINK, UNLINK, RENAME, KINDS };
 
-static const char *const names[KINDS] = {"pwrite", "write", "fsync", "link", "unlink", "rename"};
+static const char *const names[KINDS] = {"pread", "pwrite", "write", "fsync", "flock", "link", "unlink", "rename"};
 static long called[KINDS];
 static long allocations;
 static long refused;
 static int counts;
 static int failing = -1;
 static long failing_number;
+static int failing_error = EIO;
 static void *(*given_malloc)(size_t);
 static void *(*given_realloc)(void *, size_t);
 static int (*given_memalign)(void **, size_t, size_t);
@@ -36,8 +39,10 @@ __attribute__((constructor)) static void begin(void) {
   for (int kind = 0; failed && kind < KINDS; kind++) {
     size_t length = strlen(names[kind]);
     if (strncmp(failed, names[kind], length) || failed[length] != ' ') continue;
+    char *error;
     failing = kind;
-    failing_number = atol(failed + length);
+    failing_number = strtol(failed + length, &error, 10);
+    if (*error) failing_error = atoi(error);
   }
   given_malloc = given("malloc");
   given_realloc = given("realloc");
@@ -101,9 +106,16 @@ static int fails(int kind) {
   if (!counts) return 0;
   called[kind]++;
   if (kind != failing || called[kind] != failing_number) return 0;
-  errno = EIO;
+  errno = failing_error;
   return 1;
 }
+
+ssize_t pread(int file, void *room, size_t size, off_t place) {
+  if (fails(PREAD)) return -1;
+  return ((ssize_t (*)(int, void *, size_t, off_t))given("pread"))(file, room, size, place);
+}
+
+ssize_t pread64(int file, void *room, size_t size, off_t place) { return pread(file, room, size, place); }
 
 ssize_t pwrite(int file, const void *piece, size_t size, off_t place) {
   if (fails(PWRITE)) return -1;
@@ -125,6 +137,11 @@ int fsync(int file) {
   if (!first || called[FSYNC] < atol(first)) return ((int (*)(int))given("fsync"))(file);
   errno = EIO;
   return -1;
+}
+
+int flock(int file, int how) {
+  if (fails(FLOCK)) return -1;
+  return ((int (*)(int, int))given("flock"))(file, how);
 }
 
 // Makes the file that another run would have made.

@@ -78,6 +78,27 @@ for call in "fsync 1" "fsync 2" "fsync 3" "fsync 4" "fsync 5" "fsync 6" "fsync 7
   refused=$((refused + 1))
 done
 echo "extend: 6 writes and 7 syncs for 3 records; each of $refused calls failed once, none was made again"
+# The reason is told, of whatever call it is.
+for row in "pwrite 1 28|no space left" "pwrite 2 122|no space left" "fsync 2 28|no space left" "fsync 3 30|read-only file system" \
+    "pwrite 1 27|would be too large a file" "pwrite 1 5|can't be read or written" "pread 1 13|permission denied"; do
+  cp series.nc file.nc
+  FAILED=${row%|*} watched extend --verbose file.nc 1
+  count "extend, ${row%|*} fails: the reason" "3  error device ncc: file.nc: ${row#*|}" "$? $(cat out) $(echo $(cat err))"
+done
+# Calls that a signal interrupts (4, EINTR): a write is a failure, a sync and a read are made again.
+cp series.nc file.nc
+watched extend file.nc 1
+reads=$(called pread)
+for row in "pwrite 1|3  error device|$reads 1 1|1" "pwrite 2|3  error device|$reads 2 2|1" "fsync 1|0 records 2 |$reads 2 4|2" \
+    "fsync 3|0 records 2 |$reads 2 4|2" "pread 1|0 records 2 |$((reads + 1)) 2 3|2"; do
+  IFS='|' read -r call answer calls wanted <<< "$row"
+  cp series.nc file.nc
+  FAILED="$call 4" watched extend file.nc 1
+  count "extend, $call is interrupted" "$answer" "$? $(cat out) $(cat err)"
+  count "extend, $call is interrupted: reads, writes and syncs" "$calls" "$(called pread) $(called pwrite) $(called fsync)"
+  count "extend, $call is interrupted: records" "$wanted" "$(records file.nc)"
+done
+echo "extend: an interrupted write is a failure, an interrupted sync or read is made again"
 
 # ---- convert: its calls, and each of them failing
 
@@ -102,18 +123,21 @@ for name in new.nc sub/new.nc "$folder/sub/new.nc"; do
   rm -f "$name"
 done
 refused=0
-for call in "write 1" "fsync 1" "fsync 2"; do
+for call in "write 1" "fsync 1" "link 1" "link 1 4" "link 1 13" "link 1 28" "fsync 2"; do
   FAILED=$call watched convert --to 5 in.nc new.nc
   count "convert, $call fails" "3  error device" "$? $(cat out) $(cat err)"
   count "convert, $call fails: no file is left" "" "$(ls new.nc new.nc.part 2> /dev/null)"
   rm -f new.nc new.nc.part
   refused=$((refused + 1))
 done
-# A system without links: the name is claimed, and the whole file is renamed onto it.
-FAILED="link 1" watched convert --to 5 in.nc new.nc
-count "convert without links" "0 ok CDF-5 1" "$? $(cat out) $(called rename)"
-count "convert without links: the file" "" "$(cmp new.nc whole.nc 2>&1)$(ls new.nc.part 2> /dev/null)"
-rm -f new.nc
+# A file system without links (EPERM, EMLINK, ENOSYS, EOPNOTSUPP, and NFS's ENOTSUPP): the name is claimed, and the whole
+# file is renamed onto it.
+for error in 1 31 38 95 524; do
+  FAILED="link 1 $error" watched convert --to 5 in.nc new.nc
+  count "convert without links ($error)" "0 ok CDF-5 1" "$? $(cat out) $(called rename)"
+  count "convert without links ($error): the file" "" "$(cmp new.nc whole.nc 2>&1)$(ls new.nc.part 2> /dev/null)"
+  rm -f new.nc
+done
 echo "convert: each of $refused calls failed once, and no file was left"
 
 # ---- a full disk
@@ -121,12 +145,12 @@ echo "convert: each of $refused calls failed once, and no file was left"
 mkdir full
 if mount -t tmpfs -o size=256k tmpfs full 2> /dev/null; then
   series > full/series.nc
-  "$ncc" extend full/series.nc 100000 > out 2> err
-  count "extend on a full disk" "3  error device" "$? $(cat out) $(cat err)"
+  "$ncc" extend --verbose full/series.nc 100000 > out 2> err
+  count "extend on a full disk" "3  error device ncc: full/series.nc: no space left" "$? $(cat out) $(echo $(cat err))"
   found=$(records full/series.nc)
   count "extend on a full disk: the file passes" 1 "$((found > 1000))"
-  "$ncc" convert --to 5 full/series.nc full/new.nc > out 2> err
-  count "convert on a full disk" "3  error device" "$? $(cat out) $(cat err)"
+  "$ncc" convert --verbose --to 5 full/series.nc full/new.nc > out 2> err
+  count "convert on a full disk" "3  error device ncc: full/new.nc: no space left" "$? $(cat out) $(echo $(cat err))"
   count "convert on a full disk: no file is left" "" "$(cd full && ls new.nc new.nc.part 2> /dev/null)"
   echo "full disk: $found records stand, and no new file"
   umount full

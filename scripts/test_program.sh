@@ -116,9 +116,12 @@ wrong "error: unexpected argument '--all' found" list --all ocean.nc
 wrong "error: invalid value 'x' for '--max-header <N>': invalid digit found in string" check --max-header x ocean.nc
 wrong "error: invalid value '18446744073709551616' for '--max-header <N>': number too large to fit in target type" \
   check --max-header 18446744073709551616 ocean.nc
-wrong "error: unexpected argument '-1' found" check --max-header -1 ocean.nc
+wrong "error: invalid value '-1' for '--max-header <N>': invalid digit found in string" check --max-header -1 ocean.nc
+wrong "error: invalid value '-1' for '<N>': invalid digit found in string" extend ocean.nc -1
 wrong "error: the argument '--strict' cannot be used multiple times" check --strict --strict ocean.nc
-wrong "error: unexpected argument '-1' found" csv ocean.nc time --start -1
+wrong "error usage" csv ocean.nc time --start -1
+wrong "error usage" csv ocean.nc time --start -1,0
+wrong "error usage" csv ocean.nc time --start --count=1
 for list in --start= --start=-1 --start=+1 --count=1, --count=,1 --count=1,,2 --stride=0x1 \
   --stride=18446744073709551616; do
   wrong "error usage" csv ocean.nc time "$list"
@@ -504,6 +507,11 @@ if mount -t tmpfs -o size=64k tmpfs full 2> /dev/null; then
   expect "convert to a full disk" 3 "" "error device
 ncc: full/new.nc: no space left" convert --verbose --to 1 long.nc full/new.nc
   neither "convert to a full disk" full/new.nc
+  # Records of 3 bytes, of which the last one that is begun has room for some.
+  cp "$top/examples/lone_1.nc" full/lone.nc
+  expect "extend on a full disk" 3 "" "error device
+ncc: full/lone.nc: written only in part: no space left, or a limit was reached" extend --verbose full/lone.nc 100000
+  count "extend on a full disk: it passes" "ok CDF-1 records 21813 variables 1" "$("$ncc" check full/lone.nc)"
   umount full
 else
   echo "skipped a full disk: none can be mounted"
@@ -518,6 +526,46 @@ if cc -O1 -shared -fPIC -o refuse.so "$top/scripts/refuse_calls.c" -ldl 2> /dev/
   UNSYNCED=1 LD_PRELOAD=$folder/refuse.so "$ncc" extend unsynced.nc 1 > out 2> err
   count "extend, no sync" "3  error device" "$? $(cat out) $(cat err)"
   count "extend, no sync: the count" "$(bytes_from two.nc 4 4)" "$(bytes_from unsynced.nc 4 4)"
+  # A call that fails once isn't made again: so many writes and syncs go before it, and none after.
+  for row in "fsync 1|0 1" "fsync 2|1 2" "fsync 3|2 3" "pwrite 1|1 1" "pwrite 2|2 2"; do
+    cp two.nc unsynced.nc
+    FAILED=${row%|*} CALLS=calls LD_PRELOAD=$folder/refuse.so "$ncc" extend unsynced.nc 1 > out 2> err
+    count "extend, ${row%|*} fails once" "3  error device ${row#*|}" \
+      "$? $(cat out) $(cat err) $(sed -n 's/^pwrite //p' calls) $(sed -n 's/^fsync //p' calls)"
+  done
+  # Where the system has no lock to give (37, ENOLCK) nothing is written. A reader asks for none.
+  cp two.nc unlocked.nc
+  FAILED="flock 1 37" CALLS=calls LD_PRELOAD=$folder/refuse.so "$ncc" extend --verbose unlocked.nc 1 > out 2> err
+  count "extend, no lock" "3  error device ncc: unlocked.nc: can't be read or written 0 0" \
+    "$? $(cat out) $(echo $(cat err)) $(sed -n 's/^pwrite //p' calls) $(sed -n 's/^fsync //p' calls)"
+  count "extend, no lock: the file" "" "$(cmp two.nc unlocked.nc 2>&1)"
+  CALLS=calls LD_PRELOAD=$folder/refuse.so "$ncc" check two.nc > out 2> err
+  count "check asks for no lock" "flock 0" "$(grep '^flock' calls)"
+  # Each call that fails has its own file and reason: 13 is EACCES, 28 ENOSPC, 122 EDQUOT, 30 EROFS, 4 EINTR.
+  for row in "pread 1 13|two.nc: permission denied" "pread 2 13|two.nc: permission denied" \
+      "link 1|made.nc: can't be read or written" "link 1 4|made.nc: can't be read or written" \
+      "link 1 13|made.nc: permission denied" "link 1 28|made.nc: no space left" "fsync 1 28|made.nc: no space left" \
+      "write 1 122|made.nc: no space left" "fsync 2 30|.: read-only file system" "unlink 1 13|made.nc.part: can't be removed"; do
+    FAILED=${row%|*} LD_PRELOAD=$folder/refuse.so "$ncc" convert --verbose --to 5 two.nc made.nc > out 2> err
+    count "convert, ${row%|*} fails" "3  error device ncc: ${row#*|}" "$? $(cat out) $(echo $(cat err))"
+    rm -f made.nc.part
+    neither "convert, ${row%|*} fails" made.nc
+  done
+  for words in "check --verbose two.nc" "csv --verbose two.nc a"; do
+    FAILED="pread 1 13" LD_PRELOAD=$folder/refuse.so "$ncc" $words > out 2> err
+    count "$words, a read fails" "3  error device ncc: two.nc: permission denied" "$? $(cat out) $(echo $(cat err))"
+  done
+  FAILED="pread 1 13" LD_PRELOAD=$folder/refuse.so "$ncc" check --verbose not_there.nc two.nc tiny.nc > out 2> err
+  count "check of several files, a read fails" "3 tiny.nc: ok CDF-1 records 0 variables 1 not_there.nc: error device \
+ncc: not_there.nc: no such file or folder two.nc: error device ncc: two.nc: permission denied" "$? $(cat out) $(echo $(cat err))"
+  # The errors by which a file system says that it has no second names: EPERM, EMLINK, ENOSYS, EOPNOTSUPP, and that of NFS.
+  for error in 1 31 38 95 524; do
+    FAILED="link 1 $error" LD_PRELOAD=$folder/refuse.so "$ncc" convert --to 5 kinds_1.nc linkless_5.nc > out 2> err
+    count "convert, link fails by $error" "0 ok CDF-5 " "$? $(cat out) $(cat err)"
+    count "convert, link fails by $error: the bytes" "absent" \
+      "$(cmp linkless_5.nc kinds_5.nc 2>&1)$([ -e linkless_5.nc.part ] || echo absent)"
+    rm -f linkless_5.nc
+  done
   UNSYNCED=1 LD_PRELOAD=$folder/refuse.so "$ncc" convert --to 5 kinds_1.nc unsynced_5.nc > out 2> err
   count "convert, no sync" "3  error device" "$? $(cat out) $(cat err)"
   neither "convert, no sync" unsynced_5.nc
@@ -713,7 +761,7 @@ ncc: not_there.nc: no such file or folder" check --verbose not_there.nc
 expect "a folder, told" 3 "" "error device
 ncc: .: is a folder" list --verbose .
 expect "a file in place of a folder, told" 3 "" "error device
-ncc: tiny.nc/x: no such file or folder" csv --verbose tiny.nc/x v
+ncc: tiny.nc/x: a file stands in the path where a folder should" csv --verbose tiny.nc/x v
 ln -s circle_2.nc circle_1.nc
 ln -s circle_1.nc circle_2.nc
 expect "links in a circle, told" 3 "" "error device
@@ -721,7 +769,7 @@ ncc: circle_1.nc: too many symbolic links" check --verbose circle_1.nc
 rm circle_1.nc circle_2.nc
 long=$(printf '%300s' '' | tr ' ' a)
 expect "too long a name, told" 3 "" "error device
-ncc: $long: the name is too long" extend --verbose "$long" 1
+ncc: ${long:0:200}...: the name is too long" extend --verbose "$long" 1
 "$ncc" list --verbose - > out 2> err < .
 count "a folder as standard input, told" "3 error device ncc: -: is a folder" "$? $(echo $(cat out err))"
 expect "several files, told" 3 "tiny.nc: ok CDF-1 records 0 variables 1" "not_there.nc: error device
@@ -731,7 +779,12 @@ expect "in brief, told" 3 "3${tab}error device${tab}not_there.nc" "ncc: not_ther
 expect "an OUT that is there, told" 3 "" "error device
 ncc: floats.nc: exists already" convert --verbose --to 2 tiny.nc floats.nc
 expect "a list of numbers, told" 2 "" "error usage
-ncc: --start: '1,,2' is no list of numbers" csv --verbose tiny.nc vx --start 1,,2
+ncc: --start: '1,,2' is no list of numbers, each at most 18446744073709551615" csv --verbose tiny.nc vx --start 1,,2
+expect "too large a number in a list, told" 2 "" "error usage
+ncc: --count: '18446744073709551616' is no list of numbers, each at most 18446744073709551615" \
+  csv --verbose tiny.nc vx --count 18446744073709551616
+expect "a number below 0 in a list, told" 2 "" "error usage
+ncc: --stride: '-1' is no list of numbers, each at most 18446744073709551615" csv --verbose tiny.nc vx --stride -1
 expect "a list of names, told" 3 "" "error device
 ncc: not_there: no such file or folder" list --verbose --files-from0 not_there
 expect "a file that passes, told" 0 "ok CDF-1 records 0 variables 1" "" check --verbose tiny.nc
@@ -743,7 +796,7 @@ if [ "$(stat -c %s "$unread" 2> /dev/null)" = 4096 ]; then
   expect "a file that isn't read, told" 3 "" "not_there.nc: error device
 ncc: not_there.nc: no such file or folder
 $unread: error device
-ncc: $unread: can't be read or written" check --verbose not_there.nc "$unread"
+ncc: $unread: ends before its length" check --verbose not_there.nc "$unread"
 else
   echo "skipped a file that can be opened and not read: $unread isn't there"
 fi
@@ -759,11 +812,69 @@ print(run.returncode, shown.decode().split("\r\n"))
 END
 count "a terminal is told why" "3 ['error device', 'ncc: not_there.nc: no such file or folder', '']" \
   "$(python3 errors.py "$ncc" check not_there.nc)"
+# A run over 100,000 files that is stopped for a while: a terminal is told how many are done, and where it is the output
+# too each line stands on its own, with nothing of that after it. (The line is shorter than what is told.)
+cat > files.py <<'END'
+import os, pty, re, signal, subprocess, sys, time
+
+terminal, told = pty.openpty()
+output = told if sys.argv[1] == "both" else subprocess.DEVNULL
+run = subprocess.Popen(sys.argv[2:], stdin=subprocess.DEVNULL, stdout=output, stderr=told)
+os.close(told)
+time.sleep(0.1)
+run.send_signal(signal.SIGSTOP)
+time.sleep(1.5)
+run.send_signal(signal.SIGCONT)
+shown = b""
+while True:
+    try:
+        shown += os.read(terminal, 65536)
+    except OSError:  # (nobody has the other end any more)
+        break
+lines, line, column = [], "", 0
+for part in re.findall(r"\r|\n|\x1b\[K|[^\r\n\x1b]+|\x1b", shown.decode()):
+    if part == "\r":
+        column = 0
+    elif part == "\n":
+        lines.append(line)
+        line = ""
+    elif part == "\x1b[K":
+        line = line[:column]
+    else:
+        line = line[:column] + part + line[column + len(part):]
+        column += len(part)
+told = "files" if re.search(rb"\r\d+ of 100000 files\r", shown) else "nothing"
+print(run.wait(), len(lines), *sorted(set(lines)), told, repr(line))
+END
+printf XXXX > f
+python3 -c 'print(end="f\0" * 100000)' > names
+count "a terminal is told how many files are done" "1 0 files ''" "$(python3 files.py err "$ncc" check --files-from0 names)"
+count "lines in brief and how many files are done, on one terminal" "1 100000 1${tab}fault BadMagic at 0${tab}f files ''" \
+  "$(python3 files.py both "$ncc" check --brief --files-from0 names)"
+count "lines and how many files are done, on one terminal" \
+  "1 100000 f: fault BadMagic at 0 files ''" "$(python3 files.py both "$ncc" check --files-from0 names)"
 printf 'tiny.nc' > cut_list
 expect "a list without its last NUL byte, told" 3 "" "error device
 ncc: tiny.nc: no NUL byte stands after this name in the list" check --verbose --files-from0 cut_list
 expect "a list without its last NUL byte, in brief" 3 "3${tab}error device${tab}tiny.nc" "" \
   check --brief --files-from0 cut_list
+# A list with line feeds between its names: it is one name, which is shown on one line, and cut after 200 bytes.
+printf 'tiny.nc\nfloats.nc\n' > lines_list
+expect "a list with line feeds, told" 3 "" "error device
+ncc: tiny.nc\x0afloats.nc\x0a: no NUL byte stands after this name in the list" check --verbose --files-from0 lines_list
+long=$(printf '%199s' '' | tr ' ' a)
+expect "a long name, told" 3 "" "error device
+ncc: $long...: no such file or folder" check --verbose "${long}é/b"
+expect "a long name that is cut in a sign of four bytes, told" 3 "" "error device
+ncc: ${long:2}...: no such file or folder" check --verbose "${long:2}😀/b"
+expect "a long name that is cut in a sign of three bytes, told" 3 "" "error device
+ncc: ${long:1}...: no such file or folder" check --verbose "${long:1}€/b"
+expect "a name with a backslash, told" 3 "" "error device
+ncc: a\x5cb: no such file or folder" check --verbose 'a\b'
+expect "a name of 200 bytes, told" 3 "" "error device
+ncc: ${long}a: no such file or folder" check --verbose "${long}a"
+expect "a name with a tab and a byte 127, in brief" 3 "3${tab}error device${tab}a${tab}b$(printf '\177')" \
+  "ncc: a\x09b\x7f: no such file or folder" check --brief --verbose "a${tab}b$(printf '\177')"
 mkfifo pipe
 expect "a pipe" 3 "" "error device
 ncc: pipe: is a pipe or device, not a file" check --verbose pipe

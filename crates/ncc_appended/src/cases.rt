@@ -40,7 +40,7 @@ pub const SHORTS: Case = Case {
 
 /// The same, with bytes after the records.
 pub const LONGER: Case = Case {
-    name: "bytes behind the records",
+    name: "bytes after the records",
     file: File {
         words: &RECORDS,
         changes: &[],

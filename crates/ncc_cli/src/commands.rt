@@ -12,7 +12,7 @@ const STATUSES: &str = "Example:
 
 `ncc help COMMAND` says more of a command, and `ncc help faults` lists all faults, notes and
 refusals. A netCDF-4 file is an HDF5 file, and isn't read (BadMagic): `nccopy -k cdf5 IN OUT`
-makes a classic file of it.
+makes a classic file of it where it can.
 
 Status:
   0  it passed
@@ -89,7 +89,8 @@ element in the whole array, and its value as it is stored: scale_factor, add_off
 values and units of time are not applied. A char is the number of its byte, and a float or
 a double is shown by its bits, or with --decimal as a number. With --text the last dimension of
 a char variable is one field: its bytes as `list` prints them, without the NULs at the end. A
-netCDF-4 file isn't read (BadMagic): `nccopy -k cdf5 IN OUT` makes a classic file of it.
+netCDF-4 file isn't read (BadMagic): `nccopy -k cdf5 IN OUT` makes a classic file of it where
+it can.
 
 It prints `refused NoVariable` where no variable has the name, `refused RankMismatch` where a list
 has not one number for each dimension, `refused ZeroStride K` and `refused Outside K` where a
@@ -212,6 +213,7 @@ fn check_command<'a>(alloc: Global) -> Result<Command<'a>, AllocError> {
         .value_name("N")
         .help("How many bytes a header may have")
         .value_parser(value_parser!(u64))
+        .allow_negative_numbers(true)
         .action(ArgAction::Set);
     Command::new(alloc, "check")
         .about("Says whether files are sound, and what is unusual in them")
@@ -230,6 +232,7 @@ fn list_argument<'a>(alloc: Global, name: &'a str, help: &'a str) -> Arg<'a> {
         .long(name)
         .value_name("A")
         .help(help)
+        .allow_hyphen_values(true)
         .action(ArgAction::Set)
 }
 
@@ -260,6 +263,7 @@ fn extend_command<'a>(alloc: Global) -> Result<Command<'a>, AllocError> {
         .help("How many records")
         .required(true)
         .value_parser(value_parser!(u64))
+        .allow_negative_numbers(true)
         .action(ArgAction::Set);
     Command::new(alloc, "extend")
         .about("Adds records of fill values to a file")

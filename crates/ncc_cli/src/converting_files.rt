@@ -4,7 +4,7 @@ use crate::finishing::{Ended, flushed};
 use crate::limited::converted;
 use crate::new_file::NewFile;
 use crate::paths::{folder_of, open_store};
-use crate::reasons::{Reason, Trouble};
+use crate::reasons::{Reason, Trouble, reason_in};
 use ncc_engines::Answer;
 use ncc_header::WriteSink;
 use ncc_lines::Progress;
@@ -48,7 +48,8 @@ pub fn convert<'a, R: Files<File = File> + AllocGlobal, O: Write, P: Progress>(
         };
     };
     let mut sink = WriteSink::new(writer);
-    let (_, answer) = converted(rt.alloc(), ahead, version, &mut target, &mut sink, progress);
+    let (ahead, answer) = converted(rt.alloc(), ahead, version, &mut target, &mut sink, progress);
+    trouble.reason = reason_in(&ahead.into_inner());
     if let Some(reason) = target.reason() {
         let name = if target.in_folder() {
             folder_of(to)

@@ -7,7 +7,7 @@ ghost use Rattle.ncc_values.specs.Failures.{last_count};
 use crate::finishing::finish;
 use crate::paths::open_store;
 use crate::progress::ProgressLine;
-use crate::reasons::{Reason, Trouble, tell_trouble};
+use crate::reasons::{Reason, Trouble, reason_in, tell_trouble};
 use ncc_batch::Shelf;
 use ncc_engines::Answer;
 use ncc_lines::Progress;
@@ -111,18 +111,20 @@ impl<'a, R: Files<File = File> + Clock, E: Write> Shelf for Folder<'a, R, E> {
         }
     }
 
-    fn close(&mut self, _opened: FileStore, failed: bool) {
+    fn close(&mut self, opened: FileStore, failed: bool) {
         if failed {
+            self.reason = reason_in(&opened);
             count_failure(&mut self.failures);
         }
     }
 
     fn tell(&mut self, path: &[u8], answer: Answer) {
+        // (the answer follows, which may go to the same terminal)
+        let err = self.line.other();
         let failed = answer == Answer::Device;
         if !failed && answer != Answer::Memory {
             return;
         }
-        let err = self.line.other();
         if self.telling.failures {
             let _ = err.write_all(path);
             let _ = err.write_all(b": ");

@@ -13,6 +13,7 @@ use ncc_header::WriteSink;
 use ncc_values::Seq;
 use std::alloc::{AllocError, AllocFailed, Global};
 use std::fs::File;
+use std::io;
 use std::io::{BufWriter, ErrorKind, Read, Write};
 use std::rt::{Clock, Files};
 
@@ -84,6 +85,15 @@ pub fn names_given<'a, R: Files<File = File> + AllocGlobal, I: Read>(
     })
 }
 
+/// A buffer before the output, or none that holds anything where all is to go out at once.
+fn buffer_of<O: Write>(alloc: Global, out: &mut O, at_once: bool) -> io::Result<BufWriter<&mut O>> {
+    if at_once {
+        BufWriter::with_capacity(alloc, 0, out)
+    } else {
+        BufWriter::new(alloc, out)
+    }
+}
+
 /// Shows what is asked of these files, one after the other, and says whether all that failed was told.
 pub fn answer_many<R: Files<File = File> + Clock + AllocGlobal, O: Write, E: Write>(
     rt: &R,
@@ -94,7 +104,7 @@ pub fn answer_many<R: Files<File = File> + Clock + AllocGlobal, O: Write, E: Wri
     out: &mut O,
     err: &mut E,
 ) -> (Answer, bool) {
-    let Ok(writer) = BufWriter::new(rt.alloc(), out) else {
+    let Ok(writer) = buffer_of(rt.alloc(), out, shown.at_once) else {
         return (Answer::Memory, false);
     };
     let mut sink = WriteSink::new(writer);

@@ -187,17 +187,17 @@ impl<'a, R: Files<File = File>> Target for NewFile<'a, R> {
 
     fn link(&mut self) -> Linked {
         match link_file(self.files, &self.part, self.name) {
-            Ok(()) => {
+            Ok(true) => {
                 self.entries.name = Entry::Made;
                 Linked::Done
             }
-            Err(Reason::Exists) => {
-                self.fail(Reason::Exists);
-                Linked::Exists
-            }
-            Err(_) => {
+            Ok(false) => {
                 self.entries.unlinked = true;
                 Linked::Refused
+            }
+            Err(reason) => {
+                self.fail(reason);
+                Linked::Failed
             }
         }
     }

@@ -108,9 +108,20 @@ fn done(called: io::Result<()>) -> Result<(), Reason> {
     }
 }
 
-/// Gives a file another name too, which nothing has.
-pub fn link_file<R: Files<File = File>>(rt: &R, from: &[u8], to: &[u8]) -> Result<(), Reason> {
-    done(fs::hard_link(rt, path_of(from)?, path_of(to)?))
+/// The errors of the system by which it says that a file system has no second names: EPERM, EMLINK, ENOSYS, EOPNOTSUPP,
+/// and the ENOTSUPP of NFS.
+const LINKLESS: [i32; 5] = [1, 31, 38, 95, 524];
+
+/// Gives a file another name too, which nothing has, and says whether it could: false where the file system has no
+/// second names.
+pub fn link_file<R: Files<File = File>>(rt: &R, from: &[u8], to: &[u8]) -> Result<bool, Reason> {
+    match fs::hard_link(rt, path_of(from)?, path_of(to)?) {
+        Ok(()) => Ok(true),
+        Err(error) => match error.raw_os_error() {
+            Some(code) if LINKLESS.contains(&code) => Ok(false),
+            _ => Err(reason_of(error.kind())),
+        },
+    }
 }
 
 /// Gives a file another name, in place of the file that has it.

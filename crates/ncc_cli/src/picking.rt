@@ -8,6 +8,7 @@ ghost use Rattle.ncc_cli.specs.Status.{status_of_words};
 ghost use Rattle.ncc_cli.specs.declared.picking.WordFault.TheVariants.{Memory, NoList};
 
 use crate::finishing::{USAGE, finish};
+use crate::reasons::tell_name;
 use clap::ArgMatches;
 use ncc_csv::{Pick, parse_list};
 use ncc_engines::Answer;
@@ -87,8 +88,11 @@ fn tell_list<E: Write>(option: ListOption, words: &ArgMatches, err: &mut E) {
     let _ = err.write_all(b"ncc: --");
     let _ = err.write_all(option_name(option).as_bytes());
     let _ = err.write_all(b": '");
-    let _ = err.write_all(words.get_str(option_name(option)).unwrap_or("").as_bytes());
-    let _ = err.write_all(b"' is no list of numbers\n");
+    tell_name(
+        words.get_str(option_name(option)).unwrap_or("").as_bytes(),
+        err,
+    );
+    let _ = err.write_all(b"' is no list of numbers, each at most 18446744073709551615\n");
 }
 
 /// Says on `err` that the words aren't taken, and with `told` which, as far as that can be written, and gives the

@@ -27,6 +27,8 @@ pub struct Shown {
     pub progress: bool,
     /// Why something failed.
     pub reasons: bool,
+    /// Whether each answer of several files goes out at once, since the output is a terminal that shows the progress too.
+    pub at_once: bool,
 }
 
 /// What is done of what there is in all, on a line of a terminal that is written anew from time to time and goes in

@@ -167,8 +167,9 @@ fn run_command<'a, R: Files<File = File> + Clock + AllocGlobal, I: Read, O: Writ
     ensures { result ≤ 3 }
 {
     let shown = Shown {
-        progress: terminals.err && (!terminals.out || command == "convert"),
+        progress: terminals.err && (!terminals.out || command != "csv"),
         reasons: terminals.err || words.get_flag("verbose"),
+        at_once: terminals.err && terminals.out,
     };
     let Ended { answer, trouble } = match command {
         "convert" => convert_given(rt, line, words, out, err, shown),

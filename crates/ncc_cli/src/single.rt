@@ -3,7 +3,7 @@
 use crate::finishing::{Ended, flushed};
 use crate::limited::{extended_file, listed, selected};
 use crate::paths::{open_file, open_store};
-use crate::reasons::{Reason, Trouble};
+use crate::reasons::{Reason, Trouble, reason_in};
 use crate::watched::Watched;
 use ncc_csv::Pick;
 use ncc_engines::{Answer, check_engine};
@@ -15,17 +15,8 @@ use std::fs::File;
 use std::io::{BufReader, BufWriter, Read, Write};
 use std::rt::{Clock, Files};
 
-/// A file that can't be opened.
-fn unopened(name: &[u8], reason: Reason) -> Ended<'_> {
-    Ended {
-        answer: Answer::Device,
-        trouble: Some(Trouble { name, reason }),
-    }
-}
-
-/// An answer of a file that was open.
-fn ended(name: &[u8], answer: Answer) -> Ended<'_> {
-    let reason = Reason::Other;
+/// An answer of a file, and why a call of it failed.
+fn ended(name: &[u8], answer: Answer, reason: Reason) -> Ended<'_> {
     Ended {
         answer,
         trouble: Some(Trouble { name, reason }),
@@ -52,6 +43,19 @@ fn list_reader<I: Read + Drop, O: Write>(
     flushed(&mut writer, answer)
 }
 
+/// Lists the header at the front of a reader that has this name.
+fn list_watched<'a, I: Read, O: Write>(
+    alloc: Global,
+    name: &'a [u8],
+    input: &mut I,
+    style: FloatStyle,
+    out: &mut O,
+) -> Ended<'a> {
+    let mut input = Watched::new(input);
+    let answer = list_reader(alloc, &mut input, style, out);
+    ended(name, answer, input.reason().unwrap_or(Reason::Other))
+}
+
 /// Lists the header of a file, or with `reads_input` of standard input where it is named `-`.
 pub fn list<'a, R: Files<File = File> + AllocGlobal, I: Read, O: Write>(
     rt: &R,
@@ -62,17 +66,11 @@ pub fn list<'a, R: Files<File = File> + AllocGlobal, I: Read, O: Write>(
     out: &mut O,
 ) -> Ended<'a> {
     if reads_input && name == b"-".as_slice() {
-        let mut input = Watched::new(input);
-        let answer = list_reader(rt.alloc(), &mut input, style, out);
-        let reason = input.reason().unwrap_or(Reason::Other);
-        return Ended {
-            answer,
-            trouble: Some(Trouble { name, reason }),
-        };
+        return list_watched(rt.alloc(), name, input, style, out);
     }
     match open_file(rt, name) {
-        Ok(file) => ended(name, list_reader(rt.alloc(), file, style, out)),
-        Err(reason) => unopened(name, reason),
+        Ok(mut file) => list_watched(rt.alloc(), name, &mut file, style, out),
+        Err(reason) => ended(name, Answer::Device, reason),
     }
 }
 
@@ -86,15 +84,15 @@ pub fn check<'a, R: Files<File = File> + AllocGlobal, O: Write>(
 ) -> Ended<'a> {
     let mut store = match open_store(rt, name, false) {
         Ok(store) => store,
-        Err(reason) => return unopened(name, reason),
+        Err(reason) => return ended(name, Answer::Device, reason),
     };
     let Ok(writer) = BufWriter::new(rt.alloc(), out) else {
-        return ended(name, Answer::Memory);
+        return ended(name, Answer::Memory, Reason::Other);
     };
     let mut sink = WriteSink::new(writer);
     let answer = check_engine(rt.alloc(), &mut store, limit, strict, &mut sink);
     let mut writer = sink.into_inner();
-    ended(name, flushed(&mut writer, answer))
+    ended(name, flushed(&mut writer, answer), reason_in(&store))
 }
 
 /// Prints what is picked of a variable of a file.
@@ -110,16 +108,16 @@ pub fn select<'a, R: Files<File = File> + AllocGlobal, O: Write, P: Progress>(
 ) -> Ended<'a> {
     let store = match open_store(rt, name, false) {
         Ok(store) => store,
-        Err(reason) => return unopened(name, reason),
+        Err(reason) => return ended(name, Answer::Device, reason),
     };
     let Ok(writer) = BufWriter::new(rt.alloc(), out) else {
-        return ended(name, Answer::Memory);
+        return ended(name, Answer::Memory, Reason::Other);
     };
     let Ok(ahead) = AheadStore::new(rt.alloc(), store) else {
-        return ended(name, Answer::Memory);
+        return ended(name, Answer::Memory, Reason::Other);
     };
     let mut sink = WriteSink::new(writer);
-    let (_, answer) = selected(
+    let (ahead, answer) = selected(
         rt.alloc(),
         ahead,
         variable,
@@ -130,7 +128,11 @@ pub fn select<'a, R: Files<File = File> + AllocGlobal, O: Write, P: Progress>(
         progress,
     );
     let mut writer = sink.into_inner();
-    ended(name, flushed(&mut writer, answer))
+    ended(
+        name,
+        flushed(&mut writer, answer),
+        reason_in(&ahead.into_inner()),
+    )
 }
 
 /// Adds records of fill values to a file.
@@ -142,14 +144,14 @@ pub fn extend<'a, R: Files<File = File> + AllocGlobal, O: Write>(
 ) -> Ended<'a> {
     let store = match open_store(rt, name, more > 0) {
         Ok(store) => store,
-        Err(reason) => return unopened(name, reason),
+        Err(reason) => return ended(name, Answer::Device, reason),
     };
     let Ok(writer) = BufWriter::new(rt.alloc(), out) else {
-        return ended(name, Answer::Memory);
+        return ended(name, Answer::Memory, Reason::Other);
     };
     let mut sink = WriteSink::new(writer);
     // (the store keeps the lock until the line is out)
-    let (_store, answer) = extended_file(rt.alloc(), store, more, &mut sink);
+    let (store, answer) = extended_file(rt.alloc(), store, more, &mut sink);
     let mut writer = sink.into_inner();
-    ended(name, flushed(&mut writer, answer))
+    ended(name, flushed(&mut writer, answer), reason_in(&store))
 }

@@ -14,7 +14,7 @@ use ncc_slab::Slab;
 use std::alloc::{AllocError, Global};
 
 /// Adds the rows of the elements that share all indices but the last with the element of this number, from that
-/// one on, and answers how many.
+/// one on, and answers how many. `TOGETHER` is as in `put_run`.
 fn put_next_run<T: Cell, const TOGETHER: bool>(
     page: &mut Vec<u8>,
     front: &mut Vec<u8>,
@@ -54,7 +54,7 @@ fn put_next_run<T: Cell, const TOGETHER: bool>(
     Ok(n)
 }
 
-/// Adds the rows of the elements from this number on, run by run.
+/// Adds the rows of the elements from this number on, run by run. `TOGETHER` is as in `put_run`.
 fn put_runs<T: Cell, const TOGETHER: bool>(
     alloc: Global,
     page: &mut Vec<u8>,

@@ -151,8 +151,8 @@ pub fn put_alone<T: Cell>(page: &mut Vec<u8>, value: T, style: FloatStyle) -> Re
     page.extend_from_slice(room.split_at(start).1)
 }
 
-/// Adds the rows of a run with a short front, up to 16 at a time. It is kept out of line: inlined, it makes runs of one
-/// row slower.
+/// Adds the rows of a run with a short front, up to 16 at a time. It is kept out of line, as it was when one loop served
+/// short runs too: inlined there, it made runs of one row slower.
 #[inline(never)]
 fn put_together<T: Cell>(
     page: &mut Vec<u8>,

@@ -16,7 +16,7 @@ const ATTRIBUTE: u128 = 12;
 const VARIABLE: u128 = 28;
 
 /// The bytes after the dimension that has begun: two lists follow those that are left.
-fn behind_dim(lists: &Lists) -> u128
+fn bytes_after_dim(lists: &Lists) -> u128
     ensures value { result ≡ rest_of_dims lists.now }
     ensures fits { result < 2 ^ 70 }
 {
@@ -24,7 +24,7 @@ fn behind_dim(lists: &Lists) -> u128
 }
 
 /// The bytes after the variable that has begun.
-fn behind_var(lists: &Lists) -> u128
+fn bytes_after_var(lists: &Lists) -> u128
     ensures value { result ≡ rest_of_vars lists.now }
     ensures fits { result < 2 ^ 70 }
 {
@@ -32,33 +32,33 @@ fn behind_var(lists: &Lists) -> u128
 }
 
 /// The bytes after a list of attributes: a list of variables, or a type, a size and an offset.
-fn behind_attrs(owner: Owner, lists: &Lists) -> u128
+fn bytes_after_attrs(owner: Owner, lists: &Lists) -> u128
     ensures value { result ≡ rest_of_owner owner lists.now }
     ensures fits { result < 2 ^ 71 }
 {
     match owner {
         Owner::File => 8,
-        Owner::Variable => 12 + behind_var(lists),
+        Owner::Variable => 12 + bytes_after_var(lists),
     }
 }
 
 /// The bytes after the attribute that has begun.
-fn behind_attr(owner: Owner, lists: &Lists) -> u128
+fn bytes_after_attr(owner: Owner, lists: &Lists) -> u128
     ensures value { result ≡ rest_of_attrs owner lists.now }
     ensures fits { result < 2 ^ 72 }
 {
-    lists.attrs_left as u128 * ATTRIBUTE + behind_attrs(owner, lists)
+    lists.attrs_left as u128 * ATTRIBUTE + bytes_after_attrs(owner, lists)
 }
 
 /// The bytes after a name.
-fn behind_name(named: Named, lists: &Lists) -> u128
+fn bytes_after_name(named: Named, lists: &Lists) -> u128
     ensures value { result ≡ rest_of_named named lists.now }
     ensures fits { result < 2 ^ 73 }
 {
     match named {
-        Named::Dim => 4 + behind_dim(lists),
-        Named::Attr(owner) => 8 + behind_attr(owner, lists),
-        Named::Var => 24 + behind_var(lists),
+        Named::Dim => 4 + bytes_after_dim(lists),
+        Named::Attr(owner) => 8 + bytes_after_attr(owner, lists),
+        Named::Var => 24 + bytes_after_var(lists),
     }
 }
 
@@ -73,20 +73,20 @@ pub fn rest(next: Next, lists: &Lists) -> u128
         Next::RecordCount => 24,
         Next::DimsTag => 20,
         Next::DimsCount(_) => 16,
-        Next::NameLength(named) | Next::NamePadding(named) => behind_name(named, lists),
-        Next::NameText(named, _) => behind_name(named, lists),
-        Next::DimLength => behind_dim(lists),
-        Next::AttrsTag(owner) => 4 + behind_attrs(owner, lists),
-        Next::AttrsCount(owner, _) => behind_attrs(owner, lists),
-        Next::AttrType(owner) => 4 + behind_attr(owner, lists),
-        Next::AttrCount(owner, _) => behind_attr(owner, lists),
-        Next::AttrValues(owner, _) | Next::AttrPadding(owner, _) => behind_attr(owner, lists),
+        Next::NameLength(named) | Next::NamePadding(named) => bytes_after_name(named, lists),
+        Next::NameText(named, _) => bytes_after_name(named, lists),
+        Next::DimLength => bytes_after_dim(lists),
+        Next::AttrsTag(owner) => 4 + bytes_after_attrs(owner, lists),
+        Next::AttrsCount(owner, _) => bytes_after_attrs(owner, lists),
+        Next::AttrType(owner) => 4 + bytes_after_attr(owner, lists),
+        Next::AttrCount(owner, _) => bytes_after_attr(owner, lists),
+        Next::AttrValues(owner, _) | Next::AttrPadding(owner, _) => bytes_after_attr(owner, lists),
         Next::VarsTag => 4,
         Next::VarsCount(_) | Next::Whole => 0,
-        Next::DimIdsCount => 20 + behind_var(lists),
-        Next::DimId(left) => left as u128 * 4 + 20 + behind_var(lists),
-        Next::VarType => 8 + behind_var(lists),
-        Next::VarSize(_) => 4 + behind_var(lists),
-        Next::VarBegin(_, _) => behind_var(lists),
+        Next::DimIdsCount => 20 + bytes_after_var(lists),
+        Next::DimId(left) => left as u128 * 4 + 20 + bytes_after_var(lists),
+        Next::VarType => 8 + bytes_after_var(lists),
+        Next::VarSize(_) => 4 + bytes_after_var(lists),
+        Next::VarBegin(_, _) => bytes_after_var(lists),
     }
 }

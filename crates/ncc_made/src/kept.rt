@@ -17,7 +17,7 @@ pub enum Fault {
     Nothing,
     Making,
     Settling,
-    /// A file has the name, once it is to be given.
+    /// The part can't be given the name: a file has it, or the system fails.
     Linking,
     /// The part is given no second name.
     Refusing,
@@ -226,18 +226,18 @@ impl Target for Kept {
         }
         if self.taken || self.fails(Fault::Linking) {
             self.fail();
-            return Linked::Exists;
+            return Linked::Failed;
         }
         let Ok(file) = copied(self.alloc, &self.part) else {
             self.fail();
-            return Linked::Exists;
+            return Linked::Failed;
         };
         match self.note(Step::Gives(file), true) {
             Ok(()) => {
                 self.entries.name = Entry::Made;
                 Linked::Done
             }
-            Err(Device) => Linked::Exists,
+            Err(Device) => Linked::Failed,
         }
     }
 

@@ -5,7 +5,7 @@ use Rattle.ncc_values.specs.Failures.{Rose}
 use Rattle.ncc_making.specs.declared.entries.Entries.{Entries}
 use Rattle.ncc_making.specs.declared.entries.Entry.TheVariants.{Absent, Made, Stuck}
 use Rattle.ncc_making.specs.declared.entries.Linked.{Linked}
-use Rattle.ncc_making.specs.declared.entries.Linked.TheVariants.{Done, Exists, Refused}
+use Rattle.ncc_making.specs.declared.entries.Linked.TheVariants.{Done, Failed, Refused}
 
 -- A call went by. What a stop may leave now has P, and so has what it might have left since t and not before.
 pub record NameElapses {S : Type 0} (names : S → Option (List ℕ) → Type 0) (moment : S → ℕ) (names_since : S → ℕ → Option (List ℕ) → Type 0) (old new : S) (P : Option (List ℕ) → Type 0) : Type 0 where
@@ -23,7 +23,7 @@ new_part = record { part = Made; name = Absent; settled = false; unlinked = fals
 -- and once the part was given the name
 abbrev pub after_link : Entries → Linked → Entries
 after_link e Done = record e { name = Made }
-after_link e Exists = e
+after_link e Failed = e
 after_link e Refused = record e { unlinked = true }
 
 -- no file had the name, and now the part has it; or nothing is there that wasn't
@@ -31,9 +31,9 @@ abbrev pub Links : (part old new : Option (List ℕ)) → Linked → Type 0
 Links part old new Done = (old ≡ None) × (new ≡ part)
 Links part old new other = new ≡ old
 
--- a name that is there already is a failure; a system that takes no second name is none yet
+-- any failure is counted, but that the file system has no second names
 abbrev pub LinkCounts : (old new : ℕ) → Linked → Type 0
-LinkCounts old new Exists = Rose old new
+LinkCounts old new Failed = Rose old new
 LinkCounts old new other = new ≡ old
 
 -- ---- runs of calls

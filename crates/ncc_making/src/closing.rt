@@ -43,7 +43,7 @@ fn name_part<T: Target>(target: &mut T) -> Result<(), Device>
 {
     match target.link() {
         Linked::Done => target.remove_part(),
-        Linked::Exists => Err(Device),
+        Linked::Failed => Err(Device),
         Linked::Refused => {
             target.claim()?;
             target.rename()

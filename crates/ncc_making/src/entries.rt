@@ -26,8 +26,8 @@ pub struct Entries {
 #[derive(Clone, Copy, Debug, PartialEq, Eq)]
 pub enum Linked {
     Done,
-    /// A file has the name.
-    Exists,
-    /// The system takes no second name, or not this one.
+    /// A file has the name, or the system failed.
+    Failed,
+    /// The file system has no second names.
     Refused,
 }

@@ -90,7 +90,8 @@ pub trait Target {
         ensures rose { OnErr result (Rose (failures self.old) (failures self.new)) }
         ensures makes { makes self.new ≡ makes self.old };
 
-    /// Gives the part the name too, where no file has it. Only that a file has it is counted as a failure.
+    /// Gives the part the name too, where no file has it. That the file system has no second names isn't counted as a
+    /// failure.
     fn link(&mut self) -> Linked
         requires part { (entries self.old).part ≡ Entry.Made }
         requires settled { (entries self.old).settled ≡ true }

@@ -9,6 +9,7 @@ pub mod LogFile
 pub mod LogLaws
 pub mod Long
 pub mod Memory
+pub mod Opened
 pub mod Pages
 pub mod Store
 pub mod StoreLaws

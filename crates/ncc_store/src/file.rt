@@ -60,6 +60,13 @@ impl<F: SystemFile> FileStore<F> {
         }
     }
 
+    /// The file below.
+    pub fn file(&self) -> &F
+        ensures { result.now ≡ file_of self.now }
+    {
+        &self.file
+    }
+
     /// The file, with all that was done to it.
     pub fn into_file(self) -> F
         ensures { result ≡ file_of self }

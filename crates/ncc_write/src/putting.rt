@@ -100,7 +100,7 @@ fn fill_few(buffer: &mut [u8], place: usize, fill: &[u8], count: usize)
 }
 
 /// Puts the bytes of a fill value into the buffer `count` times, from a place on, and tells where they end. After the
-/// first of them what is there is copied behind itself, so that each copy but the last is twice as long as the one
+/// first of them what is there is copied after itself, so that each copy but the last is twice as long as the one
 /// before it.
 pub(crate) fn fill_at(buffer: &mut [u8], place: usize, fill: &[u8], count: usize) -> usize
     requires { place + count * length fill.now ≤ length buffer.old }

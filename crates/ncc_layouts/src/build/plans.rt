@@ -50,7 +50,7 @@ const TOO_MANY_RECORDS_IN_CDF_5: Row = Row {
     ..NOTHING_IN_CDF_5
 };
 
-/// The second variable begins behind 2^31.
+/// The second variable begins past 2^31.
 const BEGIN_IN_CDF_1: Row = Row {
     name: "begin in CDF-1",
     version: Version::V1,

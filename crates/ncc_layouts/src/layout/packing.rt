@@ -62,11 +62,11 @@ const LONE_BYTES: Row = Row {
     ],
 };
 
-/// A byte and a short one behind the other.
+/// A byte and a short one after the other.
 const PAIR: [(&[usize], XType, u64); 2] = [(&[0], XType::Byte, 100), (&[0], XType::Short, 104)];
 
 const IN_TURN: Row = Row {
-    name: "one behind the other",
+    name: "one after the other",
     vars: &PAIR,
     records: 2,
     length: 116,
@@ -80,7 +80,7 @@ const IN_TURN: Row = Row {
 };
 
 const LONGER: Row = Row {
-    name: "bytes behind the records",
+    name: "bytes after the records",
     vars: &PAIR,
     records: 2,
     length: 200,

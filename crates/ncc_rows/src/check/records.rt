@@ -56,7 +56,7 @@ fn records_that_interleave(rt: HostRuntime) -> Result<(), Fail> {
 }
 
 #[test]
-fn a_scalar_behind_the_records(rt: HostRuntime) -> Result<(), Fail> {
+fn a_scalar_after_the_records(rt: HostRuntime) -> Result<(), Fail> {
     let alloc = rt.alloc();
     let mut words = RECORD_AND_SCALAR;
     let behind = with_data(alloc, &words, &[0, 0])?;

@@ -1,4 +1,4 @@
-//! The file behind a reader, once the reader has ended.
+//! The file of a reader, once the reader has ended.
 
 ghost use Rattle.std.specs.Prelude.{◌≡◌};
 ghost use Rattle.ncc_store.specs.Store.{Unmoved, KeepsImages};
@@ -73,13 +73,13 @@ fn have_lengths<R: Abort + AllocGlobal>(rt: &R, file: &mut NcFile<MemStore>, row
 }
 
 #[test]
-fn a_file_is_used_again_behind_its_reader(rt: HostRuntime) -> Result<(), Fail> {
+fn a_file_is_used_again_after_its_reader(rt: HostRuntime) -> Result<(), Fail> {
     let mut file = open_file(rt.alloc(), &DOUBLES)?;
     have_lengths(&rt, &mut file, &IN_TURN);
     Ok(())
 }
 
-/// Whether a first part has the values that are read at once behind it.
+/// Whether a first part has the values that are read at once after it.
 fn is_read_at_once<S: Store>(
     alloc: Global,
     file: &mut NcFile<S>,

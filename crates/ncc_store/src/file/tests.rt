@@ -6,6 +6,7 @@ use crate::tests::steps::{Step, takes, takes_all};
 use crate::{Device, LogFile, LogStore, Store, SystemFile};
 use std::alloc::{AllocError, Global};
 use std::fs;
+use std::io::ErrorKind;
 use std::test::Fail;
 
 const WRITES: [Step; 4] = [
@@ -47,8 +48,13 @@ fn counts_each_failure(rt: HostRuntime) -> Result<(), Fail> {
     let path = "counts_each_failure.nc";
     fs::write(&rt, path, [1, 2, 3].as_slice())?;
     let mut store = FileStore::open(&rt, path, false)?;
+    assert!(rt; store.file().fault().is_none());
+    assert!(rt; takes(&mut store, None, FailedRead(2, 2)));
+    assert!(rt; matches!(store.file().fault(), Some(ErrorKind::UnexpectedEof)));
     takes_all(&rt, &mut store, &FAILS);
-    assert_eq!(rt; store.failures, 6);
+    assert_eq!(rt; store.failures, 7);
+    // The last of them that asks the system has a place that no file has.
+    assert!(rt; matches!(store.file().fault(), Some(ErrorKind::InvalidInput)));
     fs::remove_file(&rt, path)?;
     Ok(())
 }
@@ -77,6 +83,7 @@ fn sync_that_fails_is_counted(rt: HostRuntime) -> Result<(), Fail> {
     for (step, failures) in [(UNSYNCED, 1), (Write(0, b"1", Err(Device)), 2)] {
         assert!(rt; takes(&mut store, None, step) && store.failures == failures);
     }
+    assert!(rt; matches!(store.file().fault(), Some(ErrorKind::InvalidInput)));
     Ok(())
 }
 
