@@ -1,6 +1,7 @@
 // Refuses calls of a run. The variable REFUSED has the number of one allocation; FAILED has a call and a number, as
 // `fsync 2`: that one fails, and no other, with the error of the system whose number follows (4, EINTR, in `fsync 2 4`),
-// or else with EIO; UNSYNCED has a number: each sync from that one on; UNLINKED, where it is there, means each second
+// or else with EIO; CUT has a call and two numbers, as `pwrite 2 5`: that one reads or writes so many bytes at most;
+// UNSYNCED has a number: each sync from that one on; UNLINKED, where it is there, means each second
 // name of a file, as file systems do that have none. With OVERTAKEN each call that would give a
 // file its second name finds that another run has made a file of that name just before, which holds "theirs". At the end of the run it writes how many
 // allocations there were onto the file that COUNTED names, and how many of the calls below onto the one that CALLS
@@ -23,27 +24,40 @@ static long called[KINDS];
 static long allocations;
 static long refused;
 static int counts;
-static int failing = -1;
-static long failing_number;
-static int failing_error = EIO;
+// A call that a variable names: its kind, its number, and the number after that.
+struct call {
+  int kind;
+  long number;
+  long rest;
+};
+static struct call failing;
+static struct call cut;
 static void *(*given_malloc)(size_t);
 static void *(*given_realloc)(void *, size_t);
 static int (*given_memalign)(void **, size_t, size_t);
 
 static void *given(const char *name) { return dlsym(RTLD_NEXT, name); }
 
+// The call that a variable names, or none.
+static struct call named(const char *variable, long rest) {
+  const char *text = getenv(variable);
+  struct call call = {-1, 0, rest};
+  for (int kind = 0; text && kind < KINDS; kind++) {
+    size_t length = strlen(names[kind]);
+    if (strncmp(text, names[kind], length) || text[length] != ' ') continue;
+    char *after;
+    call.kind = kind;
+    call.number = strtol(text + length, &after, 10);
+    if (*after) call.rest = atol(after);
+  }
+  return call;
+}
+
 __attribute__((constructor)) static void begin(void) {
   const char *number = getenv("REFUSED");
-  const char *failed = getenv("FAILED");
   refused = number ? atol(number) : 0;
-  for (int kind = 0; failed && kind < KINDS; kind++) {
-    size_t length = strlen(names[kind]);
-    if (strncmp(failed, names[kind], length) || failed[length] != ' ') continue;
-    char *error;
-    failing = kind;
-    failing_number = strtol(failed + length, &error, 10);
-    if (*error) failing_error = atoi(error);
-  }
+  failing = named("FAILED", EIO);
+  cut = named("CUT", 0);
   given_malloc = given("malloc");
   given_realloc = given("realloc");
   given_memalign = given("posix_memalign");
@@ -105,21 +119,27 @@ static void trace_file(int kind, int file) {
 static int fails(int kind) {
   if (!counts) return 0;
   called[kind]++;
-  if (kind != failing || called[kind] != failing_number) return 0;
-  errno = failing_error;
+  if (kind != failing.kind || called[kind] != failing.number) return 0;
+  errno = failing.rest;
   return 1;
+}
+
+// How many of so many bytes the call that was counted last reads or writes at most.
+static size_t at_most(int kind, size_t size) {
+  if (!counts || kind != cut.kind || called[kind] != cut.number) return size;
+  return size < (size_t)cut.rest ? size : (size_t)cut.rest;
 }
 
 ssize_t pread(int file, void *room, size_t size, off_t place) {
   if (fails(PREAD)) return -1;
-  return ((ssize_t (*)(int, void *, size_t, off_t))given("pread"))(file, room, size, place);
+  return ((ssize_t (*)(int, void *, size_t, off_t))given("pread"))(file, room, at_most(PREAD, size), place);
 }
 
 ssize_t pread64(int file, void *room, size_t size, off_t place) { return pread(file, room, size, place); }
 
 ssize_t pwrite(int file, const void *piece, size_t size, off_t place) {
   if (fails(PWRITE)) return -1;
-  return ((ssize_t (*)(int, const void *, size_t, off_t))given("pwrite"))(file, piece, size, place);
+  return ((ssize_t (*)(int, const void *, size_t, off_t))given("pwrite"))(file, piece, at_most(PWRITE, size), place);
 }
 
 ssize_t pwrite64(int file, const void *piece, size_t size, off_t place) { return pwrite(file, piece, size, place); }
@@ -127,7 +147,7 @@ ssize_t pwrite64(int file, const void *piece, size_t size, off_t place) { return
 // Standard output and standard error aren't counted.
 ssize_t write(int file, const void *piece, size_t size) {
   if (file > 2 && fails(WRITE)) return -1;
-  return ((ssize_t (*)(int, const void *, size_t))given("write"))(file, piece, size);
+  return ((ssize_t (*)(int, const void *, size_t))given("write"))(file, piece, file > 2 ? at_most(WRITE, size) : size);
 }
 
 int fsync(int file) {

@@ -80,6 +80,7 @@ done
 echo "extend: 6 writes and 7 syncs for 3 records; each of $refused calls failed once, none was made again"
 # The reason is told, of whatever call it is.
 for row in "pwrite 1 28|no space left" "pwrite 2 122|no space left" "fsync 2 28|no space left" "fsync 3 30|read-only file system" \
+    "fsync 2 22|can't be read or written" \
     "pwrite 1 27|would be too large a file" "pwrite 1 5|can't be read or written" "pread 1 13|permission denied"; do
   cp series.nc file.nc
   FAILED=${row%|*} watched extend --verbose file.nc 1

@@ -520,6 +520,12 @@ fi
 # IN is only read.
 expect "convert a file that may not be written" 1 "fault EndsEarly at 0" "" convert --to 2 /proc/sys/kernel/osrelease new_release.nc
 
+# A number may have a plus.
+cp two.nc plus.nc
+expect "extend by +2" 0 "records 5" "" extend plus.nc +2
+expect "check, a limit of +116" 0 "$("$ncc" check --max-header 116 two.nc)" "" check --max-header +116 two.nc
+expect "check, a limit of +115" 1 "fault HeaderTooLong at 112" "" check --max-header +115 two.nc
+
 # Where nothing can be synced, neither `ok` nor how many records there are is printed.
 if cc -O1 -shared -fPIC -o refuse.so "$top/scripts/refuse_calls.c" -ldl 2> /dev/null; then
   cp two.nc unsynced.nc
@@ -532,6 +538,34 @@ if cc -O1 -shared -fPIC -o refuse.so "$top/scripts/refuse_calls.c" -ldl 2> /dev/
     FAILED=${row%|*} CALLS=calls LD_PRELOAD=$folder/refuse.so "$ncc" extend unsynced.nc 1 > out 2> err
     count "extend, ${row%|*} fails once" "3  error device ${row#*|}" \
       "$? $(cat out) $(cat err) $(sed -n 's/^pwrite //p' calls) $(sed -n 's/^fsync //p' calls)"
+  done
+  # A write that the system cuts short goes on where it ended, but that of the count, which is one call.
+  {
+    printf 'CDF\1\0\0\0\1\0\0\0\x0a\0\0\0\2\0\0\0\1t\0\0\0\0\0\0\0\0\0\0\1x\0\0\0\0\0\0\x08\0\0\0\0\0\0\0\0'
+    printf '\0\0\0\x0b\0\0\0\1\0\0\0\1v\0\0\0\0\0\0\2\0\0\0\0\0\0\0\1\0\0\0\0\0\0\0\0\0\0\0\3\0\0\0\x10\0\0\0\x60'
+    printf '\0\1\0\2\0\3\0\4\0\5\0\6\0\7\0\x08'
+  } > eight.nc
+  cp eight.nc extended.nc
+  expect "extend of eight shorts" 0 "records 2" "" extend extended.nc 1
+  count "its record" "8001800180018001800180018001 128" "$(bytes_from extended.nc 114 14) $(wc -c < extended.nc | tr -d ' ')"
+  for row in "pwrite 1 5|3 3" "pwrite 1 15|3 3"; do
+    cp eight.nc cut.nc
+    CUT=${row%|*} CALLS=calls LD_PRELOAD=$folder/refuse.so "$ncc" extend cut.nc 1 > out 2> err
+    count "extend, ${row%|*}" "0 records 2  ${row#*|}" \
+      "$? $(cat out) $(cat err) $(sed -n 's/^pwrite //p' calls) $(sed -n 's/^fsync //p' calls)"
+    count "extend, ${row%|*}: the file" "" "$(cmp extended.nc cut.nc 2>&1)"
+  done
+  for row in "pwrite 1 0|1 1" "pwrite 2 3|2 2"; do
+    cp eight.nc cut.nc
+    CUT=${row%|*} CALLS=calls LD_PRELOAD=$folder/refuse.so "$ncc" extend --verbose cut.nc 1 > out 2> err
+    count "extend, ${row%|*}" "3  error device ncc: cut.nc: written only in part: no space left, or a limit was reached ${row#*|}" \
+      "$? $(cat out) $(echo $(cat err)) $(sed -n 's/^pwrite //p' calls) $(sed -n 's/^fsync //p' calls)"
+    count "extend, ${row%|*}: the file" "ok CDF-1 records 1 variables 1" "$("$ncc" check cut.nc)"
+  done
+  for row in "write 1 5" "pread 1 5" "pread 2 1"; do
+    CUT=$row LD_PRELOAD=$folder/refuse.so "$ncc" convert --to 1 eight.nc cut_1.nc > out 2> err
+    count "convert, $row" "0 ok CDF-1 " "$? $(cat out) $(cat err)$(cmp eight.nc cut_1.nc 2>&1)"
+    rm -f cut_1.nc
   done
   # Where the system has no lock to give (37, ENOLCK) nothing is written. A reader asks for none.
   cp two.nc unlocked.nc

@@ -15,4 +15,5 @@ pub use form::Form;
 pub use names::{FileNames, names_in};
 pub use shelf::Shelf;
 pub use statuses::status;
+pub use texts::write_text;
 pub use work::Work;

@@ -1,10 +1,11 @@
 //! The answer of a file, and its text in memory.
 
-ghost use Rattle.std.specs.Prelude.{◌≡◌, ◌⊎◌, ◌+◌, ◌≤◌, ◌∷◌, max, ℕ, List, length, drop, IsTrue};
+ghost use Rattle.std.specs.Prelude.{◌≡◌, ◌⊎◌, ◌+◌, ◌≤◌, ◌∷◌, max, ℕ, Bool, List, length, drop, IsTrue};
 ghost use Rattle.ncc_values.specs.Failures.{Rose};
 ghost use Rattle.ncc_schema.specs.Device.{Puts};
 ghost use Rattle.ncc_store.specs.Store.{KeepsImages, Unmoved};
 ghost use Rattle.ncc_check.specs.FromStore.{calls_for};
+ghost use Rattle.ncc_check.specs.Passes.{HasOwnElements};
 ghost use Rattle.ncc_engines.specs.Answers.{Writes};
 ghost use Rattle.ncc_batch.specs.Answered.{TextsOf, IsTextIn, IsTextAt, limit_of};
 
@@ -16,11 +17,19 @@ use ncc_store::Store;
 use std::alloc::Global;
 
 /// Writes the text of what is asked of a store's file.
-fn write_text<S: Store, W: Sink>(alloc: Global, store: &mut S, work: Work, sink: &mut W) -> Answer
+pub fn write_text<S: Store, W: Sink>(
+    alloc: Global,
+    store: &mut S,
+    work: Work,
+    sink: &mut W,
+) -> Answer
     ensures told { IsTrue S.tells_bytes → (out : List ℕ) × Puts (W.put sink.old) (W.put sink.new) out
         × Writes (TextsOf work (S.bytes store.old)) result out }
+    ensures own { IsTrue S.tells_bytes → result ≡ Answer.Passed → (limit : ℕ) (strict : Bool)
+        → work ≡ Work.Check limit strict → HasOwnElements (S.bytes store.old) limit }
     ensures quiet { (result ≡ Answer.Device → ⊥)
         → (S.failures store.new ≡ S.failures store.old) × (W.failures sink.new ≡ W.failures sink.old) }
+    ensures still { (S.failures store.new ≡ S.failures store.old → ⊥) → W.calls sink.new ≡ W.calls sink.old }
     ensures device { result ≡ Answer.Device
         → Rose (S.failures store.old) (S.failures store.new) ⊎ Rose (W.failures sink.old) (W.failures sink.new) }
     ensures unmoved { Unmoved S.bytes S.images S.moment S.images_since store.old store.new }

@@ -1,6 +1,6 @@
 -- What the words of a command line give.
 use Rattle.std.specs.Prelude.{◌≡◌, ℕ, ◌⊎◌, Bool, true, false, List, [], Option, None, Some, codes}
-use Rattle.std.specs.Str.Parse.{digits_value}
+use Rattle.std.specs.Str.Parse.{digits_value, without_leading_plus}
 use Rattle.clap.specs.Matches.{first_value, found_of, one_text}
 use Rattle.clap.specs.declared.parser.matches.ArgMatches.{ArgMatches}
 use Rattle.ncc_csv.specs.Numbers.{IsListOf, IsNumber}
@@ -32,7 +32,8 @@ GivesFlag words id on =
 abbrev pub GivesNumber : ArgMatches → (id : List ℕ) → (other n : ℕ) → Type 0
 GivesNumber words id other n =
     (one_text (found_of words) id ≡ None → n ≡ other)
-    × ((word : List ℕ) → one_text (found_of words) id ≡ Some word → IsNumber word → n ≡ digits_value 10 word)
+    × ((word : List ℕ) → one_text (found_of words) id ≡ Some word → IsNumber (without_leading_plus word)
+    → n ≡ digits_value 10 (without_leading_plus word))
 
 -- how floats are shown
 abbrev pub GivesStyle : ArgMatches → FloatStyle → Type 0

@@ -1,3 +1,5 @@
 pub mod Given
 pub mod Options
 pub mod Status
+pub mod Tasks
+pub mod Words

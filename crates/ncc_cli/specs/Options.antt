@@ -1,5 +1,5 @@
 -- The options that take lists of numbers.
-use Rattle.std.specs.Prelude.{◌≡◌, ℕ, List, Some, codes}
+use Rattle.std.specs.Prelude.{◌≡◌, ℕ, IsSome, List, Some, codes}
 use Rattle.clap.specs.declared.parser.matches.ArgMatches.{ArgMatches}
 use Rattle.ncc_csv.specs.Numbers.{IsListOf}
 use Rattle.ncc_cli.specs.Given.{given}
@@ -15,3 +15,7 @@ option_text Stride = codes "stride"
 abbrev pub IsNoList : ArgMatches → ListOption → Type 0
 IsNoList words option = (word : List ℕ) × (given words (option_text option) ≡ Some word)
     × ((numbers : List ℕ) → IsListOf word numbers → ⊥)
+
+-- a list is given
+abbrev pub GivesSomeList : ArgMatches → Type 0
+GivesSomeList words = (option : ListOption) × IsSome (given words (option_text option))

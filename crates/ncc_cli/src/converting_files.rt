@@ -5,11 +5,11 @@ use crate::limited::converted;
 use crate::new_file::NewFile;
 use crate::paths::{folder_of, open_store};
 use crate::reasons::{Reason, Trouble, reason_in};
+use crate::task::Converting;
 use ncc_engines::Answer;
 use ncc_header::WriteSink;
 use ncc_lines::Progress;
 use ncc_store::AheadStore;
-use ncc_values::Version;
 use std::fs::File;
 use std::io::{BufWriter, Write};
 use std::rt::{Clock, Files};
@@ -17,12 +17,11 @@ use std::rt::{Clock, Files};
 /// Converts a file into a new one.
 pub fn convert<'a, R: Files<File = File> + AllocGlobal, O: Write, P: Progress>(
     rt: &R,
-    from: &'a [u8],
-    version: Version,
-    to: &'a [u8],
+    converting: Converting<'a>,
     out: &mut O,
     progress: &mut P,
 ) -> Ended<'a> {
+    let Converting { from, to, .. } = converting;
     let mut trouble = Trouble {
         name: from,
         reason: Reason::Other,
@@ -48,7 +47,14 @@ pub fn convert<'a, R: Files<File = File> + AllocGlobal, O: Write, P: Progress>(
         };
     };
     let mut sink = WriteSink::new(writer);
-    let (ahead, answer) = converted(rt.alloc(), ahead, version, &mut target, &mut sink, progress);
+    let (ahead, answer) = converted(
+        rt.alloc(),
+        ahead,
+        converting,
+        &mut target,
+        &mut sink,
+        progress,
+    );
     trouble.reason = reason_in(&ahead.into_inner());
     if let Some(reason) = target.reason() {
         let name = if target.in_folder() {

@@ -13,7 +13,7 @@ use ncc_values::Version;
 const _: () = prove!(LIMIT == 67_108_864);
 
 /// A flag.
-fn flag_given(words: &ArgMatches, id: &str) -> bool
+pub fn flag_given(words: &ArgMatches, id: &str) -> bool
     ensures { GivesFlag words.now id.now result }
 {
     words.get_flag(id)

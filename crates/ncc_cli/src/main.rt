@@ -16,6 +16,7 @@ mod progress;
 mod reasons;
 mod run;
 mod single;
+mod task;
 #[cfg(test)]
 mod tests;
 mod watched;

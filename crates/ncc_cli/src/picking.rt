@@ -1,8 +1,8 @@
 //! What the words of a command line pick of a variable.
 
-ghost use Rattle.std.specs.Prelude.{◌≡◌, Err, codes, IfOk};
+ghost use Rattle.std.specs.Prelude.{◌≡◌, Err, codes, IfOk, IsSome};
 ghost use Rattle.ncc_cli.specs.Given.{GivesList, given};
-ghost use Rattle.ncc_cli.specs.Options.{IsNoList, option_text};
+ghost use Rattle.ncc_cli.specs.Options.{GivesSomeList, IsNoList, option_text};
 ghost use Rattle.ncc_cli.specs.declared.picking.ListOption.{ListOption};
 ghost use Rattle.ncc_cli.specs.Status.{status_of_words};
 ghost use Rattle.ncc_cli.specs.declared.picking.WordFault.TheVariants.{Memory, NoList};
@@ -59,6 +59,7 @@ fn list_given(
 ) -> Result<Option<Seq<u64>>, WordFault>
     ensures gives { IfOk result (GivesList (given words.now (option_text option))) }
     ensures refused { (o : ListOption) → result ≡ Err (NoList o) → (o ≡ option) × IsNoList words.now o }
+    ensures memory { result ≡ Err Memory → IsSome (given words.now (option_text option)) }
 {
     let Some(text) = words.get_str(option_name(option)) else {
         return Ok(None);
@@ -75,6 +76,7 @@ pub fn pick_given(alloc: Global, words: &ArgMatches) -> Result<Pick, WordFault>
     ensures count { IfOk result (λ p. GivesList (given words.now (codes "count")) p.count) }
     ensures stride { IfOk result (λ p. GivesList (given words.now (codes "stride")) p.stride) }
     ensures refused { (o : ListOption) → result ≡ Err (NoList o) → IsNoList words.now o }
+    ensures memory { result ≡ Err Memory → GivesSomeList words.now }
 {
     Ok(Pick {
         start: list_given(alloc, words, ListOption::Start)?,

@@ -6,17 +6,16 @@ use crate::commands::command;
 use crate::converting_files::convert;
 use crate::faults::{FAULTS, asks_for_faults};
 use crate::finishing::{Ended, USAGE, end, explain, finish, shown};
-use crate::given::{form_given, more_given, style_given, version_given, word_given, work_given};
 use crate::many::{NoNames, answer_many, names_given};
-use crate::picking::{pick_given, refuse_words};
+use crate::picking::refuse_words;
 use crate::progress::{ProgressLine, Shown, Terminals};
 use crate::reasons::{Reason, Trouble};
 use crate::single::{check, extend, list, select};
+use crate::task::{Selecting, Task, task_given};
 use crate::watched::Watched;
 use crate::words::Words;
 use clap::ArgMatches;
 use ncc_batch::{FileNames, Form, Work, status};
-use ncc_csv::Pick;
 use ncc_engines::Answer;
 use ncc_lines::Progress;
 use std::fs::File;
@@ -41,29 +40,16 @@ fn cut_off(name: &[u8]) -> Ended<'_> {
     }
 }
 
-/// Prints what is picked of a variable, as the words say.
+/// Prints what is picked of a variable.
 fn csv<'a, R: Files<File = File> + Clock + AllocGlobal, O: Write, E: Write>(
     rt: &R,
-    line: &'a Words,
-    words: &ArgMatches<'a>,
-    pick: Pick,
+    selecting: Selecting<'a>,
     out: &mut O,
     err: &mut E,
     shown: Shown,
 ) -> Ended<'a> {
-    let name = line.bytes_of(word_given(words, "FILE"));
-    let variable = line.bytes_of(word_given(words, "VAR"));
     let mut progress = ProgressLine::new(rt, err, shown.progress);
-    let ended = select(
-        rt,
-        name,
-        variable,
-        pick,
-        style_given(words),
-        words.get_flag("text"),
-        out,
-        &mut progress,
-    );
+    let ended = select(rt, selecting, out, &mut progress);
     progress.end();
     ended
 }
@@ -84,8 +70,8 @@ fn answer_one_of<R: Files<File = File> + Clock + AllocGlobal, I: Read, O: Write,
 {
     let Ended { answer, trouble } = match work {
         _ if names.is_cut => cut_off(name),
-        Work::Check { limit, strict } => check(rt, name, limit, strict, out),
-        Work::List { limit: _, style } => list(rt, name, style, reads_input, input, out),
+        Work::Check { .. } => check(rt, name, work, out),
+        Work::List { style, .. } => list(rt, name, style, reads_input, input, out),
     };
     end(answer, trouble, out.reason(), shown.reasons, err)
 }
@@ -109,27 +95,13 @@ fn answer_all_of<R: Files<File = File> + Clock + AllocGlobal, O: Write, E: Write
     end(answer, None, out.reason(), shown.reasons, err)
 }
 
-/// Converts the file that the words name.
-fn convert_given<'a, R: Files<File = File> + Clock + AllocGlobal, O: Write, E: Write>(
-    rt: &R,
-    line: &'a Words,
-    words: &ArgMatches<'a>,
-    out: &mut O,
-    err: &mut E,
-    shown: Shown,
-) -> Ended<'a> {
-    let from = line.bytes_of(word_given(words, "IN"));
-    let to = line.bytes_of(word_given(words, "OUT"));
-    let mut progress = ProgressLine::new(rt, err, shown.progress);
-    convert(rt, from, version_given(words), to, out, &mut progress)
-}
-
 /// Runs `check` or `list`, and gives the status.
 fn run_files<'a, R: Files<File = File> + Clock + AllocGlobal, I: Read, O: Write, E: Write>(
     rt: &R,
     line: &'a Words,
-    command: &str,
     words: &ArgMatches<'a>,
+    work: Work,
+    form: Form,
     input: &mut I,
     out: &mut Watched<O>,
     err: &mut E,
@@ -144,8 +116,6 @@ fn run_files<'a, R: Files<File = File> + Clock + AllocGlobal, I: Read, O: Write,
             return end(Answer::Device, Some(trouble), None, shown.reasons, err);
         }
     };
-    let work = work_given(command, words);
-    let form = form_given(command, words);
     let Some(name) = only_file(&names, form) else {
         return answer_all_of(rt, &names, work, form, out, err, shown);
     };
@@ -171,17 +141,20 @@ fn run_command<'a, R: Files<File = File> + Clock + AllocGlobal, I: Read, O: Writ
         reasons: terminals.err || words.get_flag("verbose"),
         at_once: terminals.err && terminals.out,
     };
-    let Ended { answer, trouble } = match command {
-        "convert" => convert_given(rt, line, words, out, err, shown),
-        "csv" => match pick_given(rt.alloc(), words) {
-            Ok(pick) => csv(rt, line, words, pick, out, err, shown),
-            Err(fault) => return refuse_words(fault, words, shown.reasons, err),
-        },
-        "extend" => {
-            let name = line.bytes_of(word_given(words, "FILE"));
-            extend(rt, name, more_given(words), out)
+    let task = match task_given(rt.alloc(), line, command, words) {
+        Ok(task) => task,
+        Err(fault) => return refuse_words(fault, words, shown.reasons, err),
+    };
+    let Ended { answer, trouble } = match task {
+        Task::Answer(work, form) => {
+            return run_files(rt, line, words, work, form, input, out, err, shown);
         }
-        _ => return run_files(rt, line, command, words, input, out, err, shown),
+        Task::Select(selecting) => csv(rt, selecting, out, err, shown),
+        Task::Extend(extending) => extend(rt, extending, out),
+        Task::Convert(converting) => {
+            let mut progress = ProgressLine::new(rt, err, shown.progress);
+            convert(rt, converting, out, &mut progress)
+        }
     };
     end(answer, trouble, out.reason(), shown.reasons, err)
 }

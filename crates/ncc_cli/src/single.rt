@@ -4,9 +4,10 @@ use crate::finishing::{Ended, flushed};
 use crate::limited::{extended_file, listed, selected};
 use crate::paths::{open_file, open_store};
 use crate::reasons::{Reason, Trouble, reason_in};
+use crate::task::{Extending, Selecting};
 use crate::watched::Watched;
-use ncc_csv::Pick;
-use ncc_engines::{Answer, check_engine};
+use ncc_batch::{Work, write_text};
+use ncc_engines::Answer;
 use ncc_header::{ReadSource, WriteSink};
 use ncc_lines::{FloatStyle, Progress};
 use ncc_store::AheadStore;
@@ -74,12 +75,11 @@ pub fn list<'a, R: Files<File = File> + AllocGlobal, I: Read, O: Write>(
     }
 }
 
-/// Checks a file.
+/// Checks a file, as the work asks.
 pub fn check<'a, R: Files<File = File> + AllocGlobal, O: Write>(
     rt: &R,
     name: &'a [u8],
-    limit: u64,
-    strict: bool,
+    work: Work,
     out: &mut O,
 ) -> Ended<'a> {
     let mut store = match open_store(rt, name, false) {
@@ -90,7 +90,7 @@ pub fn check<'a, R: Files<File = File> + AllocGlobal, O: Write>(
         return ended(name, Answer::Memory, Reason::Other);
     };
     let mut sink = WriteSink::new(writer);
-    let answer = check_engine(rt.alloc(), &mut store, limit, strict, &mut sink);
+    let answer = write_text(rt.alloc(), &mut store, work, &mut sink);
     let mut writer = sink.into_inner();
     ended(name, flushed(&mut writer, answer), reason_in(&store))
 }
@@ -98,14 +98,11 @@ pub fn check<'a, R: Files<File = File> + AllocGlobal, O: Write>(
 /// Prints what is picked of a variable of a file.
 pub fn select<'a, R: Files<File = File> + AllocGlobal, O: Write, P: Progress>(
     rt: &R,
-    name: &'a [u8],
-    variable: &[u8],
-    pick: Pick,
-    style: FloatStyle,
-    texts: bool,
+    selecting: Selecting<'a>,
     out: &mut O,
     progress: &mut P,
 ) -> Ended<'a> {
+    let name = selecting.file;
     let store = match open_store(rt, name, false) {
         Ok(store) => store,
         Err(reason) => return ended(name, Answer::Device, reason),
@@ -117,16 +114,7 @@ pub fn select<'a, R: Files<File = File> + AllocGlobal, O: Write, P: Progress>(
         return ended(name, Answer::Memory, Reason::Other);
     };
     let mut sink = WriteSink::new(writer);
-    let (ahead, answer) = selected(
-        rt.alloc(),
-        ahead,
-        variable,
-        pick,
-        style,
-        texts,
-        &mut sink,
-        progress,
-    );
+    let (ahead, answer) = selected(rt.alloc(), ahead, selecting, &mut sink, progress);
     let mut writer = sink.into_inner();
     ended(
         name,
@@ -138,11 +126,11 @@ pub fn select<'a, R: Files<File = File> + AllocGlobal, O: Write, P: Progress>(
 /// Adds records of fill values to a file.
 pub fn extend<'a, R: Files<File = File> + AllocGlobal, O: Write>(
     rt: &R,
-    name: &'a [u8],
-    more: u64,
+    extending: Extending<'a>,
     out: &mut O,
 ) -> Ended<'a> {
-    let store = match open_store(rt, name, more > 0) {
+    let name = extending.file;
+    let store = match open_store(rt, name, extending.more > 0) {
         Ok(store) => store,
         Err(reason) => return ended(name, Answer::Device, reason),
     };
@@ -151,7 +139,7 @@ pub fn extend<'a, R: Files<File = File> + AllocGlobal, O: Write>(
     };
     let mut sink = WriteSink::new(writer);
     // (the store keeps the lock until the line is out)
-    let (store, answer) = extended_file(rt.alloc(), store, more, &mut sink);
+    let (store, answer) = extended_file(rt.alloc(), store, extending, &mut sink);
     let mut writer = sink.into_inner();
     ended(name, flushed(&mut writer, answer), reason_in(&store))
 }

@@ -1,5 +1,7 @@
 //! The words of the command line, which need not be UTF-8.
 
+ghost use Rattle.std.specs.Prelude.{◌≡◌};
+
 use ncc_lines::push_name;
 use std::alloc::{AllocError, Global};
 use std::env::{Env, FillError};
@@ -31,6 +33,8 @@ fn alias_text(alloc: Global, bytes: &[u8]) -> Result<String, AllocError> {
 }
 
 impl Words {
+    ghost use Rattle.ncc_cli.specs.Words.{bytes_named};
+
     pub fn new(alloc: Global) -> Words {
         Words {
             texts: Vec::new(alloc),
@@ -58,7 +62,9 @@ impl Words {
     }
 
     /// The bytes of a word, by its text.
-    pub fn bytes_of<'a>(&'a self, text: &'a str) -> &'a [u8] {
+    pub fn bytes_of<'a>(&'a self, text: &'a str) -> &'a [u8]
+        ensures { result.now ≡ bytes_named self.now text.now }
+    {
         for alias in &self.aliases {
             if alias.text.as_str() == text {
                 return &alias.bytes;

@@ -10,7 +10,7 @@ use Rattle.ncc_schema.specs.declared.schema.Dim.{Dim}
 use Rattle.ncc_schema.specs.declared.schema.Var.{Var}
 use Rattle.ncc_schema.specs.declared.schema.VarPlace.{VarPlace}
 use Rattle.ncc_schema.specs.declared.schema.Schema.{Schema}
-use Rattle.ncc_schema.specs.Schema.{Place, place_of, places_of, is_record, count_limit, LegalDims, LegalVar, Sound, is_record_var}
+use Rattle.ncc_schema.specs.Schema.{Place, place_of, places_of, count_limit, LegalDims, LegalVar, Sound, is_record_var}
 use Rattle.ncc_layout.specs.declared.extent.Extent.{Extent}
 use Rattle.ncc_layout.specs.declared.placed_var.PlacedVar.{PlacedVar}
 use Rattle.ncc_layout.specs.Sizes.{up, product, inner, slab, rounded, record_vars, record_slabs, record_bytes, record_size_of, room, Fit}
@@ -160,6 +160,13 @@ bytes_from dims n (x ∷ vars) (p ∷ places) all few =
 
 pub extents_have_bytes : (s : Schema) (places : List Place) → Sound s → AllByRecursion HasBytes (extents_of s places)
 extents_have_bytes s places sound = bytes_from s.dims 0 s.vars places (dims_legal s.version s.dims s.vars sound.vars) (omega (arith, sound.vars_number, small_count s.version))
+
+slabs_have_bytes : (es : List Extent) → AllByRecursion HasBytes es → AllByRecursion (λ e. 0 < e.slab) es
+slabs_have_bytes [] all = tt
+slabs_have_bytes (e ∷ es) all = (all.0.0, slabs_have_bytes es all.1)
+
+pub none_is_empty : (s : Schema) (places : List Place) → Sound s → AllByRecursion (λ e. 0 < e.slab) (extents_of s places)
+none_is_empty s places sound = slabs_have_bytes (extents_of s places) (extents_have_bytes s places sound)
 
 record_bytes_positive : (dims : List Dim) (rs : List Var) (x : Var) → In rs x → AllByRecursion (λ y. 0 < slab dims y) rs → 0 < record_bytes (map (slab dims) rs)
 record_bytes_positive dims [] x there all = absurd there

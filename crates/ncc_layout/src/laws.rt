@@ -5,7 +5,7 @@ ghost use Rattle.std.specs.List.{AllByRecursion};
 ghost use Rattle.ncc_values.specs.XType.{size_of};
 ghost use Rattle.ncc_schema.specs.declared.schema.Count.TheVariants.{Known};
 ghost use Rattle.ncc_schema.specs.declared.schema.Schema.{Schema};
-ghost use Rattle.ncc_schema.specs.Schema.{Place, with_count};
+ghost use Rattle.ncc_schema.specs.Schema.{Place, Sound, with_count};
 ghost use Rattle.ncc_layout.specs.declared.fault.LayoutFaultKind.{LayoutFaultKind};
 ghost use Rattle.ncc_schema.specs.Names.{header_length};
 ghost use Rattle.ncc_layout.specs.declared.extent.Extent.{Extent};
@@ -89,6 +89,11 @@ pub fn one_fault()
     ensures { (s : Schema) (places : List Place) (header file : ℕ) (kind other : LayoutFaultKind)
         (number also : ℕ) → FirstFault s places header file kind number → FirstFault s places header file other also
         → (kind ≡ other) × (number ≡ also) }
+{}
+
+/// No extent is empty, wherever the variables of a schema are placed.
+pub fn no_extent_is_empty()
+    ensures { (s : Schema) (places : List Place) → Sound s → AllByRecursion (λ e. 0 < e.slab) (extents_of s places) }
 {}
 
 /// Where no extent is empty, the first that shares a byte with one before it is the first, in order of begin

@@ -3,12 +3,11 @@
 ghost use Rattle.std.specs.Prelude.{◌≡◌, ◌≤◌, ◌<◌, [], true, false, length, Some, None, Ok, Err, IsSome, IfOk, OnOk, OnErr};
 ghost use Rattle.std.specs.IoError.{error_kind};
 ghost use Rattle.std.specs.declared.io.Error.{Error};
-ghost use Rattle.ncc_store.specs.Opened.{is_locked};
 ghost use Rattle.std.specs.Fs.{new_options, with_read, with_write};
 
 use crate::device::Device;
 use crate::opened::Opened;
-use crate::system_file::{SystemFile, WHOLE};
+use crate::system_file::SystemFile;
 use std::fs::{File, OpenOptions};
 use std::io::ErrorKind;
 use std::rt::Files;
@@ -29,9 +28,7 @@ fn options(write: bool) -> OpenOptions
 #[derive(Drop)]
 pub struct DiskFile {
     file: Opened,
-    sound: bool,
     fault: Option<io::Error>,
-    ghost held: { sound ≡ true → is_locked file ≡ true },
 }
 
 impl DiskFile {
@@ -64,11 +61,7 @@ impl DiskFile {
         } else {
             Opened::unlocked(file)
         };
-        Ok(DiskFile {
-            file,
-            sound: write,
-            fault: None,
-        })
+        Ok(DiskFile { file, fault: None })
     }
 
     /// Why the last of its calls that failed did, if one did.
@@ -91,14 +84,6 @@ impl DiskFile {
         Device
     }
 
-    /// Keeps why a write or a sync failed, after which there is none.
-    fn end(&mut self, error: io::Error) -> Device
-        ensures writable { is_writable self.new ≡ false }
-        ensures fault { fault_of self.new ≡ Some error }
-    {
-        self.sound = false;
-        self.fail(error)
-    }
     /// The number of bytes. As each call, it keeps why it failed, and else leaves what was kept.
     fn length(&mut self) -> Result<u64, Device>
         ensures writable { is_writable self.new ≡ is_writable self.old }
@@ -141,9 +126,8 @@ impl DiskFile {
         ensures err { OnErr result (IsSome (fault_of self.new)) }
     {
         match self.file.write(place, piece) {
-            Ok(n) if n == piece.len() || (n > 0 && piece.len() > WHOLE) => Ok(n),
-            Ok(_) => Err(self.end(ErrorKind::WriteZero.into())),
-            Err(error) => Err(self.end(error)),
+            Ok(n) => Ok(n),
+            Err(error) => Err(self.fail(error)),
         }
     }
 
@@ -157,7 +141,7 @@ impl DiskFile {
     {
         match self.file.sync() {
             Ok(()) => Ok(()),
-            Err(error) => Err(self.end(error)),
+            Err(error) => Err(self.fail(error)),
         }
     }
 }

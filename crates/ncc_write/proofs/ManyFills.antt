@@ -13,7 +13,7 @@ concat_append (xs ∷ xss) yss = ap (λ (l : List ℕ). xs ++ l) (concat_append 
 pub fills_join : (m n : ℕ) (fill : List ℕ) → concat (replicate m fill) ++ concat (replicate n fill) ≡ concat (replicate (m + n) fill)
 fills_join m n fill = sym (concat_append (replicate m fill) (replicate n fill)) ∙ ap concat (replicate-append-replicate m n fill)
 
-pub one_more : (n : ℕ) (fill : List ℕ) → concat (replicate n fill) ++ fill ≡ concat (replicate (n + 1) fill)
+one_more : (n : ℕ) (fill : List ℕ) → concat (replicate n fill) ++ fill ≡ concat (replicate (n + 1) fill)
 one_more n fill = ap (λ (l : List ℕ). concat (replicate n fill) ++ l) (sym (append-nil fill)) ∙ fills_join n 1 fill
 
 -- one more of them

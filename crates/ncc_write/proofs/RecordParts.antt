@@ -23,7 +23,7 @@ use Rattle.ncc_build.specs.Dataset.{AreSlabsOf, IsSlabOf, elements}
 use Rattle.ncc_build.specs.Fill.{same_type}
 use Rattle.ncc_write.specs.Holds.{no_slab}
 use Rattle.ncc_write.specs.Records.{HasSizes, fits_slab, in_turn, with_padding, wrong_from}
-use Rattle.ncc_write.proofs.ManyFills.{one_more}
+use Rattle.ncc_write.proofs.ManyFills.{fills_join}
 use Rattle.ncc_write.proofs.Paddings.{type_is}
 use Rattle.ncc_write.proofs.Pages.{length_copies}
 use Rattle.ncc_write.specs.Turns.{no_var}
@@ -155,13 +155,12 @@ no_type UInt = refl
 no_type Int64 = refl
 no_type UInt64 = refl
 
--- a fill value more
-pub fills_more : (t : XType) (k : ℕ) (fill : List ℕ) → length fill ≡ size_of t
-    → with_bytes (values_of t (concat (replicate k fill))) fill ≡ values_of t (concat (replicate (k + 1) fill))
-fills_more t k fill long =
+-- so many fill values more
+pub fills_more : (t : XType) (k n : ℕ) (fill : List ℕ) → length fill ≡ size_of t
+    → with_bytes (values_of t (concat (replicate k fill))) (concat (replicate n fill)) ≡ values_of t (concat (replicate (k + n) fill))
+fills_more t k n fill long =
     let size = ap size_of (no_type t) in
-    let one : length fill ≡ 1 * size_of (type_of (no_values t)) = omega (arith, long, size) in
-    let many : length (concat (replicate k fill)) ≡ k * size_of (type_of (no_values t)) =
-    length_copies k fill ∙ ap (λ (n : ℕ). k * n) (long ∙ sym size) in
-    sym (with_bytes-append (no_values t) k 1 (concat (replicate k fill)) fill many one)
-    ∙ ap (values_of t) (one_more k fill)
+    let copies : (m : ℕ) → length (concat (replicate m fill)) ≡ m * size_of (type_of (no_values t)) =
+    λ m. length_copies m fill ∙ ap (λ (w : ℕ). m * w) (long ∙ sym size) in
+    sym (with_bytes-append (no_values t) k n (concat (replicate k fill)) (concat (replicate n fill)) (copies k) (copies n))
+    ∙ ap (values_of t) (fills_join k n fill)

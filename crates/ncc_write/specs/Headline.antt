@@ -1,7 +1,8 @@
 -- What `check`, `open`, `read_slab` and `finish` say together.
 use Rattle.std.specs.Prelude.{◌≡◌, ℕ, ◌<◌, ◌↔◌, None, Ok, List, [], map, length}
 use Rattle.std.specs.List.{AllByRecursion, flat_map}
-use Rattle.ncc_values.specs.Values.{values_of}
+use Rattle.ncc_values.specs.Values.{no_values, values_of}
+use Rattle.ncc_values.specs.XType.{size_of}
 use Rattle.ncc_values.specs.declared.values.Values.{Values}
 use Rattle.ncc_schema.specs.declared.schema.Schema.{Schema}
 use Rattle.ncc_layout.specs.Elements.{Inside, var_at}
@@ -13,8 +14,9 @@ use Rattle.ncc_check.specs.Checks.{Checks, Opens, Refuses}
 use Rattle.ncc_check.specs.declared.fault.FileFault.{FileFault}
 use Rattle.ncc_check.specs.declared.fault.Refusal.TheVariants.{Fault}
 use Rattle.ncc_check.specs.declared.report.Report.{Report}
+use Rattle.ncc_slab.specs.Laws.{TakesAll}
 use Rattle.ncc_slab.specs.Refusals.{slab_fault, FitsIn}
-use Rattle.ncc_slab.specs.Selected.{Selected, number_at, numbers_of}
+use Rattle.ncc_slab.specs.Selected.{Selected, number_at, numbers_of, places_of}
 use Rattle.ncc_slab.specs.Selection.{indices_of}
 use Rattle.ncc_slab.specs.declared.slab.Slab.{Slab}
 use Rattle.ncc_build.specs.Dataset.{Dataset}
@@ -23,14 +25,18 @@ use Rattle.ncc_write.specs.Laws.{PassesUnnoted}
 
 -- ---- reading
 
--- a hyperslab of a variable is refused unless the variable is there and each index is inside its shape; and what is
--- read is the number at each of these indices, in their order
+-- a hyperslab of a variable is refused unless the variable is there and each index is inside its shape; what is read is
+-- the number at each of these indices, in their order; and the parts of a reader, one after another until none is left,
+-- are what is read at once
 pub record ReadsThere (bytes : List ℕ) (p : Placed) (n : ℕ) (s : Slab) : Type 0 where
   pub refused : (slab_fault (vars_of p) n s ≡ None) ↔ ((n < length (vars_of p)) × FitsIn (var_at (vars_of p) n).shape s)
   pub inside : slab_fault (vars_of p) n s ≡ None → AllByRecursion (Inside (var_at (vars_of p) n).shape) (indices_of s)
   pub values : (values : Values) → slab_fault (vars_of p) n s ≡ None
       → Selected bytes (record_size_of_file p) (var_at (vars_of p) n) s values
       → numbers_of values ≡ map (number_at bytes (record_size_of_file p) (var_at (vars_of p) n)) (indices_of s)
+  pub parts : (counts : List ℕ) (values : Values)
+      → TakesAll bytes (size_of (var_at (vars_of p) n).xtype) counts (places_of (record_size_of_file p) (var_at (vars_of p) n) s)
+      (no_values (var_at (vars_of p) n).xtype) values → Selected bytes (record_size_of_file p) (var_at (vars_of p) n) s values
 
 -- ---- reading back
 

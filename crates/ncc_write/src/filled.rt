@@ -1,8 +1,9 @@
 //! Records of fill values.
 
-ghost use Rattle.std.specs.Prelude.{◌≡◌, ◌<◌, length, get_or, replicate, IfOk};
+ghost use Rattle.std.specs.Prelude.{◌≡◌, ◌*◌, ◌<◌, ◌≤◌, length, get_or, replicate, IfOk, OnOk};
 ghost use Rattle.std.specs.List.{concat};
-ghost use Rattle.ncc_values.specs.Values.{values_of};
+ghost use Rattle.ncc_values.specs.Values.{type_of, values_of, with_bytes};
+ghost use Rattle.ncc_values.specs.XType.{size_of};
 ghost use Rattle.ncc_check.specs.Files.{schema_of};
 ghost use Rattle.ncc_write.specs.Records.{HasSizes, bytes_of_record, fill_values};
 ghost use Rattle.ncc_write.specs.Turns.{turn_fill};
@@ -10,6 +11,7 @@ ghost use Rattle.ncc_write.specs.Turns.{turn_fill};
 use crate::image::{image_of, turn_in};
 use crate::laws::adding::fills_are_a_record;
 use crate::laws::open_file_has_sizes;
+use crate::putting::fill_at;
 use crate::turn::Turn;
 use crate::turning::record_variables;
 use ncc_check::NcFile;
@@ -19,14 +21,39 @@ use ncc_store::Store;
 use ncc_values::Values;
 use std::alloc::{AllocError, Global};
 
+/// How many fill values are added at once.
+const AT_ONCE: usize = 512;
+
+/// The bytes of so many of any type.
+const ROOM: usize = 8 * AT_ONCE;
+
+/// Adds so many fill values, whose bytes are put into the buffer first.
+fn add_fills(
+    values: &mut Values,
+    buffer: &mut [u8],
+    fill: &[u8],
+    count: usize,
+) -> Result<(), AllocError>
+    requires size { length fill.now ≡ size_of (type_of values.old) }
+    requires room { count * length fill.now ≤ length buffer.old }
+    ensures ok { OnOk result (values.new ≡ with_bytes values.old (concat (replicate count fill.now))) }
+    ensures room { length buffer.new ≡ length buffer.old }
+{
+    let end = fill_at(buffer, 0, fill, count);
+    values.push_from(&buffer[..end])
+}
+
 /// A slab of fill values.
-fn fill_slab(alloc: Global, turn: Turn) -> Result<Values, AllocError>
+fn fill_slab(alloc: Global, turn: Turn, buffer: &mut [u8; ROOM]) -> Result<Values, AllocError>
     ensures { IfOk result
         (λ values. values ≡ values_of turn.xtype (concat (replicate turn.elements (turn_fill turn)))) }
 {
     let mut values = Values::new(alloc, turn.xtype);
-    for _done in 0..turn.elements {
-        values.push_from(turn.fill())?;
+    let mut done = 0;
+    while done < turn.elements {
+        let count = (turn.elements - done).min(AT_ONCE as u64);
+        add_fills(&mut values, buffer, turn.fill(), count as usize)?;
+        done += count;
     }
     Ok(values)
 }
@@ -38,10 +65,12 @@ fn fill_slabs(alloc: Global, schema: &Schema, placed: &Placed) -> Result<Vec<Val
 {
     let vars = schema.vars.as_slice();
     let lone = record_variables(schema) == 1;
+    let mut buffer = [0; ROOM];
     let mut slabs = Vec::new(alloc);
     for number in 0..vars.len() {
         if is_record_var(schema.dims.as_slice(), &vars[number]) {
-            slabs.push(fill_slab(alloc, turn_in(schema, placed, number, lone))?)?;
+            let turn = turn_in(schema, placed, number, lone);
+            slabs.push(fill_slab(alloc, turn, &mut buffer)?)?;
         }
     }
     Ok(slabs)

@@ -16,7 +16,8 @@ use ncc_check::laws::{one_report, passing_elements_are_apart, passing_has_no_fau
 use ncc_header::laws::header_or_stop;
 use ncc_layout::laws::placed_file_keeps_elements_apart;
 use ncc_slab::laws::{
-    numbers_are_there, refused_unless_it_fits, selected_is_inside, selected_is_whole,
+    numbers_are_there, parts_are_selected, refused_unless_it_fits, selected_is_inside,
+    selected_is_whole,
 };
 
 /// If `check` passes a store that tells its bytes, they begin with the header of exactly one schema, every element of
@@ -25,8 +26,8 @@ use ncc_slab::laws::{
 /// passes and reads back as written.
 ///
 /// Of a store with these bytes `check` answers what `Checks` says, and `open` what `Opens` says; of an open file
-/// `read_slab` answers `Selected`, or refuses by `slab_fault`; and where a writer is finished `IsCompleted` holds of
-/// what went out.
+/// `read_slab` answers `Selected`, or refuses by `slab_fault`, and a `SlabReader` gives part after part until none is
+/// left, as `TakesAll` has them; and where a writer is finished `IsCompleted` holds of what went out.
 pub fn headline()
     ensures passes { (bytes : List ℕ) (limit : ℕ) (r : Report) → Checks bytes limit (Ok r)
         → HasOwnElements bytes limit }
@@ -44,4 +45,5 @@ pub fn headline()
     selected_is_inside();
     selected_is_whole();
     numbers_are_there();
+    parts_are_selected();
 }

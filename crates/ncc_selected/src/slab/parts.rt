@@ -114,6 +114,22 @@ fn parts_of_a_line(rt: HostRuntime) {
     }
 }
 
+/// The calls of the store that a refused reader takes.
+fn refused_calls(alloc: Global) -> Result<u64, SlabFault> {
+    let mut file = counted(alloc, bytes_of(alloc, &HUNDRED)?)?;
+    let slab = slab(alloc, [&[100], &[1], &[1]])?;
+    let refused = SlabReader::new(alloc, &mut file, 0, &slab).is_err();
+    if !refused {
+        return Err(SlabFault::NoVariable);
+    }
+    Ok(calls_of(file))
+}
+
+#[test]
+fn refused_reader_makes_no_call(rt: HostRuntime) {
+    assert!(rt; refused_calls(rt.alloc()) == Ok(0));
+}
+
 /// Selections, and the calls of the store by which all values are read.
 const CALLS: [(&'static File, Pick, u64); 7] = [
     (&INTS, [&[0], &[100_000], &[1]], 7),

@@ -21,6 +21,7 @@ returns-clause-reads c = λ bytes limit s p opened n slab.
           ap numbers_of selected
           ∙ c.numbers_are_there.ensures bytes size x (indices_of slab)
           (c.selected_is_whole.ensures bytes (header_length_of p) (file_length_of p) size vars n slab (c.placed_file_keeps_elements_apart.ensures p) long none);
+      parts = λ counts values taken. c.parts_are_selected.ensures bytes size x slab counts values taken;
     }
 
 pub returns-clause-completed : goal.returns-clause-completed
