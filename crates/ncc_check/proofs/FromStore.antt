@@ -1,8 +1,8 @@
 -- Reading a header from a store, piece by piece.
-use Rattle.std.proofs.Common.{◌≡◌, ◌≢◌, ◌⊎◌, ℕ, ◌+◌, ◌-◌, ◌%◌, ◌<◌, ◌≤◌, min, List, [], ◌++◌, length, take, drop, Ok, Err, sym, ap, ap₂, subst, ◌∙◌, inl, inr, append_assoc, arith}
+use Rattle.std.proofs.Common.{◌≡◌, ◌≢◌, ◌⊎◌, ℕ, ◌+◌, ◌*◌, ◌-◌, ◌%◌, ◌<◌, ◌≤◌, min, List, [], ◌++◌, length, take, drop, Ok, Err, sym, ap, ap₂, subst, ◌∙◌, inl, inr, append_assoc, arith, refl}
 use Rattle.std.specs.Prelude.{Bool, IsTrue}
 use Rattle.std.proofs.lemmas.Bool.{cases_lt}
-use Rattle.std.proofs.lemmas.List.{append-nil, length-take-le, take-append-drop, drop_all}
+use Rattle.std.proofs.lemmas.List.{append-nil, length-take-le, take-append-drop, take-take, drop_all}
 use Rattle.std.proofs.Math.Seq.{take-add}
 use Rattle.ncc_header.specs.declared.decoder.Decoder.{Decoder}
 use Rattle.ncc_header.specs.declared.fault.Fault.{Fault as HeaderFault}
@@ -16,18 +16,36 @@ use Rattle.ncc_schema.specs.declared.schema.Schema.{Schema}
 use Rattle.ncc_schema.specs.Schema.{Place, places_of}
 use Rattle.ncc_schema.specs.Header.{IsHeader}
 use Rattle.ncc_header.specs.Answers.{Begins, Stops, Answers}
-use Rattle.ncc_header.specs.Decoder.{Took, limit_of}
-use Rattle.ncc_header.specs.Standing.{FailedOn, Feeds, IsWhole, front_taken}
+use Rattle.ncc_header.specs.Decoder.{Took, limit_of, HasFailed}
+use Rattle.ncc_header.specs.Standing.{FailedOn, Feeds, GoesOn, IsWhole, StopsForGood, front_taken}
 use Rattle.ncc_check.specs.declared.fault.FileFault.TheVariants.{Header as OfHeader, Layout as OfLayout}
 use Rattle.ncc_check.specs.declared.fault.Refusal.{Refusal}
 use Rattle.ncc_check.specs.declared.fault.Refusal.TheVariants.{Fault, Device, Memory}
 use Rattle.ncc_check.specs.Refusals.{refusal_of}
-use Rattle.ncc_check.specs.FromStore.{reads_for, RefusedOn, ReadsHeader, FedPiece, FailsPiece, IsEnough, HasEnough}
+use Rattle.ncc_check.specs.FromStore.{reads_for, RefusedOn, ReadsHeader, FedPiece, FailsPiece, IsEnough, HasEnough, SettledBy}
 
 pub refused_on : (bytes : List ℕ) (limit : ℕ) (e : HeaderError) (r : Refusal) → r ≡ refusal_of e → FailedOn bytes limit e → RefusedOn bytes limit r
 refused_on bytes limit (errors.Fault f) r is failed = subst (RefusedOn bytes limit) (sym is) failed
 refused_on bytes limit errors.Device r is failed = absurd failed
 refused_on bytes limit errors.Memory r is failed = subst (RefusedOn bytes limit) (sym is) tt
+
+-- ---- memory
+
+-- no other error is told as want of memory
+memory_alone : (e : HeaderError) → refusal_of e ≡ Memory → e ≡ errors.Memory
+memory_alone (errors.Fault f) is = absurd cc
+memory_alone errors.Device is = absurd cc
+memory_alone errors.Memory is = refl
+
+-- eight bytes need none
+pub failed_memory : (d : Decoder) (n : ℕ) (e : HeaderError) (r : Refusal) → r ≡ refusal_of e → r ≡ Memory → ¬ HasFailed d errors.Memory → (n ≤ 8 → e ≡ errors.Memory → HasFailed d errors.Memory) → 8 < n
+failed_memory d n e r is memory fresh few = elim (cases_lt 8 n) [
+  | inl past ↦ past
+  | inr within ↦ absurd (fresh (few within (memory_alone e (sym is ∙ memory))))
+]
+
+pub never_memory : (d : Decoder) (e : HeaderError) (r : Refusal) → r ≡ refusal_of e → r ≡ Memory → ¬ HasFailed d errors.Memory → (e ≡ errors.Memory → HasFailed d errors.Memory) → ⊥
+never_memory d e r is memory fresh failed = fresh (failed (memory_alone e (sym is ∙ memory)))
 
 -- ---- by turns
 
@@ -155,3 +173,55 @@ still_whole at size end (inl whole) more is = elim (cases_lt (end - at) 65536) [
 pub reads_to_end : (at end : ℕ) → (at % 65536 ≡ 0) ⊎ (at ≡ end) → at < end → reads_for at + 1 ≤ reads_for end
 reads_to_end at end (inl whole) more = omega (arith, whole, more)
 reads_to_end at end (inr all) more = absurd (omega (arith, all, more))
+
+-- ---- no read is made of what a settled front would bring
+
+abbrev pub OneStop : Type 0
+OneStop = (input : List ℕ) (limit : ℕ) (f g : HeaderFault) → Stops input limit f → Stops input limit g → f ≡ g
+
+abbrev IsTold : (front : List ℕ) (limit : ℕ) → Type 0
+IsTold front limit = ((h : Header) × Begins front limit h) ⊎ ((f : HeaderFault) × StopsForGood front limit f)
+
+-- where a front goes on, none before it is settled
+pub unsettled : StopStays → Apart → OneStop → (bytes : List ℕ) (limit m at : ℕ) → m ≤ at → GoesOn (take at bytes) limit → IsTold (take m bytes) limit → ⊥
+unsettled stays apart one bytes limit m at le goes settled = settled_is settled
+  where
+    rest : List ℕ
+    rest = drop m (take at bytes)
+
+    joined : take m bytes ++ rest ≡ take at bytes
+    joined = ap (λ (x : List ℕ). x ++ rest) (sym (take-take m at bytes le)) ∙ take-append-drop m (take at bytes)
+
+    stops : Stops (take m bytes ++ rest) limit goes.0
+    stops = subst (λ (x : List ℕ). Stops x limit goes.0) (sym joined) goes.1
+
+    settled_is : IsTold (take m bytes) limit → ⊥
+    settled_is (inl header) = apart (take m bytes ++ rest) limit header.0 goes.0 (begins_more (take m bytes) rest limit header.0 header.1) stops
+    settled_is (inr fault) =
+        let same = one (take m bytes ++ rest) limit fault.0 goes.0 (stays (take m bytes) rest limit fault.0 fault.1.0 fault.1.1) stops in
+        fault.1.1 (ap (λ (f : HeaderFault). f.kind) same ∙ goes.2)
+
+-- one read more is among those that settle it
+pub read_is_needed : StopStays → Apart → OneStop → (bytes : List ℕ) (limit at end n : ℕ) → (at % 65536 ≡ 0) ⊎ (at ≡ end) → at < end → (at ≡ 0) ⊎ GoesOn (take at bytes) limit
+    → SettledBy bytes limit n → (reads_for at + 1 ≤ n) × (at + 65536 ≤ n * 65536)
+read_is_needed stays apart one bytes limit at end n (inr all) more goes settled = absurd (omega (arith, all, more))
+read_is_needed stays apart one bytes limit at end n (inl whole) more (inl first) settled = (omega (arith, first, settled.0), omega (arith, first, settled.0))
+read_is_needed stays apart one bytes limit at end n (inl whole) more (inr goes) settled = elim (cases_lt at (n * 65536)) [
+  | inl before ↦ (omega (arith, whole, before), omega (arith, whole, before))
+  | inr past ↦ absurd (unsettled stays apart one bytes limit (n * 65536) at past goes settled.1)
+]
+
+-- and all reads are, where all bytes were taken
+pub reads_are_needed : StopStays → Apart → OneStop → (bytes : List ℕ) (limit at end n : ℕ) → at ≡ end → (at ≡ 0) ⊎ GoesOn (take at bytes) limit → SettledBy bytes limit n → (reads_for end ≤ n) × (end ≤ n * 65536)
+reads_are_needed stays apart one bytes limit at end n all (inl first) settled = (omega (arith, all, first), omega (arith, all, first))
+reads_are_needed stays apart one bytes limit at end n all (inr goes) settled = elim (cases_lt at (n * 65536)) [
+  | inl before ↦ (omega (arith, all, before), omega (arith, all, before))
+  | inr past ↦ absurd (unsettled stays apart one bytes limit (n * 65536) at past goes settled.1)
+]
+
+-- a piece after which more is wanted
+pub goes_after : (d e : Decoder) (bytes taken piece : List ℕ) (limit at size : ℕ) (fed : Fed) → fed ≡ More → FedPiece d e piece fed → Took d taken → limit_of d ≡ limit
+    → taken ++ piece ≡ take (at + size) bytes → GoesOn (take (at + size) bytes) limit
+goes_after d e bytes taken piece limit at size fed is f t limit_is next =
+    let feeds : Feeds taken piece (limit_of d) (Ok More) = subst (λ (x : Fed). Feeds taken piece (limit_of d) (Ok x)) is (f.feeds taken t) in
+    subst (λ (l : ℕ). GoesOn (take (at + size) bytes) l) limit_is (subst (λ (x : List ℕ). GoesOn x (limit_of d)) next feeds)

@@ -1,6 +1,8 @@
 -- What a decoder has taken of a store.
-use Rattle.std.specs.Prelude.{◌≡◌, ◌⊎◌, ℕ, ◌+◌, ◌/◌, ◌≤◌, min, Bool, List, [], ◌++◌, length, IsTrue, Result, Ok, Err}
+use Rattle.std.specs.Prelude.{◌≡◌, ◌⊎◌, ℕ, ◌+◌, ◌*◌, ◌/◌, ◌<◌, ◌≤◌, max, min, Bool, List, [], ◌++◌, length, take, IsTrue, Result, Ok, Err}
+use Rattle.ncc_store.specs.declared.store.Store.{Ghosts}
 use Rattle.ncc_schema.specs.declared.schema.Header.{Header}
+use Rattle.ncc_header.specs.declared.fault.Fault.{Fault}
 use Rattle.ncc_header.specs.declared.decoder.Decoder.{Decoder}
 use Rattle.ncc_header.specs.declared.standing.Fed.{Fed}
 use Rattle.ncc_header.specs.Answers.{Begins, Stops}
@@ -8,7 +10,7 @@ use Rattle.ncc_header.specs.Decoder.{Took, limit_of}
 use Rattle.ncc_header.specs.Standing.{StopsForGood, IsWhole, Feeds, front_taken}
 use Rattle.ncc_check.specs.declared.fault.FileFault.TheVariants.{Header as OfHeader, Layout as OfLayout}
 use Rattle.ncc_check.specs.declared.fault.Refusal.{Refusal}
-use Rattle.ncc_check.specs.declared.fault.Refusal.TheVariants.{Fault, Device, Memory}
+use Rattle.ncc_check.specs.declared.fault.Refusal.TheVariants as refusals
 
 -- how many reads of at most 65,536 bytes so many bytes take
 abbrev pub reads_for : (bytes : ℕ) → ℕ
@@ -18,12 +20,22 @@ reads_for bytes = (bytes + 65535) / 65536
 abbrev pub calls_for : (file limit : ℕ) → ℕ
 calls_for file limit = 1 + reads_for (min file limit)
 
+-- what so many reads bring begins with a header, or has a fault that stays, whatever follows
+abbrev pub SettledBy : (bytes : List ℕ) (limit reads : ℕ) → Type 0
+SettledBy bytes limit reads = (0 < reads) × (((h : Header) × Begins (take (reads * 65536) bytes) limit h)
+    ⊎ ((f : Fault) × StopsForGood (take (reads * 65536) bytes) limit f))
+
+-- where so many reads settle it, there were no more of them, beside so many calls before, and none ended further on
+pub record ReadsFew {S : Type 0} (g : Ghosts S) (old new : S) (bytes : List ℕ) (limit before : ℕ) : Type 0 where
+  pub calls : (n : ℕ) → SettledBy bytes limit n → g.calls new ≤ g.calls old + before + n
+  pub reach : (n : ℕ) → SettledBy bytes limit n → g.reach new ≤ max (g.reach old) (n * 65536)
+
 -- a decoder was refused these bytes, whatever follows, unless memory or the device failed
 abbrev pub RefusedOn : (bytes : List ℕ) (limit : ℕ) → Refusal → Type 0
-RefusedOn bytes limit (Fault (OfHeader f)) = StopsForGood bytes limit f
-RefusedOn bytes limit (Fault (OfLayout f)) = ⊥
-RefusedOn bytes limit Device = Unit {0}
-RefusedOn bytes limit Memory = Unit {0}
+RefusedOn bytes limit (refusals.Fault (OfHeader f)) = StopsForGood bytes limit f
+RefusedOn bytes limit (refusals.Fault (OfLayout f)) = ⊥
+RefusedOn bytes limit refusals.Device = Unit {0}
+RefusedOn bytes limit refusals.Memory = Unit {0}
 
 -- the decoder was fed this piece of the store's bytes
 pub record FedPiece (d e : Decoder) (piece : List ℕ) (fed : Fed) : Type 0 where
@@ -34,7 +46,7 @@ pub record FedPiece (d e : Decoder) (piece : List ℕ) (fed : Fed) : Type 0 wher
 -- the device failed, or the decoder was refused a piece, which is this one where the store tells its bytes
 abbrev pub FailsPiece : (told : Bool) → (there : List ℕ) → Decoder → Refusal → Type 0
 FailsPiece told there d e =
-    (e ≡ Device) ⊎ ((piece : List ℕ) × (IsTrue told → piece ≡ there) × ((taken : List ℕ) → Took d taken → RefusedOn (taken ++ piece) (limit_of d) e))
+    (e ≡ refusals.Device) ⊎ ((piece : List ℕ) × (IsTrue told → piece ≡ there) × ((taken : List ℕ) → Took d taken → RefusedOn (taken ++ piece) (limit_of d) e))
 
 -- all of the bytes that may take part were taken, or a whole header
 abbrev pub IsEnough : (taken rest : List ℕ) (limit : ℕ) → Type 0
@@ -49,10 +61,10 @@ pub record HasEnough (bytes : List ℕ) (limit : ℕ) (taken : List ℕ) : Type 
 -- what was found out about the header of bytes
 abbrev pub ReadsHeader : (bytes : List ℕ) (limit : ℕ) → Result Header Refusal → Type 0
 ReadsHeader bytes limit (Ok h) = Begins bytes limit h
-ReadsHeader bytes limit (Err (Fault (OfHeader f))) = Stops bytes limit f
-ReadsHeader bytes limit (Err (Fault (OfLayout f))) = ⊥
-ReadsHeader bytes limit (Err Device) = Unit {0}
-ReadsHeader bytes limit (Err Memory) = Unit {0}
+ReadsHeader bytes limit (Err (refusals.Fault (OfHeader f))) = Stops bytes limit f
+ReadsHeader bytes limit (Err (refusals.Fault (OfLayout f))) = ⊥
+ReadsHeader bytes limit (Err refusals.Device) = Unit {0}
+ReadsHeader bytes limit (Err refusals.Memory) = Unit {0}
 
 -- some input begins with it
 abbrev pub IsBegun : Header → Type 0

@@ -1,10 +1,10 @@
 //! The verdict on a file.
 
-ghost use Rattle.std.specs.Prelude.{◌≡◌, ℕ, IfOk, ◌+◌, ◌≤◌, max, length, IsTrue, OnOk};
-ghost use Rattle.ncc_store.specs.Store.{Unmoved, KeepsImages};
+ghost use Rattle.std.specs.Prelude.{◌≡◌, ℕ, IfOk, ◌+◌, ◌≤◌, length, IsTrue, OnOk, Err};
+ghost use Rattle.ncc_store.specs.Reading.{ReadsOnly};
 ghost use Rattle.ncc_check.specs.Passes.{HasOwnElements};
 ghost use Rattle.ncc_check.specs.Checks.{Checks, CountsAs, Reports};
-ghost use Rattle.ncc_check.specs.FromStore.{calls_for, IsBegun};
+ghost use Rattle.ncc_check.specs.FromStore.{calls_for, IsBegun, ReadsFew};
 ghost use Rattle.ncc_layout.specs.Placed.{records_of_file};
 ghost use Rattle.ncc_schema.specs.declared.schema.Header.{Header as TheHeader};
 
@@ -30,14 +30,12 @@ fn records_of(placed: Placed) -> u64
 /// fault. The store is asked for its length once, and for pieces of at most 65,536 bytes.
 pub fn check<S: Store>(alloc: Global, store: &mut S, limit: u64) -> Result<Report, Refusal>
     ensures answers { IsTrue S.tells_bytes → Checks (S.bytes store.old) limit result }
+    ensures few { IsTrue S.tells_bytes → length (S.bytes store.old) ≤ 8 → result ≡ Err Refusal.Memory → ⊥ }
     ensures own { IsTrue S.tells_bytes → OnOk result (HasOwnElements (S.bytes store.old) limit) }
     ensures some { IfOk result (λ r. (h : TheHeader) × (file : ℕ) × IsBegun h × Reports h file r) }
-    ensures unmoved { Unmoved S.bytes S.images S.moment S.images_since store.old store.new }
-    ensures kept { KeepsImages (S.images store.old) (S.images store.new) }
-    ensures count { CountsAs (S.failures store.old) (S.failures store.new) result }
-    ensures calls { IsTrue S.tells_bytes
-        → S.calls store.new ≤ S.calls store.old + calls_for (length (S.bytes store.old)) limit }
-    ensures reach { S.reach store.new ≤ max (S.reach store.old) limit }
+    ensures store { ReadsOnly S.Store store.old store.new (λ a b. CountsAs a b result) S.tells_bytes
+        (calls_for (length (S.bytes store.old)) limit) limit }
+    ensures settled { IsTrue S.tells_bytes → ReadsFew S.Store store.old store.new (S.bytes store.old) limit 1 }
 {
     passing_elements_are_apart();
     let found = examine(alloc, store, limit)?;

@@ -1,12 +1,12 @@
 //! Whether a file passes, and what it holds.
 
-ghost use Rattle.std.specs.Prelude.{◌≡◌, ◌+◌, ◌≤◌, max, length, IsTrue, IfOk, IfErr};
-ghost use Rattle.ncc_store.specs.Store.{Unmoved, KeepsImages};
+ghost use Rattle.std.specs.Prelude.{◌≡◌, ◌+◌, ◌≤◌, ℕ, length, IsTrue, IfOk, IfErr, Err};
+ghost use Rattle.ncc_store.specs.Reading.{ReadsOnly};
 ghost use Rattle.ncc_layout.specs.Sizes.{AreSizes};
 ghost use Rattle.ncc_layout.specs.Placed.{Holds, file_length_of};
 ghost use Rattle.ncc_schema.specs.Schema.{places_of};
 ghost use Rattle.ncc_check.specs.Checks.{CountsAs, Refuses, Finds};
-ghost use Rattle.ncc_check.specs.FromStore.{calls_for, IsBegun};
+ghost use Rattle.ncc_check.specs.FromStore.{calls_for, IsBegun, ReadsFew};
 
 use crate::fault::Refusal;
 use crate::judging::{placed_of, sizes_of};
@@ -28,16 +28,14 @@ pub struct Found {
 pub fn examine<S: Store>(alloc: Global, store: &mut S, limit: u64) -> Result<Found, Refusal>
     ensures finds { IsTrue S.tells_bytes → IfOk result (λ x. Finds (S.bytes store.old) limit x.header x.placed) }
     ensures refuses { IsTrue S.tells_bytes → IfErr result (Refuses (S.bytes store.old) limit) }
+    ensures few { IsTrue S.tells_bytes → length (S.bytes store.old) ≤ 8 → result ≡ Err Refusal.Memory → ⊥ }
     ensures laid { IfOk result (λ x. Holds x.header.schema (places_of x.header.places) x.header.length
         (file_length_of x.placed) x.placed) }
     ensures begun { IfOk result (λ x. IsBegun x.header) }
     ensures sizes { IfOk result (λ x. AreSizes x.header.schema x.sizes) }
-    ensures unmoved { Unmoved S.bytes S.images S.moment S.images_since store.old store.new }
-    ensures kept { KeepsImages (S.images store.old) (S.images store.new) }
-    ensures count { CountsAs (S.failures store.old) (S.failures store.new) result }
-    ensures calls { IsTrue S.tells_bytes
-        → S.calls store.new ≤ S.calls store.old + calls_for (length (S.bytes store.old)) limit }
-    ensures reach { S.reach store.new ≤ max (S.reach store.old) limit }
+    ensures store { ReadsOnly S.Store store.old store.new (λ a b. CountsAs a b result) S.tells_bytes
+        (calls_for (length (S.bytes store.old)) limit) limit }
+    ensures settled { IsTrue S.tells_bytes → ReadsFew S.Store store.old store.new (S.bytes store.old) limit 1 }
 {
     store_laws::unmoved_calls_join::<S>();
     let file_length = store.len()?;

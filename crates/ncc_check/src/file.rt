@@ -37,7 +37,7 @@ impl<S: Store> NcFile<S> {
     ghost use Rattle.ncc_layout.specs.Placed.{record_size_of_file};
     ghost use Rattle.ncc_store.specs.Store.{LeavesOnly, Only};
     ghost use Rattle.std.specs.Prelude.{true, Err, IfErr, OnErr};
-    ghost use Rattle.ncc_check.specs.Files.{store_of, schema_of, placed_of, must_reopen};
+    ghost use Rattle.ncc_check.specs.Files.{ReadsFile, store_of, schema_of, placed_of, must_reopen};
 
     /// A file that passed.
     pub(crate) fn new(store: S, schema: Schema, placed: Placed) -> NcFile<S>
@@ -82,14 +82,7 @@ impl<S: Store> NcFile<S> {
         requires { place + length out.old ≤ file_length_of (placed_of self.old) }
         ensures told { IsTrue S.tells_bytes
             → OnOk result (out.new ≡ take (length out.old) (drop place (S.bytes (store_of self.old)))) }
-        ensures schema { schema_of self.new ≡ schema_of self.old }
-        ensures placed { placed_of self.new ≡ placed_of self.old }
-        ensures reopen { must_reopen self.new ≡ must_reopen self.old }
-        ensures unmoved { Unmoved S.bytes S.images S.moment S.images_since (store_of self.old) (store_of self.new) }
-        ensures kept { KeepsImages (S.images (store_of self.old)) (S.images (store_of self.new)) }
-        ensures count { Counts (S.failures (store_of self.old)) (S.failures (store_of self.new)) result }
-        ensures calls { S.calls (store_of self.new) ≤ S.calls (store_of self.old) + 1 }
-        ensures reach { S.reach (store_of self.new) ≤ max (S.reach (store_of self.old)) (place + length out.old) }
+        ensures file { ReadsFile self.old self.new (λ a b. Counts a b result) true 1 (place + length out.old) }
     {
         self.store.read_at(place, out)
     }

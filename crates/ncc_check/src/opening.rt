@@ -1,10 +1,10 @@
 //! Opening a file that passes.
 
-ghost use Rattle.std.specs.Prelude.{◌≡◌, ◌+◌, ◌≤◌, max, false, length, IsTrue, IfOk, IfErr, OnOk, MatchResult};
-ghost use Rattle.ncc_store.specs.Store.{Unmoved, KeepsImages};
+ghost use Rattle.std.specs.Prelude.{◌≡◌, ◌+◌, ◌≤◌, ℕ, false, length, IsTrue, IfOk, IfErr, OnOk, MatchResult, ◌≢◌};
+ghost use Rattle.ncc_store.specs.Reading.{ReadsOnly};
 ghost use Rattle.ncc_check.specs.Passes.{HasOwnElements};
 ghost use Rattle.ncc_check.specs.Checks.{Refuses, RefusalCounts, Opens, StandsIn};
-ghost use Rattle.ncc_check.specs.FromStore.{calls_for};
+ghost use Rattle.ncc_check.specs.FromStore.{calls_for, ReadsFew};
 ghost use Rattle.ncc_check.specs.Files.{store_of, schema_of, placed_of, must_reopen};
 
 use crate::examining::{Found, examine};
@@ -22,23 +22,17 @@ pub fn open<S: Store>(alloc: Global, store: S, limit: u64) -> Result<NcFile<S>, 
         → IfOk result (λ f. Opens (S.bytes store) limit (schema_of f) (placed_of f)) }
     ensures own { IsTrue S.tells_bytes → OnOk result (HasOwnElements (S.bytes store) limit) }
     ensures refused { IsTrue S.tells_bytes → IfErr result (λ e. Refuses (S.bytes store) limit e.1) }
+    ensures few { IsTrue S.tells_bytes → length (S.bytes store) ≤ 8 → IfErr result (λ e. e.1 ≢ Refusal.Memory) }
     ensures stands { IfOk result (λ f. StandsIn S.tells_bytes (S.bytes (store_of f)) (schema_of f) (placed_of f)) }
     ensures fresh { IfOk result (λ f. must_reopen f ≡ false) }
-    ensures unmoved { MatchResult result
-        (λ f. Unmoved S.bytes S.images S.moment S.images_since store (store_of f))
-        (λ e. Unmoved S.bytes S.images S.moment S.images_since store e.0) }
-    ensures kept { MatchResult result
-        (λ f. KeepsImages (S.images store) (S.images (store_of f)))
-        (λ e. KeepsImages (S.images store) (S.images e.0)) }
-    ensures count { MatchResult result
-        (λ f. S.failures (store_of f) ≡ S.failures store)
-        (λ e. RefusalCounts (S.failures store) (S.failures e.0) e.1) }
-    ensures calls { IsTrue S.tells_bytes → MatchResult result
-        (λ f. S.calls (store_of f) ≤ S.calls store + calls_for (length (S.bytes store)) limit)
-        (λ e. S.calls e.0 ≤ S.calls store + calls_for (length (S.bytes store)) limit) }
-    ensures reach { MatchResult result
-        (λ f. S.reach (store_of f) ≤ max (S.reach store) limit)
-        (λ e. S.reach e.0 ≤ max (S.reach store) limit) }
+    ensures store { MatchResult result
+        (λ f. ReadsOnly S.Store store (store_of f) (λ a b. b ≡ a) S.tells_bytes
+        (calls_for (length (S.bytes store)) limit) limit)
+        (λ e. ReadsOnly S.Store store e.0 (λ a b. RefusalCounts a b e.1) S.tells_bytes
+        (calls_for (length (S.bytes store)) limit) limit) }
+    ensures settled { IsTrue S.tells_bytes → MatchResult result
+        (λ f. ReadsFew S.Store store (store_of f) (S.bytes store) limit 1)
+        (λ e. ReadsFew S.Store store e.0 (S.bytes store) limit 1) }
 {
     passing_elements_are_apart();
     let mut store = store;

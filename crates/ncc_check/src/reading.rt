@@ -1,10 +1,11 @@
 //! Reading the header of a file from a store.
 
-ghost use Rattle.std.specs.Prelude.{◌≡◌, ◌⊎◌, ◌+◌, ◌≤◌, ℕ, List, [], length, take, drop, min, max, Err, IsTrue, IfOk, IfErr, OnOk};
-ghost use Rattle.ncc_store.specs.Store.{Unmoved, KeepsImages};
-ghost use Rattle.ncc_header.specs.Decoder.{Took, limit_of};
+ghost use Rattle.std.specs.Prelude.{◌≡◌, ◌⊎◌, ◌+◌, ◌≤◌, ℕ, List, [], true, length, take, drop, min, Err, IsTrue, IfOk, IfErr, OnOk, ◌<◌};
+ghost use Rattle.ncc_store.specs.Reading.{ReadsOnly};
+ghost use Rattle.ncc_header.specs.Decoder.{Took, limit_of, HasFailed};
+ghost use Rattle.ncc_header.specs.declared.fault.HeaderError.TheVariants as errors;
 ghost use Rattle.ncc_check.specs.Checks.{CountsAs};
-ghost use Rattle.ncc_check.specs.FromStore.{calls_for, reads_for, FedPiece, FailsPiece, HasEnough, ReadsHeader, IsBegun};
+ghost use Rattle.ncc_check.specs.FromStore.{calls_for, reads_for, FedPiece, FailsPiece, HasEnough, ReadsHeader, IsBegun, ReadsFew};
 
 use crate::fault::Refusal;
 use ncc_header::{Decoder, Fed, Header, laws};
@@ -24,16 +25,16 @@ fn feed_piece<S: Store>(
     requires there { IsTrue S.tells_bytes → at + length room.old ≤ length (S.bytes store.old) }
     requires size { length room.old ≤ 65536 }
     requires took { (taken : List ℕ) × Took decoder.old taken }
+    requires fresh { ¬ HasFailed decoder.old errors.Memory }
     ensures ok { IfOk result (λ fed. FedPiece decoder.old decoder.new room.new fed) }
     ensures told { IsTrue S.tells_bytes
         → OnOk result (room.new ≡ take (length room.old) (drop at (S.bytes store.old))) }
     ensures err { IfErr result
         (FailsPiece S.tells_bytes (take (length room.old) (drop at (S.bytes store.old))) decoder.old) }
-    ensures unmoved { Unmoved S.bytes S.images S.moment S.images_since store.old store.new }
-    ensures kept { KeepsImages (S.images store.old) (S.images store.new) }
-    ensures count { CountsAs (S.failures store.old) (S.failures store.new) result }
-    ensures calls { S.calls store.new ≤ S.calls store.old + 1 }
-    ensures reach { S.reach store.new ≤ max (S.reach store.old) (at + length room.old) }
+    ensures fresh { OnOk result (¬ HasFailed decoder.new errors.Memory) }
+    ensures memory { result ≡ Err Refusal.Memory → (taken : List ℕ) → Took decoder.old taken
+        → 8 < length taken + length room.old }
+    ensures store { ReadsOnly S.Store store.old store.new (λ a b. CountsAs a b result) true 1 (at + length room.old) }
 {
     store.read_at(at, room)?;
     match decoder.feed(room) {
@@ -46,19 +47,21 @@ fn feed_piece<S: Store>(
 fn feed_front<S: Store>(store: &mut S, decoder: &mut Decoder, end: u64) -> Result<(), Refusal>
     requires there { IsTrue S.tells_bytes → end ≤ length (S.bytes store.old) }
     requires took { Took decoder.old [] }
+    requires fresh { ¬ HasFailed decoder.old errors.Memory }
     requires covers { IsTrue S.tells_bytes → (limit_of decoder.old ≤ end) ⊎ (end ≡ length (S.bytes store.old)) }
     ensures ok { OnOk result ((taken : List ℕ) × Took decoder.new taken
         × (IsTrue S.tells_bytes → HasEnough (S.bytes store.old) (limit_of decoder.old) taken)) }
     ensures limit { OnOk result (limit_of decoder.new ≡ limit_of decoder.old) }
     ensures err { IfErr result (λ e. IsTrue S.tells_bytes
         → ReadsHeader (S.bytes store.old) (limit_of decoder.old) (Err e)) }
-    ensures unmoved { Unmoved S.bytes S.images S.moment S.images_since store.old store.new }
-    ensures kept { KeepsImages (S.images store.old) (S.images store.new) }
-    ensures count { CountsAs (S.failures store.old) (S.failures store.new) result }
-    ensures calls { S.calls store.new ≤ S.calls store.old + reads_for end }
-    ensures reach { S.reach store.new ≤ max (S.reach store.old) end }
+    ensures fresh { OnOk result (¬ HasFailed decoder.new errors.Memory) }
+    ensures memory { result ≡ Err Refusal.Memory → 8 < end }
+    ensures store { ReadsOnly S.Store store.old store.new (λ a b. CountsAs a b result) true (reads_for end) end }
+    ensures settled { IsTrue S.tells_bytes
+        → ReadsFew S.Store store.old store.new (S.bytes store.old) (limit_of decoder.old) 0 }
 {
     laws::stop_stays();
+    laws::header_or_stop();
     store_laws::unmoved_calls_join::<S>();
     let mut piece = [0; PIECE as usize];
     let mut at = 0;
@@ -84,11 +87,10 @@ pub fn header_of<S: Store>(
     requires { IsTrue S.tells_bytes → file_length ≡ length (S.bytes store.old) }
     ensures reads { IsTrue S.tells_bytes → ReadsHeader (S.bytes store.old) limit result }
     ensures begun { IfOk result IsBegun }
-    ensures unmoved { Unmoved S.bytes S.images S.moment S.images_since store.old store.new }
-    ensures kept { KeepsImages (S.images store.old) (S.images store.new) }
-    ensures count { CountsAs (S.failures store.old) (S.failures store.new) result }
-    ensures calls { S.calls store.new ≤ S.calls store.old + reads_for (min file_length limit) }
-    ensures reach { S.reach store.new ≤ max (S.reach store.old) limit }
+    ensures memory { result ≡ Err Refusal.Memory → 8 < file_length }
+    ensures store { ReadsOnly S.Store store.old store.new (λ a b. CountsAs a b result) true
+        (reads_for (min file_length limit)) limit }
+    ensures settled { IsTrue S.tells_bytes → ReadsFew S.Store store.old store.new (S.bytes store.old) limit 0 }
 {
     laws::header_or_stop();
     laws::header_is_begun();
@@ -104,12 +106,10 @@ pub fn header_of<S: Store>(
 /// The header at the front of the file that a store holds, of at most `limit` bytes.
 pub fn header_in<S: Store>(alloc: Global, store: &mut S, limit: u64) -> Result<Header, Refusal>
     ensures reads { IsTrue S.tells_bytes → ReadsHeader (S.bytes store.old) limit result }
-    ensures unmoved { Unmoved S.bytes S.images S.moment S.images_since store.old store.new }
-    ensures kept { KeepsImages (S.images store.old) (S.images store.new) }
-    ensures count { CountsAs (S.failures store.old) (S.failures store.new) result }
-    ensures calls { IsTrue S.tells_bytes
-        → S.calls store.new ≤ S.calls store.old + calls_for (length (S.bytes store.old)) limit }
-    ensures reach { S.reach store.new ≤ max (S.reach store.old) limit }
+    ensures few { IsTrue S.tells_bytes → length (S.bytes store.old) ≤ 8 → result ≡ Err Refusal.Memory → ⊥ }
+    ensures store { ReadsOnly S.Store store.old store.new (λ a b. CountsAs a b result) S.tells_bytes
+        (calls_for (length (S.bytes store.old)) limit) limit }
+    ensures settled { IsTrue S.tells_bytes → ReadsFew S.Store store.old store.new (S.bytes store.old) limit 1 }
 {
     store_laws::unmoved_calls_join::<S>();
     let file_length = store.len()?;

@@ -10,9 +10,9 @@ ghost use Rattle.ncc_layout.specs.declared.placed_file.Placed.{Placed};
 ghost use Rattle.ncc_layout.specs.Plans.{IsKnown};
 ghost use Rattle.ncc_check.specs.Checks.{Opens};
 ghost use Rattle.ncc_header.specs.Answers.{Begins, IsLeft};
-ghost use Rattle.ncc_store.specs.DiskFile.{is_writable};
 ghost use Rattle.ncc_store.specs.File.{file_of, file_ready, file_failures};
-ghost use Rattle.ncc_store.specs.Store.{KeepsImages, LeavesOnly, Only, Unmoved};
+ghost use Rattle.ncc_store.specs.Reading.{Rests as StoreRests};
+ghost use Rattle.ncc_store.specs.Store.{LeavesOnly, Only, Unmoved};
 ghost use Rattle.ncc_check.specs.Passes.{HasOwnElements, Passes, PassesWith};
 ghost use Rattle.ncc_check.specs.FromStore.{calls_for};
 ghost use Rattle.ncc_build.specs.Dataset.{Dataset, IsDataset};
@@ -25,8 +25,9 @@ ghost use Rattle.ncc_schema.specs.declared.schema.Schema.{Schema};
 ghost use Rattle.ncc_convert.specs.Lines.{converted_line};
 ghost use Rattle.ncc_engines.specs.Converting.{IsRefusalLine, HasConvertedFront, HasRefusalFront};
 ghost use Rattle.ncc_engines.specs.Planning.{IsConvertible};
-ghost use Rattle.ncc_making.specs.Making.{IsConverted, FewCalls};
+ghost use Rattle.ncc_making.specs.Making.{IsConverted, FailsAny, FewCalls};
 ghost use Rattle.ncc_making.specs.Names.{MayLeave, Rests, IsUnnamed, IsNoneOrWhole, IsPublished};
+ghost use Rattle.ncc_engines.specs.Answers.{Blames, Fails};
 ghost use Rattle.ncc_engines.specs.Extending.{ExtendsInto, IsFilled, FillsUp, IsFilledSome, IsFilledWhole, IsFrontOfRefusal, TakesNone};
 ghost use Rattle.ncc_engines.specs.Listing.{Lists};
 ghost use Rattle.ncc_csv.specs.Named.{IsFirstNamed};
@@ -38,7 +39,7 @@ use ncc_engines::{Answer, csv_engine, extend_engine, list_engine};
 use ncc_header::{Sink, Source};
 use ncc_lines::{FloatStyle, Progress};
 use ncc_making::{Entry, Target, convert_store};
-use ncc_store::{FileStore, Store};
+use ncc_store::{FileStore, Store, SystemFile};
 use std::alloc::Global;
 
 /// Lists a source onto a sink, with the program's limit.
@@ -53,12 +54,7 @@ pub fn listed<R: Source, W: Sink>(
     ensures exactly { result ≡ Answer.Passed → IfSome (R.left source.old) (λ input.
         (h : Header) × Begins input LIMIT h × IsLeft (R.left source.new) input h) }
     ensures most { LosesAtMost (R.left source.old) (R.left source.new) LIMIT }
-    ensures quiet { (result ≡ Answer.Device → ⊥)
-        → (R.failures source.new ≡ R.failures source.old) × (W.failures sink.new ≡ W.failures sink.old) }
-    ensures device { result ≡ Answer.Device
-        → Rose (R.failures source.old) (R.failures source.new) ⊎ Rose (W.failures sink.old) (W.failures sink.new) }
-    ensures still { (R.failures source.new ≡ R.failures source.old → ⊥)
-        → W.calls sink.new ≡ W.calls sink.old }
+    ensures fails { Fails W.Sink sink.old sink.new result (R.failures source.old) (R.failures source.new) }
 {
     list_engine(alloc, source, LIMIT, style, sink)
 }
@@ -75,18 +71,13 @@ pub fn selected<S: Store, W: Sink, P: Progress>(
         × SelectsInto (S.bytes store) LIMIT selecting.entry.variable.now selecting.entry.pick selecting.entry.style
         selecting.entry.texts result.1 out }
     ensures own { IsTrue S.tells_bytes → result.1 ≡ Answer.Passed → HasOwnElements (S.bytes store) LIMIT }
-    ensures unmoved { Unmoved S.bytes S.images S.moment S.images_since store result.0 }
-    ensures kept { KeepsImages (S.images store) (S.images result.0) }
-    ensures quiet { (result.1 ≡ Answer.Device → ⊥)
-        → (S.failures result.0 ≡ S.failures store) × (W.failures sink.new ≡ W.failures sink.old) }
-    ensures device { result.1 ≡ Answer.Device
-        → Rose (S.failures store) (S.failures result.0) ⊎ Rose (W.failures sink.old) (W.failures sink.new) }
     ensures calls { IsTrue S.tells_bytes → (h : Header) → PassesWith (S.bytes store) LIMIT h
         → (number : Option ℕ) → IsFirstNamed h.schema.vars selecting.entry.variable.now number
         → S.calls result.0 ≤ S.calls store + calls_for (length (S.bytes store)) LIMIT
         + value_calls (contents_of (S.bytes store) h) selecting.entry.pick number }
     ensures stopped { IsTrue S.tells_bytes → (Passes (S.bytes store) LIMIT → ⊥)
         → S.calls result.0 ≤ S.calls store + calls_for (length (S.bytes store)) LIMIT }
+    ensures rests { StoreRests S.Store store result.0 (Blames W.Sink sink.old sink.new result.1) }
 {
     let Selecting {
         file: _,
@@ -155,33 +146,26 @@ pub fn extended<S: Store, W: Sink>(
     ensures none { extending.entry.more ≡ 0 → Unmoved S.bytes S.images S.moment S.images_since store result.0 }
     ensures refused { IsTrue S.tells_bytes → (Passes (S.bytes store) LIMIT → ⊥)
         → Unmoved S.bytes S.images S.moment S.images_since store result.0 }
-    ensures still { (S.failures result.0 ≡ S.failures store → ⊥) → W.calls sink.new ≡ W.calls sink.old }
     ensures calls { IsTrue S.tells_bytes
         → S.calls result.0 ≤ S.calls store + calls_for (length (S.bytes store)) LIMIT + 4 * extending.entry.more + 2 }
     ensures calls_none { IsTrue S.tells_bytes → (extending.entry.more ≡ 0) ⊎ TakesNone (S.bytes store) LIMIT
         → S.calls result.0 ≤ S.calls store + calls_for (length (S.bytes store)) LIMIT }
     ensures reach { S.reach result.0 ≤ max (S.reach store) LIMIT }
-    ensures quiet { (result.1 ≡ Answer.Device → ⊥)
-        → (S.failures result.0 ≡ S.failures store) × (W.failures sink.new ≡ W.failures sink.old) }
-    ensures device { result.1 ≡ Answer.Device
-        → Rose (S.failures store) (S.failures result.0) ⊎ Rose (W.failures sink.old) (W.failures sink.new) }
+    ensures fails { Fails W.Sink sink.old sink.new result.1 (S.failures store) (S.failures result.0) }
 {
     extend_engine(alloc, store, LIMIT, extending.more, sink)
 }
 
-/// The same over a file of the disk. One that is to be written has its lock from before it is checked to the end.
-pub fn extended_file<W: Sink>(
+/// The same over any file. One of the disk that is to be written has its lock from before it is checked to the end.
+pub fn extended_file<F: SystemFile, W: Sink>(
     alloc: Global,
-    store: FileStore,
+    store: FileStore<F>,
     extending: Extending<'_>,
     sink: &mut W,
-) -> (FileStore, Answer)
+) -> (FileStore<F>, Answer)
     requires ready { 0 < extending.more → file_ready store ≡ true }
-    requires writable { 0 < extending.more → is_writable (file_of store) ≡ true }
-    ensures device { result.1 ≡ Answer.Device
-        → Rose (file_failures store) (file_failures result.0) ⊎ Rose (W.failures sink.old) (W.failures sink.new) }
-    ensures quiet { (result.1 ≡ Answer.Device → ⊥)
-        → (file_failures result.0 ≡ file_failures store) × (W.failures sink.new ≡ W.failures sink.old) }
+    requires sound { 0 < extending.more → F.sound (file_of store) ≡ true }
+    ensures fails { Fails W.Sink sink.old sink.new result.1 (file_failures store) (file_failures result.0) }
 {
     extended(alloc, store, extending, sink)
 }
@@ -240,14 +224,6 @@ pub fn converted<S: Store + Drop, T: Target, W: Sink, P: Progress>(
         → Puts (W.put sink.old) (W.put sink.new) (converted_line converting.entry.version) }
     ensures printed { result.1 ≡ Answer.Device
         → (W.put sink.new ≡ W.put sink.old) ⊎ Rose (W.failures sink.old) (W.failures sink.new) }
-    ensures quiet { result.1 ≢ Answer.Device → (S.failures result.0 ≡ S.failures store)
-        × (T.failures target.new ≡ T.failures target.old) × (W.failures sink.new ≡ W.failures sink.old) }
-    ensures device { result.1 ≡ Answer.Device → Rose (S.failures store) (S.failures result.0)
-        ⊎ Rose (T.failures target.old) (T.failures target.new) ⊎ Rose (W.failures sink.old) (W.failures sink.new) }
-    ensures still { (S.failures result.0 ≡ S.failures store → ⊥)
-        ⊎ (T.failures target.new ≡ T.failures target.old → ⊥) → W.calls sink.new ≡ W.calls sink.old }
-    ensures unmoved { Unmoved S.bytes S.images S.moment S.images_since store result.0 }
-    ensures kept { KeepsImages (S.images store) (S.images result.0) }
     ensures calls { IsTrue S.tells_bytes
         → FewCalls (S.bytes store) LIMIT converting.entry.version (S.calls store) (S.calls result.0) }
     ensures calls_refused { IsTrue S.tells_bytes → (text : List ℕ)
@@ -263,6 +239,8 @@ pub fn converted<S: Store + Drop, T: Target, W: Sink, P: Progress>(
     ensures halted { IsTrue S.tells_bytes → result.1 ≡ Answer.Device → (W.put sink.new ≡ W.put sink.old)
         ⊎ HasRefusalFront (S.bytes store) LIMIT converting.entry.version (W.put sink.old) (W.put sink.new)
         ⊎ HasConvertedFront (S.bytes store) LIMIT converting.entry.version (W.put sink.old) (W.put sink.new) }
+    ensures rests { StoreRests S.Store store result.0
+        (FailsAny (T.failures target.old) (T.failures target.new) W.Sink sink.old sink.new result.1) }
 {
     convert_store(
         alloc,

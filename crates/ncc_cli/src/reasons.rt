@@ -76,7 +76,7 @@ pub fn reason_of(kind: ErrorKind) -> Reason {
 
 /// Why a call of a file failed last.
 pub fn reason_in(store: &FileStore) -> Reason {
-    match store.file().fault() {
+    match store.fault() {
         Some(kind) => reason_of(kind),
         None => Reason::Other,
     }

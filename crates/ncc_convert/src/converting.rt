@@ -1,12 +1,11 @@
 //! Writes the dataset of an open file in the version of a planned schema.
 
-ghost use Rattle.std.specs.Prelude.{◌≡◌, ◌+◌, ◌≤◌, max, ℕ, Err, length, OnOk};
+ghost use Rattle.std.specs.Prelude.{◌≡◌, ◌≤◌, ℕ, Err, length, true, OnOk};
 ghost use Rattle.ncc_build.specs.Builds.{schema_of as planned_schema};
 ghost use Rattle.ncc_build.specs.Dataset.{slabs_of};
 ghost use Rattle.ncc_build.specs.File.{header_of};
-ghost use Rattle.ncc_store.specs.Store.{Unmoved, KeepsImages};
 ghost use Rattle.ncc_layout.specs.Placed.{file_length_of};
-ghost use Rattle.ncc_check.specs.Files.{store_of, schema_of, placed_of, must_reopen};
+ghost use Rattle.ncc_check.specs.Files.{ReadsFile, store_of, schema_of, placed_of};
 ghost use Rattle.ncc_write.specs.Writing.{Went};
 ghost use Rattle.ncc_convert.specs.Converting.{ConvertCounts, ConvertsAs, IsSomeFile, ReadsAs, halt_of};
 ghost use Rattle.ncc_convert.specs.Copying.{pieces_of};
@@ -53,17 +52,9 @@ pub fn convert<S: Store, W: Sink + Drop, P: Progress>(
         → Went (W.put sink) (W.put result.0) (ReadsAs S.tells_bytes (S.bytes (store_of file.old))
         (placed_of file.old) (planned_schema built) limit)) }
     ensures memory { result.1 ≡ Err Halt.Memory → (result.0 ≡ sink) × (file.new ≡ file.old) }
-    ensures schema { schema_of file.new ≡ schema_of file.old }
-    ensures placed { placed_of file.new ≡ placed_of file.old }
-    ensures reopen { must_reopen file.new ≡ must_reopen file.old }
-    ensures unmoved { Unmoved S.bytes S.images S.moment S.images_since (store_of file.old) (store_of file.new) }
-    ensures kept { KeepsImages (S.images (store_of file.old)) (S.images (store_of file.new)) }
-    ensures count { ConvertCounts (S.failures (store_of file.old)) (S.failures (store_of file.new))
-        (W.failures sink) (W.failures result.0) result.1 }
-    ensures calls { S.calls (store_of file.new) ≤ S.calls (store_of file.old)
-        + pieces_of (planned_schema built) (slabs_of (planned_schema built)) }
-    ensures reach { S.reach (store_of file.new)
-        ≤ max (S.reach (store_of file.old)) (file_length_of (placed_of file.old)) }
+    ensures file { ReadsFile file.old file.new
+        (λ a b. ConvertCounts a b (W.failures sink) (W.failures result.0) result.1) true
+        (pieces_of (planned_schema built) (slabs_of (planned_schema built))) (file_length_of (placed_of file.old)) }
 {
     dataset_told();
     complete_when_taken();

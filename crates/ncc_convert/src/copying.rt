@@ -1,10 +1,9 @@
 //! Copies the slabs of an open file to a writer.
 
-ghost use Rattle.std.specs.Prelude.{◌≡◌, ◌⊎◌, ◌+◌, ◌<◌, ◌≤◌, max, ℕ, List, Option, None, length, IsOk, OnOk, OnErr};
+ghost use Rattle.std.specs.Prelude.{◌≡◌, ◌⊎◌, ◌+◌, ◌<◌, ◌≤◌, ℕ, List, Option, None, length, true, IsOk, OnOk, OnErr};
 ghost use Rattle.ncc_values.specs.Failures.{Rose};
-ghost use Rattle.ncc_store.specs.Store.{Unmoved, KeepsImages};
 ghost use Rattle.ncc_layout.specs.Placed.{file_length_of};
-ghost use Rattle.ncc_check.specs.Files.{store_of, schema_of, placed_of, must_reopen};
+ghost use Rattle.ncc_check.specs.Files.{ReadsFile, store_of, schema_of, placed_of};
 ghost use Rattle.ncc_write.specs.Writer.{schema_in, sink_in, taken_in, Stands};
 ghost use Rattle.ncc_write.specs.Writing.{data_length, expected, Standing};
 ghost use Rattle.ncc_convert.specs.Copying.{Copies, CopyCounts, Expects, HasFront, pieces_left};
@@ -47,18 +46,11 @@ fn copy_piece<S: Store, W: Sink, P: Progress>(
     ensures more { OnOk result (taken_in writer.old < taken_in writer.new) }
     ensures some { 1 ≤ pieces_left writer.old }
     ensures fewer { OnOk result (pieces_left writer.new + 1 ≤ pieces_left writer.old) }
-    ensures calls { S.calls (store_of file.new) ≤ S.calls (store_of file.old) + 1 }
     ensures planned { schema_in writer.new ≡ schema_in writer.old }
     ensures room { length buffer.new ≡ length buffer.old }
-    ensures schema { schema_of file.new ≡ schema_of file.old }
-    ensures placed { placed_of file.new ≡ placed_of file.old }
-    ensures reopen { must_reopen file.new ≡ must_reopen file.old }
-    ensures unmoved { Unmoved S.bytes S.images S.moment S.images_since (store_of file.old) (store_of file.new) }
-    ensures kept { KeepsImages (S.images (store_of file.old)) (S.images (store_of file.new)) }
-    ensures count { CopyCounts (S.failures (store_of file.old)) (S.failures (store_of file.new))
-        (W.failures (sink_in writer.old)) (W.failures (sink_in writer.new)) result }
-    ensures reach { S.reach (store_of file.new)
-        ≤ max (S.reach (store_of file.old)) (file_length_of (placed_of file.old)) }
+    ensures file { ReadsFile file.old file.new
+        (λ a b. CopyCounts a b (W.failures (sink_in writer.old)) (W.failures (sink_in writer.new)) result) true
+        1 (file_length_of (placed_of file.old)) }
 {
     open_file_stands(file);
     open_file_is_long(file);
@@ -107,16 +99,9 @@ pub(crate) fn copy_all<S: Store, W: Sink, P: Progress>(
     ensures all { OnOk result ((start : Option (List ℕ)) (w : Standing)
         → Stands start (W.put (sink_in writer.new)) writer.new w → None ≡ expected w) }
     ensures planned { schema_in writer.new ≡ schema_in writer.old }
-    ensures schema { schema_of file.new ≡ schema_of file.old }
-    ensures placed { placed_of file.new ≡ placed_of file.old }
-    ensures reopen { must_reopen file.new ≡ must_reopen file.old }
-    ensures unmoved { Unmoved S.bytes S.images S.moment S.images_since (store_of file.old) (store_of file.new) }
-    ensures kept { KeepsImages (S.images (store_of file.old)) (S.images (store_of file.new)) }
-    ensures count { CopyCounts (S.failures (store_of file.old)) (S.failures (store_of file.new))
-        (W.failures (sink_in writer.old)) (W.failures (sink_in writer.new)) result }
-    ensures calls { S.calls (store_of file.new) ≤ S.calls (store_of file.old) + pieces_left writer.old }
-    ensures reach { S.reach (store_of file.new)
-        ≤ max (S.reach (store_of file.old)) (file_length_of (placed_of file.old)) }
+    ensures file { ReadsFile file.old file.new
+        (λ a b. CopyCounts a b (W.failures (sink_in writer.old)) (W.failures (sink_in writer.new)) result) true
+        (pieces_left writer.old) (file_length_of (placed_of file.old)) }
 {
     store_laws::unmoved_calls_join::<S>();
     while let Some((var, number, left)) = writer.expects() {

@@ -1,5 +1,5 @@
 -- Which texts are plain, and the rows of such fields.
-use Rattle.std.proofs.Common.{◌≡◌, ℕ, ◌+◌, ◌-◌, ◌*◌, ◌<◌, ◌/◌, ◌%◌, ◌^◌, zero, suc, true, false, Bool, List, [], ◌∷◌, ◌++◌, map, length, decimal, append_assoc, refl, sym, ap, ◌∙◌, arith, rules}
+use Rattle.std.proofs.Common.{◌≡◌, ℕ, ◌+◌, ◌-◌, ◌*◌, ◌<◌, ◌≤◌, ◌/◌, ◌%◌, ◌^◌, zero, suc, true, false, Bool, List, [], ◌∷◌, ◌++◌, map, length, take, get_or, decimal, append_assoc, refl, sym, ap, ◌∙◌, arith, rules}
 use Rattle.std.specs.Prelude.{if◌then◌else◌, ◌==◌, ◌||◌, nat_lt, codes, ℤ, pos, negsuc, replicate}
 use Rattle.std.specs.Fmt.{signed_decimal, digits, digits_onto, digit_glyph}
 use Rattle.std.specs.Float.Ieee.{Format, binary32, binary64, hid, ones, low, top}
@@ -231,6 +231,14 @@ all-append (head ∷ heads) field all plain = (all.0, all-append heads field all
 pub one_comma : (heads : List (List ℕ)) (field : List ℕ) → with_commas (heads ++ field ∷ []) ≡ with_commas heads ++ (field ++ 44 ∷ [])
 one_comma heads field =
     flat_map-append with_comma heads (field ∷ []) ∙ ap (λ (t : List ℕ). with_commas heads ++ t) (append-nil (with_comma field))
+
+-- the first of them, with a comma after one more, have no more bytes than all
+pub words_before : (texts : List (List ℕ)) (k : ℕ) → k < length texts → length (with_commas (take k texts)) + length (get_or texts k []) + 1 ≤ length (with_commas texts)
+words_before [] k lt = absurd (omega (arith, lt))
+words_before (t ∷ texts) zero lt = omega (arith, length-append (with_comma t) (with_commas texts), length-append t (44 ∷ []))
+words_before (t ∷ texts) (suc k) lt =
+    let more = words_before texts k (omega (arith, lt)) in
+    omega (arith, more, length-append (with_comma t) (with_commas (take k texts)), length-append (with_comma t) (with_commas texts))
 
 -- a row of heads, an index and a value
 pub run_line : (heads : List (List ℕ)) (index : ℕ) (value : List ℕ) → AllByRecursion IsPlain heads → IsPlain value

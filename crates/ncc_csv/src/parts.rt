@@ -1,12 +1,11 @@
 //! Sending the rows of a selection, part by part from the file.
 
-ghost use Rattle.std.specs.Prelude.{◌≡◌, ℕ, ◌+◌, ◌^◌, ◌<◌, ◌≤◌, length, take, drop, IsTrue, IfOk};
+ghost use Rattle.std.specs.Prelude.{◌≡◌, ℕ, ◌+◌, ◌^◌, ◌<◌, ◌≤◌, true, length, take, drop, IsTrue, IfOk};
 ghost use Rattle.ncc_values.specs.XType.{size_of};
 ghost use Rattle.ncc_values.specs.Values.{type_of, count_of, no_values};
-ghost use Rattle.ncc_store.specs.Store.{Unmoved, KeepsImages};
 ghost use Rattle.ncc_layout.specs.Elements.{var_at};
 ghost use Rattle.ncc_layout.specs.Placed.{file_length_of, record_size_of_file, vars_of};
-ghost use Rattle.ncc_check.specs.Files.{store_of, schema_of, placed_of, must_reopen};
+ghost use Rattle.ncc_check.specs.Files.{ReadsFile, store_of, placed_of};
 ghost use Rattle.ncc_lines.specs.Sends.{SendsAll};
 ghost use Rattle.ncc_slab.specs.Answers.{TakesPart};
 ghost use Rattle.ncc_slab.specs.Selected.{AddsPlaces, places_of};
@@ -41,14 +40,9 @@ pub fn next_values<S: Store>(
     ensures typed { IfOk result (λ v. type_of v ≡ parts_type parts.old) }
     ensures type_is { parts_type parts.new ≡ parts_type parts.old }
     ensures long { parts_length parts.new ≡ parts_length parts.old }
-    ensures schema { schema_of file.new ≡ schema_of file.old }
-    ensures placed { placed_of file.new ≡ placed_of file.old }
-    ensures reopen { must_reopen file.new ≡ must_reopen file.old }
-    ensures unmoved { Unmoved S.bytes S.images S.moment S.images_since (store_of file.old) (store_of file.new) }
-    ensures kept { KeepsImages (S.images (store_of file.old)) (S.images (store_of file.new)) }
-    ensures count { BlamesOne (S.failures (store_of file.old)) (S.failures (store_of file.new)) result }
-    ensures calls { S.calls (store_of file.new) ≤ S.calls (store_of file.old)
-        + part_stretches (size_of (parts_type parts.old)) (parts_left parts.old) }
+    ensures file { ReadsFile file.old file.new (λ a b. BlamesOne a b result) true
+        (part_stretches (size_of (parts_type parts.old)) (parts_left parts.old))
+        (file_length_of (placed_of file.old)) }
 {
     let mut values = Values::new(alloc, parts.xtype());
     match parts.next_part(file, &mut values) {
@@ -86,15 +80,9 @@ fn send_next<S: Store, W: Sink>(
         (length (parts_left parts.old)) (W.put sink.old) (W.put sink.new) result }
     ensures type_is { parts_type parts.new ≡ parts_type parts.old }
     ensures long { parts_length parts.new ≡ parts_length parts.old }
-    ensures schema { schema_of file.new ≡ schema_of file.old }
-    ensures placed { placed_of file.new ≡ placed_of file.old }
-    ensures reopen { must_reopen file.new ≡ must_reopen file.old }
-    ensures unmoved { Unmoved S.bytes S.images S.moment S.images_since (store_of file.old) (store_of file.new) }
-    ensures kept { KeepsImages (S.images (store_of file.old)) (S.images (store_of file.new)) }
-    ensures count { BlamesEither (S.failures (store_of file.old)) (S.failures (store_of file.new))
-        (W.failures sink.old) (W.failures sink.new) result }
-    ensures calls { S.calls (store_of file.new) ≤ S.calls (store_of file.old)
-        + part_stretches (size_of (parts_type parts.old)) (parts_left parts.old) }
+    ensures file { ReadsFile file.old file.new (λ a b. BlamesEither a b (W.failures sink.old) (W.failures sink.new) result) true
+        (part_stretches (size_of (parts_type parts.old)) (parts_left parts.old))
+        (file_length_of (placed_of file.old)) }
 {
     slab_laws::part_has_numbers();
     slab_laws::no_part_is_the_end();
@@ -125,15 +113,9 @@ pub fn send_rows<S: Store, W: Sink, P: Progress>(
         → SendsAll (W.put sink.old) (W.put sink.new) (rows_text style (S.bytes (store_of file.old))
         (record_size_of_file (placed_of file.old)) (var_at (vars_of (placed_of file.old)) number)
         (indices_of slab.now)) result }
-    ensures schema { schema_of file.new ≡ schema_of file.old }
-    ensures placed { placed_of file.new ≡ placed_of file.old }
-    ensures reopen { must_reopen file.new ≡ must_reopen file.old }
-    ensures unmoved { Unmoved S.bytes S.images S.moment S.images_since (store_of file.old) (store_of file.new) }
-    ensures kept { KeepsImages (S.images (store_of file.old)) (S.images (store_of file.new)) }
-    ensures count { BlamesEither (S.failures (store_of file.old)) (S.failures (store_of file.new))
-        (W.failures sink.old) (W.failures sink.new) result }
-    ensures calls { S.calls (store_of file.new) ≤ S.calls (store_of file.old)
-        + all_stretches (size_of (parts_type parts.old)) (parts_left parts.old) }
+    ensures file { ReadsFile file.old file.new (λ a b. BlamesEither a b (W.failures sink.old) (W.failures sink.new) result) true
+        (all_stretches (size_of (parts_type parts.old)) (parts_left parts.old))
+        (file_length_of (placed_of file.old)) }
 {
     store_laws::unmoved_calls_join::<S>();
     slab_laws::places_are_counted();

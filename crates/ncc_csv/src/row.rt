@@ -1,7 +1,8 @@
 //! Rows of values in memory.
 
-ghost use Rattle.std.specs.Prelude.{◌≡◌, ◌+◌, ◌*◌, ◌-◌, ◌^◌, ◌<◌, ◌≤◌, ℕ, List, [], ◌∷◌, ◌++◌, length, map, drop, decimal, OnOk};
+ghost use Rattle.std.specs.Prelude.{◌≡◌, ◌⊎◌, ◌+◌, ◌*◌, ◌-◌, ◌^◌, ◌<◌, ◌≤◌, ℕ, List, [], ◌∷◌, ◌++◌, length, map, drop, decimal, OnOk, OnErr};
 ghost use Rattle.std.specs.List.{AllByRecursion};
+ghost use Rattle.std.specs.Vec.{vec_len, vec_capacity};
 ghost use Rattle.ncc_csv.specs.Word.{word_text};
 ghost use Rattle.ncc_csv.specs.Plain.{IsPlain, with_commas};
 ghost use Rattle.ncc_csv.specs.Rows.{row_line};
@@ -28,7 +29,8 @@ pub const ROOM_OF_ROWS: usize = 1824;
 
 /// Makes the front of the rows of a run: the indices that they share, with a comma after each.
 fn set_front(front: &mut Vec<u8>, heads: &[Word]) -> Result<(), AllocError>
-    ensures { OnOk result (front.new.items ≡ with_commas (map word_text heads.now)) }
+    ensures front { OnOk result (front.new.items ≡ with_commas (map word_text heads.now)) }
+    ensures full { OnErr result (vec_capacity front.old < length (with_commas (map word_text heads.now))) }
 {
     front.clear();
     for k in 0..heads.len() {
@@ -97,11 +99,17 @@ fn put_some<T: Cell>(
     requires span { (from ≤ to) × (to ≤ length values.now) }
     requires few { to ≤ from + 16 }
     requires fits { start + (length values.now - 1) * stride < 2 ^ 64 }
-    ensures { (before : List ℕ) (heads : List (List ℕ)) → AllByRecursion IsPlain heads
+    ensures rows { (before : List ℕ) (heads : List (List ℕ)) → AllByRecursion IsPlain heads
         → drop (64 - size) front.now ≡ with_commas heads
         → page.old.items ≡ before ++ first_rows (run_row heads start stride (map (T.text style) values.now)) from
         → OnOk result (page.new.items
         ≡ before ++ first_rows (run_row heads start stride (map (T.text style) values.now)) to) }
+    ensures full { (before : List ℕ) (heads : List (List ℕ)) → AllByRecursion IsPlain heads
+        → drop (64 - size) front.now ≡ with_commas heads
+        → page.old.items ≡ before ++ first_rows (run_row heads start stride (map (T.text style) values.now)) from
+        → OnErr result (vec_capacity page.old < length before
+        + length (first_rows (run_row heads start stride (map (T.text style) values.now)) to)) }
+    ensures capacity { vec_capacity page.old ≤ vec_capacity page.new }
 {
     let mut at = room.len();
     let mut k = to;
@@ -132,6 +140,9 @@ fn put_row<T: Cell>(
 ) -> Result<(), AllocError>
     ensures row { OnOk result (page.new.items
         ≡ page.old.items ++ (front.now ++ (decimal index ++ 44 ∷ (T.text style value ++ 10 ∷ [])))) }
+    ensures full { OnErr result (vec_capacity page.old < vec_len page.old
+        + length (front.now ++ (decimal index ++ 44 ∷ (T.text style value ++ 10 ∷ [])))) }
+    ensures capacity { vec_capacity page.old ≤ vec_capacity page.new }
     ensures plain { IsPlain (T.text style value) }
 {
     let mut room = [0; ROOM];
@@ -166,9 +177,12 @@ fn put_together<T: Cell>(
     requires room { length room.old ≡ 1824 }
     requires short { length front.now ≤ 64 }
     requires fits { start + (length values.now - 1) * stride < 2 ^ 64 }
-    ensures { (heads : List (List ℕ)) → AllByRecursion IsPlain heads → front.now ≡ with_commas heads
+    ensures rows { (heads : List (List ℕ)) → AllByRecursion IsPlain heads → front.now ≡ with_commas heads
         → OnOk result (page.new.items
         ≡ page.old.items ++ first_rows (run_row heads start stride (map (T.text style) values.now)) (length values.now)) }
+    ensures full { (heads : List (List ℕ)) → AllByRecursion IsPlain heads → front.now ≡ with_commas heads
+        → OnErr result (vec_capacity page.old < vec_len page.old
+        + length (first_rows (run_row heads start stride (map (T.text style) values.now)) (length values.now))) }
 {
     let mut shared = [0; FRONT];
     let size = front.len();
@@ -200,8 +214,12 @@ pub fn put_run<T: Cell, const TOGETHER: bool>(
     requires plain { AllByRecursion IsPlain (map word_text heads.now) }
     requires room { length room.old ≡ 1824 }
     requires fits { start + (length values.now - 1) * stride < 2 ^ 64 }
-    ensures { OnOk result (page.new.items ≡ page.old.items
+    ensures rows { OnOk result (page.new.items ≡ page.old.items
         ++ first_rows (run_row (map word_text heads.now) start stride (map (T.text style) values.now)) (length values.now)) }
+    // Memory is wanted only for a page without room for the rows, or a front without room for their indices.
+    ensures full { OnErr result ((vec_capacity page.old < vec_len page.old
+        + length (first_rows (run_row (map word_text heads.now) start stride (map (T.text style) values.now)) (length values.now)))
+        ⊎ (vec_capacity front.old < length (with_commas (map word_text heads.now)))) }
 {
     set_front(front, heads)?;
     if TOGETHER && values.len() >= T::FEWEST && front.len() <= FRONT {

@@ -1,12 +1,11 @@
 //! Sending a selection of an open file.
 
 ghost use Rattle.std.specs.Prelude.{◌≡◌, ℕ, ◌+◌, ◌^◌, ◌<◌, ◌≤◌, List, [], length, get_or, Option, Some, None, is_none, IsTrue, IfOk, true, ◌&&◌};
-ghost use Rattle.ncc_store.specs.Store.{Unmoved, KeepsImages};
 ghost use Rattle.ncc_values.specs.XType.{size_of};
 ghost use Rattle.ncc_layout.specs.Elements.{var_at};
-ghost use Rattle.ncc_layout.specs.Placed.{record_size_of_file, vars_of};
+ghost use Rattle.ncc_layout.specs.Placed.{file_length_of, record_size_of_file, vars_of};
 ghost use Rattle.ncc_layout.specs.Sizes.{product};
-ghost use Rattle.ncc_check.specs.Files.{store_of, schema_of, placed_of, must_reopen};
+ghost use Rattle.ncc_check.specs.Files.{ReadsFile, store_of, schema_of, placed_of};
 ghost use Rattle.ncc_lines.specs.Sends.{SendsAll};
 ghost use Rattle.ncc_slab.specs.Refusals.{slab_fault};
 ghost use Rattle.ncc_slab.specs.Selected.{places_of};
@@ -89,16 +88,10 @@ fn send_selected<S: Store, W: Sink, P: Progress>(
         (csv_text style (schema_of file.old).dims (get_or (schema_of file.old).vars var no_var)
         (S.bytes (store_of file.old)) (record_size_of_file (placed_of file.old))
         (var_at (vars_of (placed_of file.old)) var) slab.now) result }
-    ensures schema { schema_of file.new ≡ schema_of file.old }
-    ensures placed { placed_of file.new ≡ placed_of file.old }
-    ensures reopen { must_reopen file.new ≡ must_reopen file.old }
-    ensures unmoved { Unmoved S.bytes S.images S.moment S.images_since (store_of file.old) (store_of file.new) }
-    ensures kept { KeepsImages (S.images (store_of file.old)) (S.images (store_of file.new)) }
-    ensures count { BlamesEither (S.failures (store_of file.old)) (S.failures (store_of file.new))
-        (W.failures sink.old) (W.failures sink.new) result }
-    ensures calls { S.calls (store_of file.new) ≤ S.calls (store_of file.old)
-        + all_stretches (size_of (var_at (vars_of (placed_of file.old)) var).xtype)
-        (places_of (record_size_of_file (placed_of file.old)) (var_at (vars_of (placed_of file.old)) var) slab.now) }
+    ensures file { ReadsFile file.old file.new (λ a b. BlamesEither a b (W.failures sink.old) (W.failures sink.new) result) true
+        (all_stretches (size_of (var_at (vars_of (placed_of file.old)) var).xtype) (places_of
+        (record_size_of_file (placed_of file.old)) (var_at (vars_of (placed_of file.old)) var) slab.now))
+        (file_length_of (placed_of file.old)) }
 {
     open_file_places_all(file);
     lengths_fit(file.placed(), var);
@@ -128,16 +121,10 @@ fn send_selected_texts<S: Store, W: Sink, P: Progress>(
         (text_sheet (schema_of file.old).dims (get_or (schema_of file.old).vars var no_var)
         (S.bytes (store_of file.old)) (record_size_of_file (placed_of file.old))
         (var_at (vars_of (placed_of file.old)) var) slab.now) result }
-    ensures schema { schema_of file.new ≡ schema_of file.old }
-    ensures placed { placed_of file.new ≡ placed_of file.old }
-    ensures reopen { must_reopen file.new ≡ must_reopen file.old }
-    ensures unmoved { Unmoved S.bytes S.images S.moment S.images_since (store_of file.old) (store_of file.new) }
-    ensures kept { KeepsImages (S.images (store_of file.old)) (S.images (store_of file.new)) }
-    ensures count { BlamesEither (S.failures (store_of file.old)) (S.failures (store_of file.new))
-        (W.failures sink.old) (W.failures sink.new) result }
-    ensures calls { S.calls (store_of file.new) ≤ S.calls (store_of file.old)
-        + all_stretches (size_of (var_at (vars_of (placed_of file.old)) var).xtype)
-        (places_of (record_size_of_file (placed_of file.old)) (var_at (vars_of (placed_of file.old)) var) slab.now) }
+    ensures file { ReadsFile file.old file.new (λ a b. BlamesEither a b (W.failures sink.old) (W.failures sink.new) result) true
+        (all_stretches (size_of (var_at (vars_of (placed_of file.old)) var).xtype) (places_of
+        (record_size_of_file (placed_of file.old)) (var_at (vars_of (placed_of file.old)) var) slab.now))
+        (file_length_of (placed_of file.old)) }
 {
     open_file_places_all(file);
     texts_are_counted(file);
@@ -175,16 +162,10 @@ fn send_printed<S: Store, W: Sink, P: Progress>(
     ensures sent { IsTrue S.tells_bytes → SendsAll (W.put sink.old) (W.put sink.new)
         (sheet_text style texts (S.bytes (store_of file.old)) (schema_of file.old) (placed_of file.old) var slab.now)
         result }
-    ensures schema { schema_of file.new ≡ schema_of file.old }
-    ensures placed { placed_of file.new ≡ placed_of file.old }
-    ensures reopen { must_reopen file.new ≡ must_reopen file.old }
-    ensures unmoved { Unmoved S.bytes S.images S.moment S.images_since (store_of file.old) (store_of file.new) }
-    ensures kept { KeepsImages (S.images (store_of file.old)) (S.images (store_of file.new)) }
-    ensures count { BlamesEither (S.failures (store_of file.old)) (S.failures (store_of file.new))
-        (W.failures sink.old) (W.failures sink.new) result }
-    ensures calls { S.calls (store_of file.new) ≤ S.calls (store_of file.old)
-        + all_stretches (size_of (var_at (vars_of (placed_of file.old)) var).xtype)
-        (places_of (record_size_of_file (placed_of file.old)) (var_at (vars_of (placed_of file.old)) var) slab.now) }
+    ensures file { ReadsFile file.old file.new (λ a b. BlamesEither a b (W.failures sink.old) (W.failures sink.new) result) true
+        (all_stretches (size_of (var_at (vars_of (placed_of file.old)) var).xtype) (places_of
+        (record_size_of_file (placed_of file.old)) (var_at (vars_of (placed_of file.old)) var) slab.now))
+        (file_length_of (placed_of file.old)) }
 {
     if prints_texts(texts, file.placed(), var) {
         return send_selected_texts(alloc, file, var, slab, parts, sink, progress);
@@ -210,19 +191,13 @@ pub fn send_sheet<S: Store, W: Sink, P: Progress>(
         (sheet_text style texts (S.bytes (store_of file.old)) (schema_of file.old) (placed_of file.old) var slab.now)
         result }
     ensures answer { IfOk result (λ b. b ≡ is_none (slab_fault (vars_of (placed_of file.old)) var slab.now)) }
-    ensures schema { schema_of file.new ≡ schema_of file.old }
-    ensures placed { placed_of file.new ≡ placed_of file.old }
-    ensures reopen { must_reopen file.new ≡ must_reopen file.old }
-    ensures unmoved { Unmoved S.bytes S.images S.moment S.images_since (store_of file.old) (store_of file.new) }
-    ensures kept { KeepsImages (S.images (store_of file.old)) (S.images (store_of file.new)) }
-    ensures count { BlamesEither (S.failures (store_of file.old)) (S.failures (store_of file.new))
-        (W.failures sink.old) (W.failures sink.new) result }
+    ensures file { ReadsFile file.old file.new (λ a b. BlamesEither a b (W.failures sink.old) (W.failures sink.new) result) true
+        (all_stretches (size_of (var_at (vars_of (placed_of file.old)) var).xtype) (places_of
+        (record_size_of_file (placed_of file.old)) (var_at (vars_of (placed_of file.old)) var) slab.now))
+        (file_length_of (placed_of file.old)) }
     ensures refused { (fault : Fault) → slab_fault (vars_of (placed_of file.old)) var slab.now ≡ Some fault
         → SendsSheet (Some fault) (W.put sink.old) (W.put sink.new) [] result
         × (store_of file.new ≡ store_of file.old) }
-    ensures calls { S.calls (store_of file.new) ≤ S.calls (store_of file.old)
-        + all_stretches (size_of (var_at (vars_of (placed_of file.old)) var).xtype)
-        (places_of (record_size_of_file (placed_of file.old)) (var_at (vars_of (placed_of file.old)) var) slab.now) }
 {
     let mut parts = match SlabParts::new(alloc, file.placed(), var, slab) {
         Ok(parts) => parts,

@@ -1,15 +1,14 @@
 //! Sending the rows of texts, part by part from the file.
 
-ghost use Rattle.std.specs.Prelude.{◌≡◌, ℕ, ◌+◌, ◌^◌, ◌<◌, ◌≤◌, ◌++◌, length, take, drop, map, IsTrue, IfOk, OnOk};
+ghost use Rattle.std.specs.Prelude.{◌≡◌, ℕ, ◌+◌, ◌^◌, ◌<◌, ◌≤◌, true, ◌++◌, length, take, drop, map, IsTrue, IfOk, OnOk};
 ghost use Rattle.ncc_values.specs.XType.{size_of};
 ghost use Rattle.ncc_values.specs.Values.{type_of, count_of};
 ghost use Rattle.ncc_values.specs.declared.xtype.XType.TheVariants as types;
-ghost use Rattle.ncc_store.specs.Store.{Unmoved, KeepsImages};
 ghost use Rattle.ncc_layout.specs.Elements.{var_at};
 ghost use Rattle.ncc_layout.specs.Placed.{file_length_of, record_size_of_file, vars_of};
 ghost use Rattle.ncc_layout.specs.Sizes.{product};
 ghost use Rattle.ncc_layout.specs.declared.placed_var.PlacedVar.{PlacedVar};
-ghost use Rattle.ncc_check.specs.Files.{store_of, schema_of, placed_of, must_reopen};
+ghost use Rattle.ncc_check.specs.Files.{ReadsFile, store_of, placed_of};
 ghost use Rattle.ncc_lines.specs.Sends.{Blames, SendsAll};
 ghost use Rattle.ncc_slab.specs.Answers.{TakesPart};
 ghost use Rattle.ncc_slab.specs.Selected.{numbers_of, places_of};
@@ -94,15 +93,9 @@ fn send_next_texts<S: Store, W: Sink>(
         (length (parts_left parts.old)) (W.put sink.old) (W.put sink.new) result }
     ensures type_is { parts_type parts.new ≡ parts_type parts.old }
     ensures long { parts_length parts.new ≡ parts_length parts.old }
-    ensures schema { schema_of file.new ≡ schema_of file.old }
-    ensures placed { placed_of file.new ≡ placed_of file.old }
-    ensures reopen { must_reopen file.new ≡ must_reopen file.old }
-    ensures unmoved { Unmoved S.bytes S.images S.moment S.images_since (store_of file.old) (store_of file.new) }
-    ensures kept { KeepsImages (S.images (store_of file.old)) (S.images (store_of file.new)) }
-    ensures count { BlamesEither (S.failures (store_of file.old)) (S.failures (store_of file.new))
-        (W.failures sink.old) (W.failures sink.new) result }
-    ensures calls { S.calls (store_of file.new) ≤ S.calls (store_of file.old)
-        + part_stretches (size_of (parts_type parts.old)) (parts_left parts.old) }
+    ensures file { ReadsFile file.old file.new (λ a b. BlamesEither a b (W.failures sink.old) (W.failures sink.new) result) true
+        (part_stretches (size_of (parts_type parts.old)) (parts_left parts.old))
+        (file_length_of (placed_of file.old)) }
 {
     slab_laws::part_has_numbers();
     slab_laws::no_part_is_the_end();
@@ -132,15 +125,9 @@ fn send_some_texts<S: Store, W: Sink, P: Progress>(
     ensures sent { IsTrue S.tells_bytes → (number : ℕ) → BeginsParts (placed_of file.old) number slab.now parts.old
         → SendsAll (W.put sink.old) (W.put sink.new) (texts_text (S.bytes (store_of file.old))
         (record_size_of_file (placed_of file.old)) (var_at (vars_of (placed_of file.old)) number) slab.now) result }
-    ensures schema { schema_of file.new ≡ schema_of file.old }
-    ensures placed { placed_of file.new ≡ placed_of file.old }
-    ensures reopen { must_reopen file.new ≡ must_reopen file.old }
-    ensures unmoved { Unmoved S.bytes S.images S.moment S.images_since (store_of file.old) (store_of file.new) }
-    ensures kept { KeepsImages (S.images (store_of file.old)) (S.images (store_of file.new)) }
-    ensures count { BlamesEither (S.failures (store_of file.old)) (S.failures (store_of file.new))
-        (W.failures sink.old) (W.failures sink.new) result }
-    ensures calls { S.calls (store_of file.new) ≤ S.calls (store_of file.old)
-        + all_stretches (size_of (parts_type parts.old)) (parts_left parts.old) }
+    ensures file { ReadsFile file.old file.new (λ a b. BlamesEither a b (W.failures sink.old) (W.failures sink.new) result) true
+        (all_stretches (size_of (parts_type parts.old)) (parts_left parts.old))
+        (file_length_of (placed_of file.old)) }
 {
     store_laws::unmoved_calls_join::<S>();
     slab_laws::places_are_counted();
@@ -175,15 +162,9 @@ pub fn send_texts<S: Store, W: Sink, P: Progress>(
     ensures sent { IsTrue S.tells_bytes → (number : ℕ) → BeginsParts (placed_of file.old) number slab.now parts.old
         → SendsAll (W.put sink.old) (W.put sink.new) (texts_text (S.bytes (store_of file.old))
         (record_size_of_file (placed_of file.old)) (var_at (vars_of (placed_of file.old)) number) slab.now) result }
-    ensures schema { schema_of file.new ≡ schema_of file.old }
-    ensures placed { placed_of file.new ≡ placed_of file.old }
-    ensures reopen { must_reopen file.new ≡ must_reopen file.old }
-    ensures unmoved { Unmoved S.bytes S.images S.moment S.images_since (store_of file.old) (store_of file.new) }
-    ensures kept { KeepsImages (S.images (store_of file.old)) (S.images (store_of file.new)) }
-    ensures count { BlamesEither (S.failures (store_of file.old)) (S.failures (store_of file.new))
-        (W.failures sink.old) (W.failures sink.new) result }
-    ensures calls { S.calls (store_of file.new) ≤ S.calls (store_of file.old)
-        + all_stretches (size_of (parts_type parts.old)) (parts_left parts.old) }
+    ensures file { ReadsFile file.old file.new (λ a b. BlamesEither a b (W.failures sink.old) (W.failures sink.new) result) true
+        (all_stretches (size_of (parts_type parts.old)) (parts_left parts.old))
+        (file_length_of (placed_of file.old)) }
 {
     if count_along(slab, slab.count.len() - 1) == 0 {
         return send_empty_texts(alloc, slab, sink);

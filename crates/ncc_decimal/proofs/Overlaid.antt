@@ -1,6 +1,6 @@
 -- A list whose middle was overwritten by another, or whose end by a text.
 use Rattle.std.proofs.Common.{◌≡◌, ℕ, ◌+◌, ◌≤◌, List, ◌++◌, length, take, drop, sym, ap, ◌∙◌, length-append, length-drop, arith}
-use Rattle.std.proofs.lemmas.List.{drop-drop, drop_at, drop-append-le, length-take-le}
+use Rattle.std.proofs.lemmas.List.{take-take, drop-drop, drop_at, drop-append-le, length-take-le}
 use borrow.Rule.Slice.PartMut.{put_mid}
 
 -- what stands from an element of the other list on
@@ -16,3 +16,7 @@ pub written_length : (new old text : List ℕ) (first end : ℕ) → length new 
     → first + length text ≡ end
 written_length new old text first end long within le is =
     omega (arith, long, within, le, ap length is, length-drop first new, length-append text (drop end old), length-drop end old)
+
+-- what stands before an earlier place stays where it does before a later one
+pub before_kept : (new old : List ℕ) (first next : ℕ) → first ≤ next → take next new ≡ take next old → take first new ≡ take first old
+before_kept new old first next le is = sym (take-take first next new le) ∙ ap (take first) is ∙ take-take first next old le

@@ -1,8 +1,8 @@
 //! The text of a decimal, written from its end: put before the text that a room has from `start` on, by functions that
-//! answer where it starts then.
+//! answer where it starts then. What stands before it stays.
 
 ghost use Rattle.std.specs.Prelude.{◌≡◌, ◌+◌, ◌-◌, ◌/◌, ◌^◌, ◌<◌, ◌≤◌, ◌⊎◌, ◌==◌, if◌then◌else◌};
-ghost use Rattle.std.specs.Prelude.{◌∷◌, ◌++◌, length, drop, replicate, decimal};
+ghost use Rattle.std.specs.Prelude.{◌∷◌, ◌++◌, length, take, drop, replicate, decimal};
 ghost use Rattle.ncc_decimal.specs.Texts.{last_digits, pointed, exponent_text, scientific, decimal_text};
 
 use crate::decimal::Decimal;
@@ -13,6 +13,7 @@ use itoa::write_digits;
 pub(crate) fn put(room: &mut [u8], start: usize, byte: u8) -> usize
     requires { (0 < start) × (start ≤ length room.old) }
     ensures text { drop result room.new ≡ byte ∷ drop start room.old }
+    ensures before { take result room.new ≡ take result room.old }
     ensures room { result + 1 ≡ start }
 {
     room[start - 1] = byte;
@@ -24,6 +25,7 @@ pub(crate) fn put(room: &mut [u8], start: usize, byte: u8) -> usize
 pub(crate) fn put_word(room: &mut [u8], start: usize, word: &[u8]) -> usize
     requires { (length word.now ≤ start) × (start ≤ length room.old) }
     ensures text { drop result room.new ≡ word.now ++ drop start room.old }
+    ensures before { take result room.new ≡ take result room.old }
     ensures room { result + length word.now ≡ start }
 {
     let first = start - word.len();
@@ -36,6 +38,7 @@ pub(crate) fn put_word(room: &mut [u8], start: usize, word: &[u8]) -> usize
 fn put_last(room: &mut [u8], start: usize, n: u64, count: usize) -> u64
     requires { (count ≤ start) × (start ≤ length room.old) }
     ensures text { drop (start - count) room.new ≡ last_digits count n ++ drop start room.old }
+    ensures before { take (start - count) room.new ≡ take (start - count) room.old }
     ensures rest { result ≡ n / 10 ^ count }
 {
     let mut rest = n;
@@ -51,6 +54,7 @@ fn put_last(room: &mut [u8], start: usize, n: u64, count: usize) -> u64
 fn put_zeros(room: &mut [u8], start: usize, count: usize) -> usize
     requires { (count ≤ start) × (start ≤ length room.old) }
     ensures text { drop result room.new ≡ replicate count 48 ++ drop start room.old }
+    ensures before { take result room.new ≡ take result room.old }
     ensures room { result + count ≡ start }
 {
     for i in 0..count {
@@ -64,6 +68,7 @@ fn put_zeros(room: &mut [u8], start: usize, count: usize) -> usize
 fn put_pointed(room: &mut [u8], start: usize, n: u64, count: usize) -> usize
     requires { (length (decimal (n / 10 ^ count)) + count < start) × (start ≤ length room.old) }
     ensures text { drop result room.new ≡ pointed count n ++ drop start room.old }
+    ensures before { take result room.new ≡ take result room.old }
     ensures room { result + length (decimal (n / 10 ^ count)) + count + 1 ≡ start }
 {
     let whole = put_last(room, start, n, count);
@@ -79,6 +84,7 @@ fn write_ahead(room: &mut [u8], start: usize, n: u64) -> usize
     ensures some { result < start }
     ensures ahead { drop result room.new ≡ decimal n ++ drop start room.old }
     ensures text { drop start room.new ≡ drop start room.old }
+    ensures before { take result room.new ≡ take result room.old }
 {
     write_digits(n, room, start)
 }
@@ -92,6 +98,7 @@ fn point_ahead(room: &mut [u8], start: usize, n: u64, first: usize, count: usize
     requires whole { count < length (decimal n) }
     requires room { (0 < first) × (start ≤ length room.old) }
     ensures text { drop result room.new ≡ pointed count n ++ drop start room.old }
+    ensures before { take result room.new ≡ take result room.old }
     ensures room { result + 1 ≡ first }
 {
     let point = start - count;
@@ -106,6 +113,7 @@ fn point_ahead(room: &mut [u8], start: usize, n: u64, first: usize, count: usize
 fn put_exponent(room: &mut [u8], start: usize, exponent: usize) -> usize
     requires { (4 ≤ start) × (start ≤ length room.old) × (exponent < 1000) }
     ensures text { drop result room.new ≡ exponent_text exponent ++ drop start room.old }
+    ensures before { take result room.new ≡ take result room.old }
     ensures room { (result ≤ start) × (start ≤ result + 4) }
 {
     if exponent < 401 {
@@ -129,7 +137,8 @@ fn put_scientific(
     requires some { 0 < count }
     requires room { (count + 6 ≤ start) × (start ≤ length room.old) × (exponent < 1000) }
     ensures text { drop result room.new ≡ scientific count digits exponent ++ drop start room.old }
-    ensures room { (result ≤ start) × (start ≤ result + count + 6) }
+    ensures before { take result room.new ≡ take result room.old }
+    ensures room { (result + count ≤ start) × (start ≤ result + count + 6) }
 {
     let sign = put_exponent(room, start, exponent);
     let end = put(room, sign, b'e');
@@ -151,7 +160,8 @@ fn put_beside(room: &mut [u8], start: usize, d: Decimal, count: usize) -> usize
     requires beside { (400 ≤ d.power) ⊎ (count + d.power ≤ 400) }
     requires room { (23 ≤ start) × (start ≤ length room.old) }
     ensures text { drop result room.new ≡ decimal_text d.digits d.power ++ drop start room.old }
-    ensures room { (result ≤ start) × (start ≤ result + 23) }
+    ensures before { take result room.new ≡ take result room.old }
+    ensures room { (result + count ≤ start) × (start ≤ result + 23) }
     ensures single { d.digits < 10 ^ 9 → start ≤ result + 17 }
 {
     let power = d.power as usize;
@@ -176,6 +186,7 @@ pub(crate) fn put_decimal(room: &mut [u8], start: usize, d: Decimal) -> usize
     requires few { (d.digits < 10 ^ 17) × (d.power < 800) }
     requires room { (23 ≤ start) × (start ≤ length room.old) }
     ensures text { drop result room.new ≡ decimal_text d.digits d.power ++ drop start room.old }
+    ensures before { take result room.new ≡ take result room.old }
     ensures room { (result ≤ start) × (start ≤ result + 23) }
     ensures single { d.digits < 10 ^ 9 → start ≤ result + 17 }
 {

@@ -1,5 +1,7 @@
 -- What a command wrote, by its answer.
-use Rattle.std.specs.Prelude.{◌≡◌, ℕ, List, ◌++◌, Result, Ok, Err}
+use Rattle.std.specs.Prelude.{◌≡◌, ◌⊎◌, ℕ, List, ◌++◌, Result, Ok, Err}
+use Rattle.ncc_values.specs.Failures.{Rose}
+use Rattle.ncc_schema.specs.declared.sink.Sink.{Ghosts}
 use Rattle.ncc_lines.specs.declared.halt.Halt.{Halt}
 use Rattle.ncc_lines.specs.declared.halt.Halt.TheVariants as halts
 use Rattle.ncc_engines.specs.declared.answer.Answer.{Answer}
@@ -25,3 +27,15 @@ abbrev pub answer_of : Result (Unit {0}) Halt → Answer → Answer
 answer_of (Ok x) answer = answer
 answer_of (Err halts.Device) answer = Device
 answer_of (Err halts.Memory) answer = Memory
+
+-- which failures an answer tells, of a sink and of a store with these counts: Device only where one of them rose, and
+-- else none changed
+pub record Blames {W : Type 0} (g : Ghosts W) (sink sent : W) (answer : Answer) (before after : ℕ) : Type 0 where
+  pub quiet : (answer ≡ Device → ⊥) → (after ≡ before) × (g.failures sent ≡ g.failures sink)
+  pub device : answer ≡ Device → Rose before after ⊎ Rose (g.failures sink) (g.failures sent)
+
+-- the same of a store or source that is asked before the sink is: where its count changed, the sink wasn't called
+pub record Fails {W : Type 0} (g : Ghosts W) (sink sent : W) (answer : Answer) (before after : ℕ) : Type 0 where
+  pub quiet : (answer ≡ Device → ⊥) → (after ≡ before) × (g.failures sent ≡ g.failures sink)
+  pub device : answer ≡ Device → Rose before after ⊎ Rose (g.failures sink) (g.failures sent)
+  pub still : (after ≡ before → ⊥) → g.calls sent ≡ g.calls sink

@@ -1,11 +1,11 @@
 //! `check`: whether a file passes.
 
-ghost use Rattle.std.specs.Prelude.{◌≡◌, ◌⊎◌, ◌+◌, ◌≤◌, max, ℕ, List, length, IsTrue};
+ghost use Rattle.std.specs.Prelude.{◌≡◌, ◌+◌, ◌≤◌, ℕ, List, length, IsTrue};
 ghost use Rattle.ncc_schema.specs.Device.{Puts};
-ghost use Rattle.ncc_store.specs.Store.{Unmoved, KeepsImages};
-ghost use Rattle.ncc_values.specs.Failures.{Rose};
-ghost use Rattle.ncc_check.specs.FromStore.{calls_for};
+ghost use Rattle.ncc_store.specs.Reading.{ReadsOnly};
+ghost use Rattle.ncc_check.specs.FromStore.{calls_for, ReadsFew};
 ghost use Rattle.ncc_check.specs.Passes.{HasOwnElements};
+ghost use Rattle.ncc_engines.specs.Answers.{Fails};
 ghost use Rattle.ncc_engines.specs.Checking.{verdict, ChecksInto};
 
 use crate::answer::{Answer, answered};
@@ -37,16 +37,9 @@ pub fn check_engine<S: Store, W: Sink>(
     ensures checks { IsTrue S.tells_bytes → (out : List ℕ) × Puts (W.put sink.old) (W.put sink.new) out
         × ChecksInto (S.bytes store.old) limit strict result out }
     ensures own { IsTrue S.tells_bytes → result ≡ Answer.Passed → HasOwnElements (S.bytes store.old) limit }
-    ensures unmoved { Unmoved S.bytes S.images S.moment S.images_since store.old store.new }
-    ensures kept { KeepsImages (S.images store.old) (S.images store.new) }
-    ensures quiet { (result ≡ Answer.Device → ⊥)
-        → (S.failures store.new ≡ S.failures store.old) × (W.failures sink.new ≡ W.failures sink.old) }
-    ensures still { (S.failures store.new ≡ S.failures store.old → ⊥) → W.calls sink.new ≡ W.calls sink.old }
-    ensures device { result ≡ Answer.Device
-        → Rose (S.failures store.old) (S.failures store.new) ⊎ Rose (W.failures sink.old) (W.failures sink.new) }
-    ensures calls { IsTrue S.tells_bytes
-        → S.calls store.new ≤ S.calls store.old + calls_for (length (S.bytes store.old)) limit }
-    ensures reach { S.reach store.new ≤ max (S.reach store.old) limit }
+    ensures store { ReadsOnly S.Store store.old store.new (Fails W.Sink sink.old sink.new result) S.tells_bytes
+        (calls_for (length (S.bytes store.old)) limit) limit }
+    ensures settled { IsTrue S.tells_bytes → ReadsFew S.Store store.old store.new (S.bytes store.old) limit 1 }
 {
     laws::passing_has_no_fault();
     laws::one_report();

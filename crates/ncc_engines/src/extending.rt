@@ -15,6 +15,7 @@ ghost use Rattle.ncc_check.specs.declared.append_error.AppendError.TheVariants a
 ghost use Rattle.ncc_build.specs.Dataset.{Dataset, IsDataset};
 ghost use Rattle.ncc_write.specs.Additions.{HoldsAll};
 ghost use Rattle.ncc_write.specs.Extends.{HoldsSome, with_fills};
+ghost use Rattle.ncc_engines.specs.Answers.{Fails};
 ghost use Rattle.ncc_engines.specs.Extending.{ExtendsInto, IsFilled, FillsUp, IsFilledSome, IsFilledWhole, IsFrontOfRefusal, TakesNone, Tells};
 
 use crate::answer::{Answer, answered};
@@ -110,11 +111,7 @@ pub fn extend_engine<S: Store, W: Sink>(
     ensures none { more ≡ 0 → Unmoved S.bytes S.images S.moment S.images_since store result.0 }
     ensures refused { IsTrue S.tells_bytes → (Passes (S.bytes store) limit → ⊥)
         → Unmoved S.bytes S.images S.moment S.images_since store result.0 }
-    ensures quiet { (result.1 ≡ Answer.Device → ⊥)
-        → (S.failures result.0 ≡ S.failures store) × (W.failures sink.new ≡ W.failures sink.old) }
-    ensures device { result.1 ≡ Answer.Device
-        → Rose (S.failures store) (S.failures result.0) ⊎ Rose (W.failures sink.old) (W.failures sink.new) }
-    ensures still { (S.failures result.0 ≡ S.failures store → ⊥) → W.calls sink.new ≡ W.calls sink.old }
+    ensures fails { Fails W.Sink sink.old sink.new result.1 (S.failures store) (S.failures result.0) }
     ensures calls { IsTrue S.tells_bytes
         → S.calls result.0 ≤ S.calls store + calls_for (length (S.bytes store)) limit + 4 * more + 2 }
     ensures calls_none { IsTrue S.tells_bytes → (more ≡ 0) ⊎ TakesNone (S.bytes store) limit

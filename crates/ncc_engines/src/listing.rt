@@ -1,12 +1,12 @@
 //! `list`: what the header alone says.
 
-ghost use Rattle.std.specs.Prelude.{◌≡◌, ◌⊎◌, ◌+◌, ◌≤◌, max, ℕ, List, length, IfSome, IsTrue};
+ghost use Rattle.std.specs.Prelude.{◌≡◌, ◌+◌, ◌≤◌, ℕ, List, length, IfSome, IsTrue};
 ghost use Rattle.ncc_schema.specs.Device.{LosesAtMost, Puts};
-ghost use Rattle.ncc_store.specs.Store.{Unmoved, KeepsImages};
-ghost use Rattle.ncc_check.specs.FromStore.{calls_for};
-ghost use Rattle.ncc_values.specs.Failures.{Rose};
+ghost use Rattle.ncc_store.specs.Reading.{ReadsOnly};
+ghost use Rattle.ncc_check.specs.FromStore.{calls_for, ReadsFew};
 ghost use Rattle.ncc_schema.specs.declared.schema.Header.{Header as TheHeader};
 ghost use Rattle.ncc_header.specs.Answers.{Begins, IsLeft};
+ghost use Rattle.ncc_engines.specs.Answers.{Fails};
 ghost use Rattle.ncc_engines.specs.Listing.{Lists};
 
 use crate::answer::{Answer, answered};
@@ -31,12 +31,7 @@ pub fn list_engine<R: Source, W: Sink>(
     ensures exactly { result ≡ Answer.Passed → IfSome (R.left source.old) (λ input.
         (h : TheHeader) × Begins input limit h × IsLeft (R.left source.new) input h) }
     ensures most { LosesAtMost (R.left source.old) (R.left source.new) limit }
-    ensures quiet { (result ≡ Answer.Device → ⊥)
-        → (R.failures source.new ≡ R.failures source.old) × (W.failures sink.new ≡ W.failures sink.old) }
-    ensures still { (R.failures source.new ≡ R.failures source.old → ⊥)
-        → W.calls sink.new ≡ W.calls sink.old }
-    ensures device { result ≡ Answer.Device
-        → Rose (R.failures source.old) (R.failures source.new) ⊎ Rose (W.failures sink.old) (W.failures sink.new) }
+    ensures fails { Fails W.Sink sink.old sink.new result (R.failures source.old) (R.failures source.new) }
 {
     laws::header_or_stop();
     match read_header(alloc, source, limit) {
@@ -58,16 +53,9 @@ pub fn list_store_engine<S: Store, W: Sink>(
 ) -> Answer
     ensures lists { IsTrue S.tells_bytes → (out : List ℕ) × Puts (W.put sink.old) (W.put sink.new) out
         × Lists (S.bytes store.old) limit style result out }
-    ensures unmoved { Unmoved S.bytes S.images S.moment S.images_since store.old store.new }
-    ensures kept { KeepsImages (S.images store.old) (S.images store.new) }
-    ensures quiet { (result ≡ Answer.Device → ⊥)
-        → (S.failures store.new ≡ S.failures store.old) × (W.failures sink.new ≡ W.failures sink.old) }
-    ensures still { (S.failures store.new ≡ S.failures store.old → ⊥) → W.calls sink.new ≡ W.calls sink.old }
-    ensures device { result ≡ Answer.Device
-        → Rose (S.failures store.old) (S.failures store.new) ⊎ Rose (W.failures sink.old) (W.failures sink.new) }
-    ensures calls { IsTrue S.tells_bytes
-        → S.calls store.new ≤ S.calls store.old + calls_for (length (S.bytes store.old)) limit }
-    ensures reach { S.reach store.new ≤ max (S.reach store.old) limit }
+    ensures store { ReadsOnly S.Store store.old store.new (Fails W.Sink sink.old sink.new result) S.tells_bytes
+        (calls_for (length (S.bytes store.old)) limit) limit }
+    ensures settled { IsTrue S.tells_bytes → ReadsFew S.Store store.old store.new (S.bytes store.old) limit 1 }
 {
     laws::header_or_stop();
     match header_in(alloc, store, limit) {

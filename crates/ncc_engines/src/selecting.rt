@@ -1,15 +1,14 @@
 //! `csv`: the names and rows of a selection.
 
-ghost use Rattle.std.specs.Prelude.{◌≡◌, ◌⊎◌, ◌+◌, ◌≤◌, ℕ, Bool, Option, List, length, IsTrue};
+ghost use Rattle.std.specs.Prelude.{◌≡◌, ◌+◌, ◌≤◌, ℕ, Bool, Option, List, length, IsTrue};
 ghost use Rattle.ncc_schema.specs.Device.{Puts};
 ghost use Rattle.ncc_schema.specs.declared.schema.Header.{Header};
-ghost use Rattle.ncc_store.specs.Store.{Unmoved, KeepsImages};
-ghost use Rattle.ncc_values.specs.Failures.{Rose};
+ghost use Rattle.ncc_store.specs.Reading.{Rests};
 ghost use Rattle.ncc_check.specs.Files.{store_of, schema_of, placed_of};
 ghost use Rattle.ncc_check.specs.FromStore.{calls_for};
 ghost use Rattle.ncc_check.specs.Passes.{Passes, PassesWith, HasOwnElements};
 ghost use Rattle.ncc_csv.specs.Named.{IsFirstNamed};
-ghost use Rattle.ncc_engines.specs.Answers.{Writes};
+ghost use Rattle.ncc_engines.specs.Answers.{Blames, Writes};
 ghost use Rattle.ncc_engines.specs.Selecting.{contents_in, contents_of, value_calls, sheet_answer, IsCsvText, IsSelection, SelectsInto};
 ghost use Rattle.ncc_engines.specs.declared.answer.Answer.{Answer as GivenAnswer};
 ghost use Rattle.ncc_csv.specs.declared.pick.Pick.{Pick as GivenPick};
@@ -62,12 +61,8 @@ fn select<S: Store, W: Sink, P: Progress>(
         (IsSelection (contents_in (S.bytes (store_of file.old)) (schema_of file.old) (placed_of file.old))
         name.now pick style texts)
         result out }
-    ensures unmoved { Unmoved S.bytes S.images S.moment S.images_since (store_of file.old) (store_of file.new) }
-    ensures kept { KeepsImages (S.images (store_of file.old)) (S.images (store_of file.new)) }
-    ensures quiet { (result ≡ Answer.Device → ⊥) → (S.failures (store_of file.new) ≡ S.failures (store_of file.old))
-        × (W.failures sink.new ≡ W.failures sink.old) }
-    ensures device { result ≡ Answer.Device → Rose (S.failures (store_of file.old)) (S.failures (store_of file.new))
-        ⊎ Rose (W.failures sink.old) (W.failures sink.new) }
+    ensures rests { Rests S.Store (store_of file.old) (store_of file.new)
+        (Blames W.Sink sink.old sink.new result) }
     ensures calls { (number : Option ℕ) → IsFirstNamed (schema_of file.old).vars name.now number
         → S.calls (store_of file.new) ≤ S.calls (store_of file.old) + value_calls
         (contents_in (S.bytes (store_of file.old)) (schema_of file.old) (placed_of file.old)) pick number }
@@ -108,12 +103,7 @@ pub fn csv_engine<S: Store, W: Sink, P: Progress>(
     ensures selects { IsTrue S.tells_bytes → (out : List ℕ) × Puts (W.put sink.old) (W.put sink.new) out
         × SelectsInto (S.bytes store) limit name.now pick style texts result.1 out }
     ensures own { IsTrue S.tells_bytes → result.1 ≡ Answer.Passed → HasOwnElements (S.bytes store) limit }
-    ensures unmoved { Unmoved S.bytes S.images S.moment S.images_since store result.0 }
-    ensures kept { KeepsImages (S.images store) (S.images result.0) }
-    ensures quiet { (result.1 ≡ Answer.Device → ⊥)
-        → (S.failures result.0 ≡ S.failures store) × (W.failures sink.new ≡ W.failures sink.old) }
-    ensures device { result.1 ≡ Answer.Device
-        → Rose (S.failures store) (S.failures result.0) ⊎ Rose (W.failures sink.old) (W.failures sink.new) }
+    ensures rests { Rests S.Store store result.0 (Blames W.Sink sink.old sink.new result.1) }
     ensures calls { IsTrue S.tells_bytes → (h : Header) → PassesWith (S.bytes store) limit h
         → (number : Option ℕ) → IsFirstNamed h.schema.vars name.now number → S.calls result.0 ≤ S.calls store
         + calls_for (length (S.bytes store)) limit + value_calls (contents_of (S.bytes store) h) pick number }

@@ -1,7 +1,7 @@
 -- Items that stand whole at the front of a piece, one after another.
-use Rattle.std.proofs.Common.{◌≡◌, ℕ, suc, ◌+◌, ◌-◌, ◌<◌, ◌*◌, ◌≤◌, Bool, true, List, [], ◌∷◌, ◌++◌, length, take, Option, Some, None, refl, sym, ap, subst, ◌∙◌, append_assoc, append-nil, arith, not, false, ◌&&◌, true≢false}
+use Rattle.std.proofs.Common.{◌≡◌, ◌⊎◌, ℕ, suc, ◌+◌, ◌-◌, ◌<◌, ◌*◌, ◌≤◌, Bool, true, List, [], ◌∷◌, ◌++◌, length, take, Option, Some, None, Ok, Err, inl, inr, refl, sym, ap, subst, ◌∙◌, append_assoc, append-nil, arith, not, false, ◌&&◌, true≢false}
 use Rattle.std.proofs.lemmas.List.{length-append, length-take-le, take_at}
-use Rattle.std.specs.Prelude.{unwrap_or, if◌then◌else◌, ◌==◌}
+use Rattle.std.specs.Prelude.{Result, IfErr, unwrap_or, if◌then◌else◌, ◌==◌}
 use Rattle.ncc_values.specs.Numbers.{number_of}
 use Rattle.ncc_values.specs.Padding.{padding_of}
 use Rattle.ncc_values.specs.Values.{values_of}
@@ -18,6 +18,7 @@ use Rattle.ncc_schema.specs.Header.{nc_attribute}
 use Rattle.ncc_schema.specs.declared.schema.Mark.{Mark}
 use Rattle.ncc_schema.specs.declared.schema.Mark.TheVariants as of
 use Rattle.ncc_header.specs.declared.built.Named.TheVariants as named
+use Rattle.ncc_header.specs.declared.built.Next.{Next}
 use Rattle.ncc_header.specs.declared.built.Next.TheVariants as nexts
 use Rattle.ncc_header.specs.declared.built.Owner.{Owner}
 use Rattle.ncc_header.specs.declared.fault.Wrong.{Wrong}
@@ -30,7 +31,7 @@ use Rattle.ncc_header.specs.Fields.{attr, attrs, name, nc_type, nelems, bytes, p
 use Rattle.ncc_header.specs.Grammar.{Label, Plain, Padding, Begin, Grammar, done, field, ◌>>=◌, repeat, CountOfTagged}
 use Rattle.ncc_header.specs.Left.{Given, left_of, come_of, from_attrs, with_attrs, from_vars, before_of, from_rank, ended, from_type, after_dim, from_length, with_dims, in_var}
 use Rattle.ncc_header.specs.Marks.{all_zero, mark_of}
-use Rattle.ncc_header.specs.Passing.{StartsWith, StartsWithBegin, Passes, PassesBegin, padded, var_head, placed}
+use Rattle.ncc_header.specs.Passing.{StartsWith, StartsWithBegin, Passes, PassesBegin, NeedsMemory, padded, var_head, placed}
 use Rattle.ncc_header.specs.Reading.{course, next_of, held_of, begun_of, onward, Went}
 use Rattle.ncc_header.specs.Steps.{with_begin}
 use mathlib.Core.Path.{fun_ext}
@@ -212,6 +213,27 @@ passes_tail v text ids notes t size at piece d e after s u w =
     passes_before (nc_type v) (λ y. vsize v >>= λ z. begin v >>= λ n. done (placed text ids notes y z n)) t last piece d after o s
     (passes_before (vsize v) (λ z. begin v >>= λ n. done (placed text ids notes t z n)) size last d e after o u
     (passes_begin v at (placed text ids notes t size) e after w))
+
+-- ---- want of memory
+
+pub if_err : {T E : Type 0} (r : Result T E) (P : Type 0) → P → IfErr r (λ e. P)
+if_err (Ok x) P p = tt
+if_err (Err e) P p = p
+
+-- what comes next is an item of this kind
+pub needed : (r : Reading) (n : Next) (piece : List ℕ) → r.next ≡ n → NeedsMemory n r.built piece → NeedsMemory r.next r.built piece
+needed r n piece is p = subst (λ (m : Next). NeedsMemory m r.built piece) (sym is) p
+
+-- a front of the numbers of a variable's dimensions, with one number more
+pub first_id : (v : Version) (dims : List Dim) (ids start rest front after : List ℕ) (n i : ℕ) → (i ≡ 0) × (ids ≡ []) × (rest ≡ start) ⊎ ((id : ℕ) × (mid : List ℕ) × Passes (dimid v dims []) id start mid)
+    → StartsWith rest front (count_width_of v) after → n ≡ number_of front → dimid_wrong dims ids n ≡ None
+    → (id : ℕ) × (mid : List ℕ) × Passes (dimid v dims []) id start mid
+first_id v dims ids start rest front after n i (inl none) starts is right = (
+  n,
+  after,
+  subst (λ (piece : List ℕ). Passes (dimid v dims []) n piece after) none.2 (passes_number (count_width_of v) (dimid_wrong dims []) n rest front after starts is (subst (λ (before : List ℕ). dimid_wrong dims before n ≡ None) none.1 right)),
+)
+first_id v dims ids start rest front after n i (inr some) starts is right = some
 
 -- ---- readings
 

@@ -1,5 +1,5 @@
 -- What stands whole at the front of a piece.
-use Rattle.std.specs.Prelude.{◌≡◌, ℕ, ◌+◌, ◌-◌, ◌≤◌, List, [], ◌∷◌, ◌++◌, length, None}
+use Rattle.std.specs.Prelude.{◌≡◌, ◌⊎◌, ℕ, ◌+◌, ◌-◌, ◌<◌, ◌≤◌, List, [], ◌∷◌, ◌++◌, length, None}
 use Rattle.ncc_schema.specs.declared.schema.Mark.{Mark}
 use Rattle.ncc_values.specs.Numbers.{number_of}
 use Rattle.ncc_values.specs.Version.{offset_width_of}
@@ -10,9 +10,13 @@ use Rattle.ncc_schema.specs.declared.schema.Dim.{Dim}
 use Rattle.ncc_schema.specs.declared.schema.Var.{Var}
 use Rattle.ncc_schema.specs.Header.{nc_attribute}
 use Rattle.ncc_schema.specs.Schema.{Place}
-use Rattle.ncc_header.specs.Fields.{bytes, padding, begin_wrong, name, dimids, list_head}
+use Rattle.ncc_header.specs.declared.built.Built.{Built}
+use Rattle.ncc_header.specs.declared.built.Named.TheVariants as named
+use Rattle.ncc_header.specs.declared.built.Next.{Next}
+use Rattle.ncc_header.specs.declared.built.Next.TheVariants as nexts
+use Rattle.ncc_header.specs.Fields.{bytes, padding, begin_wrong, name, nelems, attr, dim, dimid, dimids, list_head}
 use Rattle.ncc_header.specs.Grammar.{Grammar, done, ◌>>=◌}
-use Rattle.ncc_header.specs.Left.{Given}
+use Rattle.ncc_header.specs.Left.{Given, from_type}
 use Rattle.ncc_header.specs.Reading.{course}
 
 -- so many bytes stand at the front of a piece, and the others after them
@@ -53,3 +57,34 @@ pub record StartsWithBegin (v : Version) (n : ℕ) (piece after : List ℕ) : Ty
   pub starts : StartsWith piece front (offset_width_of v) after
   pub is : n ≡ number_of front
   pub right : begin_wrong v n ≡ None
+
+-- ---- what is there before memory is needed
+
+-- the piece begins with an item of the grammar
+abbrev pub HasWhole : {A : Type 0} → Grammar A → (piece : List ℕ) → Type 0
+HasWhole {A = A} g piece = (item : A) × (after : List ℕ) × Passes g item piece after
+
+-- or with one whose last field is a begin field
+abbrev pub HasWholeTail : {A : Type 0} → Grammar A → Version → (piece : List ℕ) → Type 0
+HasWholeTail {A = A} g v piece = (item : A) × (after : List ℕ) × PassesBegin g item piece after (offset_width_of v)
+
+-- how many dimensions a variable has, at least one, and the number of the first of them
+abbrev pub HasFirstId : Version → List Dim → (piece : List ℕ) → Type 0
+HasFirstId v dims piece =
+    (rank : ℕ) × (id : ℕ) × (mid : List ℕ) × (after : List ℕ)
+    × (0 < rank) × Passes (nelems v) rank piece mid × Passes (dimid v dims []) id mid after
+
+-- a variable's name and such a front of the numbers of its dimensions
+abbrev pub HasFrontOfVar : Version → List Dim → (piece : List ℕ) → Type 0
+HasFrontOfVar v dims piece = (text : List ℕ) × (mid : List ℕ) × Passes (name v) text piece mid × HasFirstId v dims mid
+
+-- the item that comes next stands whole at the front of the piece, or so much of it as needs memory
+abbrev pub NeedsMemory : Next → Built → (piece : List ℕ) → Type 0
+NeedsMemory (nexts.NameLength (named.Attr o)) b piece = HasWhole (attr b.lists.parts.version) piece
+NeedsMemory (nexts.NameLength named.Dim) b piece = HasWhole (dim b.lists.parts.version b.lists.parts.dims.items) piece
+NeedsMemory (nexts.NameLength named.Var) b piece =
+    HasWhole (var_head b.lists.parts.version b.lists.parts.dims.items) piece
+    ⊎ HasFrontOfVar b.lists.parts.version b.lists.parts.dims.items piece
+NeedsMemory nexts.VarType b piece =
+    HasWholeTail (from_type b.lists.parts.version b.lists.var.name b.lists.var.dims.items b.lists.attrs.items) b.lists.parts.version piece
+NeedsMemory _ b piece = ⊥

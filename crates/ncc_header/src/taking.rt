@@ -3,6 +3,7 @@
 ghost use Rattle.std.specs.Prelude.{◌≡◌, ◌≢◌, ◌+◌, ◌-◌, ◌≤◌, ◌<◌, ◌^◌, ℕ, List, [], ◌++◌, length, take, Some, None, Err, OnOk, IfOk, IfErr, IfSome, IfNone};
 ghost use Rattle.ncc_header.specs.Left.{left_of, come_of, idle_of};
 ghost use Rattle.ncc_header.specs.Marks.{mark_of};
+ghost use Rattle.ncc_header.specs.Passing.{NeedsMemory};
 ghost use Rattle.ncc_header.specs.Steps.{size_of, label_of, StepsTo, Steps};
 ghost use Rattle.ncc_header.specs.Reading.{next_of, held_of, told_of, Takes, Went, FailsBehind, Waits, WaitsBehind, effort_of};
 
@@ -204,17 +205,18 @@ fn take_next(
 }
 
 /// Takes what comes next at once, a dimension, an attribute or what stands before or after those of a variable, where
-/// the rest of a piece begins with all of it and nothing is to mark or to refuse, and tells how many bytes are its.
-/// Else nothing is taken.
+/// the rest of a piece, which is within the limit, begins with all of it and nothing is to mark or to refuse, and tells
+/// how many bytes are its. Else nothing is taken.
+#[inline]
 fn take_item(alloc: Global, reading: &mut Reading, rest: &[u8]) -> Result<Option<usize>, AllocError>
+    requires none { reading.old.held.items ≡ [] }
+    requires within { reading.old.at + length rest.now ≤ reading.old.limit }
     ensures some { IfOk result (λ o. IfSome o (λ n. Went reading.old reading.new rest.now n)) }
     ensures less { IfOk result (λ o. IfSome o (λ n. effort_of reading.new < effort_of reading.old)) }
     ensures none { IfOk result (λ o. IfNone o (reading.new ≡ reading.old)) }
     ensures memory { IfErr result (λ _. 12 ≤ reading.old.at) }
+    ensures needs { IfErr result (λ _. NeedsMemory reading.old.next reading.old.built rest.now) }
 {
-    if !reading.held.is_empty() {
-        return Ok(None);
-    }
     match reading.next {
         Next::NameLength(Named::Attr(owner)) => take_attr(alloc, reading, owner, rest),
         Next::NameLength(Named::Dim) => take_dim(alloc, reading, rest),
@@ -222,6 +224,28 @@ fn take_item(alloc: Global, reading: &mut Reading, rest: &[u8]) -> Result<Option
         Next::VarType => take_tail(alloc, reading, rest),
         _ => Ok(None),
     }
+}
+
+/// The same of a piece that may end past the limit.
+fn take_item_within(
+    alloc: Global,
+    reading: &mut Reading,
+    rest: &[u8],
+) -> Result<Option<usize>, AllocError>
+    ensures some { IfOk result (λ o. IfSome o (λ n. Went reading.old reading.new rest.now n)) }
+    ensures less { IfOk result (λ o. IfSome o (λ n. effort_of reading.new < effort_of reading.old)) }
+    ensures none { IfOk result (λ o. IfNone o (reading.new ≡ reading.old)) }
+    ensures memory { IfErr result (λ _. 12 ≤ reading.old.at) }
+    ensures needs { IfErr result (λ _. NeedsMemory reading.old.next reading.old.built
+        (take (reading.old.limit - reading.old.at) rest.now)) }
+{
+    if !reading.held.is_empty() {
+        return Ok(None);
+    }
+    let room = reading.limit - reading.at;
+    let size = room.min(rest.len() as u64) as usize;
+    let (within, _past) = rest.split_at(size);
+    take_item(alloc, reading, within)
 }
 
 /// Takes an item at once, or else the next field, where the rest of a piece makes it whole, and
@@ -238,7 +262,7 @@ fn take_some(
     ensures fails { IfErr result (FailsBehind reading.old rest.now) }
     ensures memory { result ≡ Err HeaderError.Memory → 12 ≤ reading.old.at }
 {
-    match take_item(alloc, reading, rest) {
+    match take_item_within(alloc, reading, rest) {
         Ok(Some(n)) => Ok(Some(n)),
         Ok(None) => take_next(alloc, reading, rest),
         Err(_) => Err(HeaderError::Memory),

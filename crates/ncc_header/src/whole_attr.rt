@@ -1,13 +1,13 @@
 //! Taking an attribute that is whole in a piece, with nothing to mark or to refuse, at once.
 
-ghost use Rattle.std.specs.Prelude.{◌≡◌, ◌*◌, ◌%◌, ◌≤◌, ◌<◌, [], ◌∷◌, ◌++◌, length, IfSome, IfNone, IfOk, IfErr, OnOk};
+ghost use Rattle.std.specs.Prelude.{◌≡◌, ◌+◌, ◌*◌, ◌%◌, ◌≤◌, ◌<◌, [], ◌∷◌, ◌++◌, length, IfSome, IfNone, IfOk, IfErr, OnOk};
 ghost use Rattle.std.specs.Vec.{vec_len, vec_capacity};
 ghost use Rattle.ncc_values.specs.Values.{no_values, values_of};
 ghost use Rattle.ncc_values.specs.XType.{size_of as bytes_each};
 ghost use Rattle.ncc_header.specs.declared.built.Named.TheVariants as named;
 ghost use Rattle.ncc_header.specs.declared.built.Next.TheVariants as nexts;
 ghost use Rattle.ncc_header.specs.Fields.{attr};
-ghost use Rattle.ncc_header.specs.Passing.{Passes, padded};
+ghost use Rattle.ncc_header.specs.Passing.{Passes, NeedsMemory, padded};
 ghost use Rattle.ncc_header.specs.Reading.{Went, effort_of};
 
 use crate::attrs::next_attr;
@@ -131,8 +131,8 @@ fn push_found(
     fill(&mut attrs[number], found)
 }
 
-/// Takes the attribute that comes next, where the rest of a piece begins with all of it, within the limit and
-/// with nothing to mark or to refuse, and tells how many bytes are its. Any other is left as it is.
+/// Takes the attribute that comes next, where the rest of a piece, which is within the limit, begins with all of it and
+/// nothing is to mark or to refuse, and tells how many bytes are its. Any other is left as it is, and needs no memory.
 pub fn take_attr(
     alloc: Global,
     reading: &mut Reading,
@@ -141,18 +141,17 @@ pub fn take_attr(
 ) -> Result<Option<usize>, AllocError>
     requires next { reading.old.next ≡ nexts.NameLength (named.Attr owner) }
     requires none { reading.old.held.items ≡ [] }
+    requires within { reading.old.at + length rest.now ≤ reading.old.limit }
     ensures some { IfOk result (λ o. IfSome o (λ n. Went reading.old reading.new rest.now n)) }
     ensures less { IfOk result (λ o. IfSome o (λ n. effort_of reading.new < effort_of reading.old)) }
     ensures none { IfOk result (λ o. IfNone o (reading.new ≡ reading.old)) }
     ensures memory { IfErr result (λ _. 12 ≤ reading.old.at) }
+    ensures needs { IfErr result (λ _. NeedsMemory reading.old.next reading.old.built rest.now) }
 {
     let Some(found) = whole_attr(reading.built.lists.parts.version, rest) else {
         return Ok(None);
     };
     let used = rest.len() - found.after.len();
-    if used as u64 > reading.limit - reading.at {
-        return Ok(None);
-    }
     let left = reading.built.lists.attrs_left;
     match push_found(alloc, &mut reading.built.lists.attrs, found, left) {
         Ok(()) => {

@@ -1,10 +1,10 @@
 //! Taking a dimension that is whole in a piece, with nothing to mark or to refuse, at once.
 
-ghost use Rattle.std.specs.Prelude.{◌≡◌, ◌≤◌, ◌<◌, [], length, IfSome, IfNone, IfOk, IfErr};
+ghost use Rattle.std.specs.Prelude.{◌≡◌, ◌+◌, ◌≤◌, ◌<◌, [], length, IfSome, IfNone, IfOk, IfErr};
 ghost use Rattle.ncc_header.specs.declared.built.Named.TheVariants as named;
 ghost use Rattle.ncc_header.specs.declared.built.Next.TheVariants as nexts;
 ghost use Rattle.ncc_header.specs.Fields.{dim};
-ghost use Rattle.ncc_header.specs.Passing.{Passes};
+ghost use Rattle.ncc_header.specs.Passing.{Passes, NeedsMemory};
 ghost use Rattle.ncc_header.specs.Reading.{Went, effort_of};
 
 use crate::built::Next;
@@ -39,8 +39,8 @@ fn whole_dim<'a>(version: Version, before: &[Dim], piece: &'a [u8]) -> Option<Fo
     })
 }
 
-/// Takes the dimension that comes next, where the rest of a piece begins with all of it, within the limit and with
-/// nothing to mark or to refuse, and tells how many bytes are its. Any other is left as it is.
+/// Takes the dimension that comes next, where the rest of a piece, which is within the limit, begins with all of it and
+/// nothing is to mark or to refuse, and tells how many bytes are its. Any other is left as it is, and needs no memory.
 pub fn take_dim(
     alloc: Global,
     reading: &mut Reading,
@@ -48,19 +48,18 @@ pub fn take_dim(
 ) -> Result<Option<usize>, AllocError>
     requires next { reading.old.next ≡ nexts.NameLength named.Dim }
     requires none { reading.old.held.items ≡ [] }
+    requires within { reading.old.at + length rest.now ≤ reading.old.limit }
     ensures some { IfOk result (λ o. IfSome o (λ n. Went reading.old reading.new rest.now n)) }
     ensures less { IfOk result (λ o. IfSome o (λ n. effort_of reading.new < effort_of reading.old)) }
     ensures none { IfOk result (λ o. IfNone o (reading.new ≡ reading.old)) }
     ensures memory { IfErr result (λ _. 12 ≤ reading.old.at) }
+    ensures needs { IfErr result (λ _. NeedsMemory reading.old.next reading.old.built rest.now) }
 {
     let version = reading.built.lists.parts.version;
     let Some(found) = whole_dim(version, &reading.built.lists.parts.dims, rest) else {
         return Ok(None);
     };
     let used = rest.len() - found.after.len();
-    if used as u64 > reading.limit - reading.at {
-        return Ok(None);
-    }
     let name = Name::from_slice(alloc, found.name)?;
     let dim = Dim {
         name,

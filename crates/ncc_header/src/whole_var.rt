@@ -1,14 +1,14 @@
 //! Taking what stands before and after a variable's attributes, where it is whole in a piece with nothing to mark or
 //! to refuse, at once.
 
-ghost use Rattle.std.specs.Prelude.{◌≡◌, ◌≤◌, ◌<◌, ℕ, List, [], length, IfSome, IfNone, IfOk, IfErr};
+ghost use Rattle.std.specs.Prelude.{◌≡◌, ◌+◌, ◌≤◌, ◌<◌, ℕ, List, [], length, IfSome, IfNone, IfOk, IfErr};
 ghost use Rattle.ncc_values.specs.Version.{offset_width_of};
 ghost use Rattle.ncc_schema.specs.declared.schema.Attr.{Attr as TheAttr};
 ghost use Rattle.ncc_header.specs.declared.built.Named.TheVariants as named;
 ghost use Rattle.ncc_header.specs.declared.built.Next.TheVariants as nexts;
 ghost use Rattle.ncc_header.specs.Fields.{dimids};
 ghost use Rattle.ncc_header.specs.Left.{from_type};
-ghost use Rattle.ncc_header.specs.Passing.{Passes, PassesBegin, placed, var_head};
+ghost use Rattle.ncc_header.specs.Passing.{Passes, PassesBegin, HasFirstId, HasFrontOfVar, NeedsMemory, placed, var_head};
 ghost use Rattle.ncc_header.specs.Reading.{Went, effort_of};
 
 use crate::attrs::next_attr;
@@ -39,6 +39,7 @@ fn whole_ids<'a>(
 ) -> Result<Option<Ids<'a>>, AllocError>
     ensures passes { IfOk result (λ o. IfSome o (λ x. Passes (dimids version dims.now) x.ids.items piece.now x.after.now)) }
     ensures less { IfOk result (λ o. IfSome o (λ x. length x.after.now ≤ length piece.now)) }
+    ensures needs { IfErr result (λ _. HasFirstId version dims.now piece.now) }
 {
     let Some((rank, start)) = count(version, piece) else {
         return Ok(None);
@@ -79,6 +80,7 @@ fn whole_head<'a>(
     ensures passes { IfOk result (λ o. IfSome o (λ x. Passes (var_head version dims.now)
         (x.text.now, x.ids.items, x.attrs) piece.now x.after.now)) }
     ensures less { IfOk result (λ o. IfSome o (λ x. length x.after.now < length piece.now)) }
+    ensures needs { IfErr result (λ _. HasFrontOfVar version dims.now piece.now) }
 {
     let Some((text, rest)) = whole_name(version, piece) else {
         return Ok(None);
@@ -125,9 +127,9 @@ fn whole_tail(version: Version, piece: &[u8]) -> Option<Tail<'_>>
     })
 }
 
-/// Takes the front of the variable that comes next, up to its attributes, where the rest of a piece begins with all
-/// of it, within the limit and with nothing to mark or to refuse, and tells how many bytes are its. Any other is left
-/// as it is.
+/// Takes the front of the variable that comes next, up to its attributes, where the rest of a piece, which is within the
+/// limit, begins with all of it and nothing is to mark or to refuse, and tells how many bytes are its. Any other is left
+/// as it is, and needs memory only for the numbers of its dimensions.
 pub fn take_var(
     alloc: Global,
     reading: &mut Reading,
@@ -135,19 +137,18 @@ pub fn take_var(
 ) -> Result<Option<usize>, AllocError>
     requires next { reading.old.next ≡ nexts.NameLength named.Var }
     requires none { reading.old.held.items ≡ [] }
+    requires within { reading.old.at + length rest.now ≤ reading.old.limit }
     ensures some { IfOk result (λ o. IfSome o (λ n. Went reading.old reading.new rest.now n)) }
     ensures less { IfOk result (λ o. IfSome o (λ n. effort_of reading.new < effort_of reading.old)) }
     ensures none { IfOk result (λ o. IfNone o (reading.new ≡ reading.old)) }
     ensures memory { IfErr result (λ _. 12 ≤ reading.old.at) }
+    ensures needs { IfErr result (λ _. NeedsMemory reading.old.next reading.old.built rest.now) }
 {
     let version = reading.built.lists.parts.version;
     let Some(head) = whole_head(alloc, version, &reading.built.lists.parts.dims, rest)? else {
         return Ok(None);
     };
     let used = rest.len() - head.after.len();
-    if used as u64 > reading.limit - reading.at {
-        return Ok(None);
-    }
     let name = Name::from_slice(alloc, head.text)?;
     reading.built.lists.var = Begun {
         name,
@@ -167,19 +168,18 @@ pub fn take_tail(
 ) -> Result<Option<usize>, AllocError>
     requires next { reading.old.next ≡ nexts.VarType }
     requires none { reading.old.held.items ≡ [] }
+    requires within { reading.old.at + length rest.now ≤ reading.old.limit }
     ensures some { IfOk result (λ o. IfSome o (λ n. Went reading.old reading.new rest.now n)) }
     ensures less { IfOk result (λ o. IfSome o (λ n. effort_of reading.new < effort_of reading.old)) }
     ensures none { IfOk result (λ o. IfNone o (reading.new ≡ reading.old)) }
     ensures memory { IfErr result (λ _. 12 ≤ reading.old.at) }
+    ensures needs { IfErr result (λ _. NeedsMemory reading.old.next reading.old.built rest.now) }
 {
     let version = reading.built.lists.parts.version;
     let Some(tail) = whole_tail(version, rest) else {
         return Ok(None);
     };
     let used = rest.len() - tail.after.len();
-    if used as u64 > reading.limit - reading.at {
-        return Ok(None);
-    }
     let var = begun_var(alloc, &mut reading.built.lists, tail.xtype);
     let place = VarPlace {
         vsize: tail.vsize,

@@ -1,7 +1,6 @@
 -- The place one further on along the last index.
-use Rattle.std.proofs.Common.{◌≡◌, ℕ, suc, ◌+◌, ◌*◌, ◌<◌, Bool, true, false, cond, List, [], ◌∷◌, length, refl, sym, ap, ◌∙◌, arith}
+use Rattle.std.proofs.Common.{◌≡◌, ℕ, ◌+◌, ◌*◌, ◌<◌, Bool, true, false, cond, List, [], ◌∷◌, length, refl, ap, ◌∙◌, arith}
 use Rattle.std.proofs.Math.Nat.{add-mul}
-use Rattle.ncc_layout.specs.Sizes.{product}
 use Rattle.ncc_layout.specs.Elements.{row_major, offset_in, next_index}
 
 pub next_number : (lengths index : List ℕ) → length index ≡ length lengths → 0 < length lengths → row_major lengths (next_index index) ≡ row_major lengths index + 1

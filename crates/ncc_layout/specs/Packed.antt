@@ -1,5 +1,5 @@
 -- Where one more record goes.
-use Rattle.std.specs.Prelude.{◌≡◌, ℕ, ◌+◌, ◌*◌, ◌≤◌, Option, Some, None}
+use Rattle.std.specs.Prelude.{ℕ, ◌+◌, ◌*◌, ◌≤◌, Option, Some, None}
 use Rattle.ncc_layout.specs.declared.placed_file.Placed.{Placed}
 use Rattle.ncc_layout.specs.Extents.{least_begin, records_of}
 use Rattle.ncc_layout.specs.Placed.{extents_of_file, file_length_of, record_size_of_file, records_of_file}

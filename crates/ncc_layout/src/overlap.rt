@@ -1,6 +1,6 @@
 //! Which variable shares a byte with another.
 
-ghost use Rattle.std.specs.Prelude.{◌≡◌, IfOk};
+ghost use Rattle.std.specs.Prelude.{◌≡◌, [], IsOk, IfOk};
 ghost use Rattle.std.specs.List.{AllByRecursion};
 ghost use Rattle.ncc_layout.specs.Bounds.{HasBytes, AreNumbered, Shared, Overlaps, of_kind};
 
@@ -9,7 +9,8 @@ use std::alloc::{AllocError, Global};
 
 /// The fixed extents, or those of record variables.
 fn of_kind(alloc: Global, extents: &[Extent], is_record: bool) -> Result<Vec<Extent>, AllocError>
-    ensures { IfOk result (λ v. v.items ≡ of_kind is_record extents.now) }
+    ensures kept { IfOk result (λ v. v.items ≡ of_kind is_record extents.now) }
+    ensures none { extents.now ≡ [] → IsOk result }
 {
     let mut kept = Vec::new(alloc);
     for extent in extents {
@@ -43,7 +44,8 @@ fn overlap_of(
 ) -> Result<Option<usize>, AllocError>
     requires bytes { AllByRecursion HasBytes extents.now }
     requires numbered { AreNumbered extents.now }
-    ensures { IfOk result (λ found. Shared (of_kind is_record extents.now) found) }
+    ensures found { IfOk result (λ found. Shared (of_kind is_record extents.now) found) }
+    ensures none { extents.now ≡ [] → IsOk result }
 {
     let mut kept = of_kind(alloc, extents, is_record)?;
     Ok(first_shared(&mut kept))
@@ -54,7 +56,8 @@ fn overlap_of(
 pub fn overlap(alloc: Global, extents: &[Extent]) -> Result<Option<usize>, AllocError>
     requires bytes { AllByRecursion HasBytes extents.now }
     requires numbered { AreNumbered extents.now }
-    ensures { IfOk result (Overlaps extents.now) }
+    ensures found { IfOk result (Overlaps extents.now) }
+    ensures none { extents.now ≡ [] → IsOk result }
 {
     match overlap_of(alloc, extents, false)? {
         Some(variable) => Ok(Some(variable)),

@@ -1,6 +1,6 @@
 //! Whether every element of a file has its place.
 
-ghost use Rattle.std.specs.Prelude.{◌≡◌, ◌<◌, IfOk, length};
+ghost use Rattle.std.specs.Prelude.{◌≡◌, ◌≢◌, ◌<◌, [], Err, IsOk, IfOk, length};
 ghost use Rattle.ncc_schema.specs.Schema.{places_of, LegalDims, Sound, Legal};
 ghost use Rattle.ncc_layout.specs.Sizes.{AreSizes};
 ghost use Rattle.ncc_layout.specs.Extents.{extents_of};
@@ -23,7 +23,8 @@ use std::alloc::{AllocError, Global};
 fn extents_of(alloc: Global, header: &Header, sizes: &Sizes) -> Result<Vec<Extent>, AllocError>
     requires legal { Legal header.now.schema (places_of header.now.places) }
     requires sizes { AreSizes header.now.schema sizes.now }
-    ensures { IfOk result (λ v. v.items ≡ extents_of header.now.schema (places_of header.now.places)) }
+    ensures extents { IfOk result (λ v. v.items ≡ extents_of header.now.schema (places_of header.now.places)) }
+    ensures none { header.now.schema.vars ≡ [] → IsOk result }
 {
     let dims = header.schema.dims.as_slice();
     let vars = header.schema.vars.as_slice();
@@ -65,7 +66,8 @@ fn vars_of(
 ) -> Result<Vec<PlacedVar>, AllocError>
     requires sound { Sound schema.now }
     requires long { length extents.now ≡ length schema.now.vars }
-    ensures { IfOk result (λ placed. placed.items ≡ placed_on schema.now.dims records schema.now.vars extents.now) }
+    ensures placed { IfOk result (λ placed. placed.items ≡ placed_on schema.now.dims records schema.now.vars extents.now) }
+    ensures none { schema.now.vars ≡ [] → IsOk result }
 {
     let dims = schema.dims.as_slice();
     let vars = schema.vars.as_slice();
@@ -119,7 +121,8 @@ fn lay(
     requires long { length extents.now ≡ length schema.now.vars }
     requires laid { IsLaid frame (placed_on schema.now.dims frame.records schema.now.vars extents.now) }
     requires sized { AreSized frame.record_size (placed_on schema.now.dims frame.records schema.now.vars extents.now) }
-    ensures { IfOk result (HasLaid frame (placed_on schema.now.dims frame.records schema.now.vars extents.now)) }
+    ensures laid { IfOk result (HasLaid frame (placed_on schema.now.dims frame.records schema.now.vars extents.now)) }
+    ensures none { schema.now.vars ≡ [] → IsOk result }
 {
     let vars = vars_of(alloc, schema, extents, frame.records)?;
     Ok(Placed::new(
@@ -140,7 +143,8 @@ pub fn placed(
 ) -> Result<Placed, PlaceError>
     requires legal { Legal header.now.schema (places_of header.now.places) }
     requires sizes { AreSizes header.now.schema sizes.now }
-    ensures { PlacedAs header.now.schema header.now.places header.now.length file_length result }
+    ensures placed { PlacedAs header.now.schema header.now.places header.now.length file_length result }
+    ensures none { header.now.schema.vars ≡ [] → result ≢ Err PlaceError.Memory }
 {
     let extents = extents_of(alloc, header, sizes)?;
     let frame = frame_of(header, sizes, &extents, file_length);

@@ -1,6 +1,6 @@
 //! The standard placement of a schema.
 
-ghost use Rattle.std.specs.Prelude.{◌≡◌, ℕ, List, [], ◌∷◌, ◌++◌, map, IfOk, MatchResult, if◌then◌else◌};
+ghost use Rattle.std.specs.Prelude.{◌≡◌, ◌≢◌, ℕ, List, [], ◌∷◌, ◌++◌, map, Err, IsOk, IfOk, MatchResult, if◌then◌else◌};
 ghost use Rattle.ncc_schema.specs.declared.schema.Var.{Var};
 ghost use Rattle.ncc_schema.specs.Schema.{places_of, LegalDims, Sound, Legal, is_record_var};
 ghost use Rattle.ncc_layout.specs.Sizes.{rounded};
@@ -69,7 +69,8 @@ fn placed(
     requires fits { (records : ℕ) × FitsVersion schema.now records }
     requires sizes { sizes.now ≡ map (rounded schema.now.dims) schema.now.vars }
     requires start { AreEnds schema.now [] start }
-    ensures { IfOk result (λ places. IsStandard schema.now places.items) }
+    ensures standard { IfOk result (λ places. IsStandard schema.now places.items) }
+    ensures none { schema.now.vars ≡ [] → IsOk result }
 {
     let dims = schema.dims.as_slice();
     let vars = schema.vars.as_slice();
@@ -109,6 +110,7 @@ pub fn standard(alloc: Global, schema: &Schema) -> Result<Vec<VarPlace>, PlanFau
         (λ places. IsPlan schema.now (known schema.now.count) places.items)
         (PlanFails schema.now (known schema.now.count)) }
     ensures legal { IfOk result (λ places. Legal schema.now (places_of places.items)) }
+    ensures none { schema.now.vars ≡ [] → result ≢ Err PlanFault.Memory }
 {
     let records = known(schema.count);
     let found = sizes(alloc, schema)?;

@@ -1,6 +1,6 @@
 //! The sizes of variables and of a record.
 
-ghost use Rattle.std.specs.Prelude.{◌≡◌, ◌*◌, ◌<◌, ◌≤◌, List, map};
+ghost use Rattle.std.specs.Prelude.{◌≡◌, ◌*◌, ◌<◌, ◌≤◌, List, [], map, IsOk};
 ghost use Rattle.std.specs.List.{AllByRecursion};
 ghost use Rattle.ncc_schema.specs.Schema.{IsFixed, LegalDims, Sound, is_record_var};
 ghost use Rattle.ncc_layout.specs.Sizes.{in_u64, in_room, room, length_of, product, inner, slab, with_slab, Sums, Adds, Fit, IsSizes};
@@ -111,7 +111,8 @@ fn add_var(totals: Totals, dims: &[Dim], var: &Var) -> Option<(u64, Totals)>
 /// The sizes of all variables and of a record, or the first variable for which they are too large.
 pub fn sizes(alloc: Global, schema: &Schema) -> Result<Sizes, SizeError>
     requires { Sound schema.now }
-    ensures { IsSizes schema.now result }
+    ensures sizes { IsSizes schema.now result }
+    ensures none { schema.now.vars ≡ [] → IsOk result }
 {
     let dims = schema.dims.as_slice();
     let vars = schema.vars.as_slice();

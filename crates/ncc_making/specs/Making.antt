@@ -1,6 +1,8 @@
 -- The file that a conversion makes.
-use Rattle.std.specs.Prelude.{◌≡◌, ◌⊎◌, ◌+◌, ◌≤◌, Bool, IsTrue, List, ℕ, length, Option, Some}
+use Rattle.std.specs.Prelude.{◌≡◌, ◌≢◌, ◌⊎◌, ◌+◌, ◌≤◌, Bool, IsTrue, List, ℕ, length, Option, Some}
+use Rattle.ncc_values.specs.Failures.{Rose}
 use Rattle.ncc_values.specs.declared.version.Version.{Version}
+use Rattle.ncc_schema.specs.declared.sink.Sink.{Ghosts}
 use Rattle.ncc_schema.specs.declared.schema.Schema.{Schema}
 use Rattle.ncc_layout.specs.declared.placed_file.Placed.{Placed}
 use Rattle.ncc_check.specs.Checks.{Opens}
@@ -11,6 +13,8 @@ use Rattle.ncc_write.specs.Planned.{found_schema}
 use Rattle.ncc_convert.specs.Converting.{IsSomeFile, ReadsAs}
 use Rattle.ncc_convert.specs.Copying.{pieces_of}
 use Rattle.ncc_convert.specs.Found.{IsOf}
+use Rattle.ncc_engines.specs.declared.answer.Answer.{Answer}
+use Rattle.ncc_engines.specs.declared.answer.Answer.TheVariants.{Device}
 
 -- the schema of an open file, in this version
 abbrev pub in_version : Version → Schema → Placed → Schema
@@ -42,3 +46,15 @@ abbrev pub FewCalls : (bytes : List ℕ) → (limit : ℕ) → Version → (old 
 FewCalls b limit v old new = (new ≤ old + calls_for (length b) limit)
     ⊎ ((s : Schema) × (p : Placed) × Opens b limit s p × (new ≤ old + calls_for (length b) limit
     + pieces_of (in_version v s p) (slabs_of (in_version v s p))))
+
+-- which failures an answer tells, of a target and a store with these counts: Device only where one of them rose, and
+-- else none changed
+pub record FailsInto (target made : ℕ) (answer : Answer) (before after : ℕ) : Type 0 where
+  pub quiet : answer ≢ Device → (after ≡ before) × (made ≡ target)
+  pub device : answer ≡ Device → Rose before after ⊎ Rose target made
+
+-- the same of a target, a sink and a store; where the count of one but the sink changed, the sink wasn't called
+pub record FailsAny (target made : ℕ) {W : Type 0} (g : Ghosts W) (sink sent : W) (answer : Answer) (before after : ℕ) : Type 0 where
+  pub quiet : answer ≢ Device → (after ≡ before) × (made ≡ target) × (g.failures sent ≡ g.failures sink)
+  pub device : answer ≡ Device → Rose before after ⊎ Rose target made ⊎ Rose (g.failures sink) (g.failures sent)
+  pub still : (after ≡ before → ⊥) ⊎ (made ≡ target → ⊥) → g.calls sent ≡ g.calls sink

@@ -1,11 +1,11 @@
 //! Converting an open file, or a store, into a new file.
 
-ghost use Rattle.std.specs.Prelude.{◌≡◌, ◌≢◌, ◌⊎◌, ◌+◌, ◌≤◌, max, ℕ, List, Option, None, length, IsTrue, IsSome};
+ghost use Rattle.std.specs.Prelude.{◌≡◌, ◌≢◌, ◌⊎◌, ◌+◌, ◌≤◌, max, ℕ, List, Option, None, length, true, IsTrue, IsSome};
 ghost use Rattle.ncc_values.specs.Failures.{Rose};
 ghost use Rattle.ncc_schema.specs.Device.{Puts};
 ghost use Rattle.ncc_schema.specs.declared.schema.Schema.{Schema};
 ghost use Rattle.ncc_layout.specs.declared.placed_file.Placed.{Placed};
-ghost use Rattle.ncc_store.specs.Store.{Unmoved, KeepsImages};
+ghost use Rattle.ncc_store.specs.Reading.{ReadsOnly, Rests as StoreRests};
 ghost use Rattle.ncc_layout.specs.Placed.{file_length_of, records_of_file};
 ghost use Rattle.ncc_check.specs.Checks.{Opens};
 ghost use Rattle.ncc_check.specs.FromStore.{calls_for};
@@ -21,7 +21,7 @@ ghost use Rattle.ncc_convert.specs.Lines.{converted_line, plan_line};
 ghost use Rattle.ncc_engines.specs.Converting.{IsRefusalLine, HasConvertedFront, HasRefusalFront};
 ghost use Rattle.ncc_lines.specs.Sends.{PutsFront};
 ghost use Rattle.ncc_engines.specs.Planning.{IsAgainst, IsConvertible, HaltsLine};
-ghost use Rattle.ncc_making.specs.Making.{in_version, IsFileOf, IsConverted, FewCalls};
+ghost use Rattle.ncc_making.specs.Making.{in_version, IsFileOf, IsConverted, FailsAny, FailsInto, FewCalls};
 ghost use Rattle.ncc_making.specs.Names.{NameElapses, Rests, MayLeave, IsUnnamed, IsNoneOrWhole, IsPublished};
 
 use crate::closing::{close, make};
@@ -69,16 +69,10 @@ fn convert_into<S: Store, T: Target, P: Progress>(
     ensures occupied { IsSome (T.named target.old) → (result ≡ Answer.Device) × (file.new ≡ file.old)
         × Rests T.named T.names T.moment T.names_since T.entries T.makes target.old target.new }
     ensures once { T.makes target.new ≤ T.makes target.old + 1 }
-    ensures quiet { result ≢ Answer.Device → (S.failures (store_of file.new) ≡ S.failures (store_of file.old))
-        × (T.failures target.new ≡ T.failures target.old) }
-    ensures device { result ≡ Answer.Device → Rose (S.failures (store_of file.old)) (S.failures (store_of file.new))
-        ⊎ Rose (T.failures target.old) (T.failures target.new) }
-    ensures unmoved { Unmoved S.bytes S.images S.moment S.images_since (store_of file.old) (store_of file.new) }
-    ensures kept { KeepsImages (S.images (store_of file.old)) (S.images (store_of file.new)) }
-    ensures calls { S.calls (store_of file.new) ≤ S.calls (store_of file.old)
-        + pieces_of (planned_schema built) (slabs_of (planned_schema built)) }
-    ensures reach { S.reach (store_of file.new)
-        ≤ max (S.reach (store_of file.old)) (file_length_of (placed_of file.old)) }
+    ensures store { ReadsOnly S.Store (store_of file.old) (store_of file.new)
+        (FailsInto (T.failures target.old) (T.failures target.new) result) true
+        (pieces_of (planned_schema built) (slabs_of (planned_schema built)))
+        (file_length_of (placed_of file.old)) }
 {
     let Ok(out) = make(target) else {
         return Answer::Device;
@@ -150,19 +144,11 @@ fn convert_file<S: Store, T: Target, W: Sink, P: Progress>(
         (schema_of file.old) (records_of_file (placed_of file.old)) (W.put sink.old) (W.put sink.new) }
     ensures printed { result ≡ Answer.Device
         → (W.put sink.new ≡ W.put sink.old) ⊎ Rose (W.failures sink.old) (W.failures sink.new) }
-    ensures quiet { result ≢ Answer.Device → (S.failures (store_of file.new) ≡ S.failures (store_of file.old))
-        × (T.failures target.new ≡ T.failures target.old) × (W.failures sink.new ≡ W.failures sink.old) }
-    ensures device { result ≡ Answer.Device → Rose (S.failures (store_of file.old)) (S.failures (store_of file.new))
-        ⊎ Rose (T.failures target.old) (T.failures target.new) ⊎ Rose (W.failures sink.old) (W.failures sink.new) }
-    ensures still { (S.failures (store_of file.new) ≡ S.failures (store_of file.old) → ⊥)
-        ⊎ (T.failures target.new ≡ T.failures target.old → ⊥) → W.calls sink.new ≡ W.calls sink.old }
-    ensures unmoved { Unmoved S.bytes S.images S.moment S.images_since (store_of file.old) (store_of file.new) }
-    ensures kept { KeepsImages (S.images (store_of file.old)) (S.images (store_of file.new)) }
-    ensures calls { S.calls (store_of file.new) ≤ S.calls (store_of file.old)
-        + pieces_of (in_version version (schema_of file.old) (placed_of file.old))
-        (slabs_of (in_version version (schema_of file.old) (placed_of file.old))) }
-    ensures reach { S.reach (store_of file.new)
-        ≤ max (S.reach (store_of file.old)) (file_length_of (placed_of file.old)) }
+    ensures store { ReadsOnly S.Store (store_of file.old) (store_of file.new)
+        (FailsAny (T.failures target.old) (T.failures target.new) W.Sink sink.old sink.new result) true
+        (pieces_of (in_version version (schema_of file.old) (placed_of file.old))
+        (slabs_of (in_version version (schema_of file.old) (placed_of file.old))))
+        (file_length_of (placed_of file.old)) }
 {
     let built = match plan(alloc, file, version, sink) {
         Ok(built) => built,
@@ -252,14 +238,6 @@ pub fn convert_store<S: Store + Drop, T: Target, W: Sink, P: Progress>(
     ensures passed { result.1 ≡ Answer.Passed → Puts (W.put sink.old) (W.put sink.new) (converted_line version) }
     ensures printed { result.1 ≡ Answer.Device
         → (W.put sink.new ≡ W.put sink.old) ⊎ Rose (W.failures sink.old) (W.failures sink.new) }
-    ensures quiet { result.1 ≢ Answer.Device → (S.failures result.0 ≡ S.failures store)
-        × (T.failures target.new ≡ T.failures target.old) × (W.failures sink.new ≡ W.failures sink.old) }
-    ensures device { result.1 ≡ Answer.Device → Rose (S.failures store) (S.failures result.0)
-        ⊎ Rose (T.failures target.old) (T.failures target.new) ⊎ Rose (W.failures sink.old) (W.failures sink.new) }
-    ensures still { (S.failures result.0 ≡ S.failures store → ⊥)
-        ⊎ (T.failures target.new ≡ T.failures target.old → ⊥) → W.calls sink.new ≡ W.calls sink.old }
-    ensures unmoved { Unmoved S.bytes S.images S.moment S.images_since store result.0 }
-    ensures kept { KeepsImages (S.images store) (S.images result.0) }
     ensures calls { IsTrue S.tells_bytes → FewCalls (S.bytes store) limit version (S.calls store) (S.calls result.0) }
     ensures calls_refused { IsTrue S.tells_bytes → (text : List ℕ) → IsRefusalLine (S.bytes store) limit version text
         → S.calls result.0 ≤ S.calls store + calls_for (length (S.bytes store)) limit }
@@ -272,6 +250,8 @@ pub fn convert_store<S: Store + Drop, T: Target, W: Sink, P: Progress>(
     ensures halted { IsTrue S.tells_bytes → result.1 ≡ Answer.Device → (W.put sink.new ≡ W.put sink.old)
         ⊎ HasRefusalFront (S.bytes store) limit version (W.put sink.old) (W.put sink.new)
         ⊎ HasConvertedFront (S.bytes store) limit version (W.put sink.old) (W.put sink.new) }
+    ensures rests { StoreRests S.Store store result.0
+        (FailsAny (T.failures target.old) (T.failures target.new) W.Sink sink.old sink.new result.1) }
 {
     passing_has_no_fault();
     opens_as_one();

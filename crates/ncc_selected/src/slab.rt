@@ -4,6 +4,7 @@
 mod failing;
 mod files;
 mod helpers;
+mod many;
 mod memory;
 mod parts;
 mod plans;

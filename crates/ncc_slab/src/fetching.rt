@@ -1,12 +1,11 @@
 //! Fetching the elements of a selection, a stretch of adjoining ones by one call.
 
-ghost use Rattle.std.specs.Prelude.{◌≡◌, ◌≢◌, ◌⊎◌, ◌+◌, ◌-◌, ◌*◌, ◌<◌, ◌≤◌, ◌^◌, ◌/◌, ℕ, length, take, min, max, IsTrue, IfOk, IfSome, OnOk, OnErr};
+ghost use Rattle.std.specs.Prelude.{◌≡◌, ◌≢◌, ◌⊎◌, ◌+◌, ◌-◌, ◌*◌, ◌<◌, ◌≤◌, ◌^◌, ◌/◌, ℕ, length, take, true, min, IsTrue, IfOk, IfSome, OnOk, OnErr};
 ghost use Rattle.ncc_values.specs.Failures.{Counts};
 ghost use Rattle.ncc_values.specs.Values.{type_of, count_of};
 ghost use Rattle.ncc_values.specs.XType.{size_of};
-ghost use Rattle.ncc_store.specs.Store.{Unmoved, KeepsImages};
 ghost use Rattle.ncc_layout.specs.Placed.{file_length_of};
-ghost use Rattle.ncc_check.specs.Files.{store_of, schema_of, placed_of, must_reopen};
+ghost use Rattle.ncc_check.specs.Files.{ReadsFile, store_of, placed_of};
 ghost use Rattle.ncc_slab.specs.Answers.{buffer_length, part_count, PartCounts};
 ghost use Rattle.ncc_slab.specs.Grids.{grid_place, grid_count, grid_places, grid_rest, EndBy, IsDenseFrom, IsRun};
 ghost use Rattle.ncc_slab.specs.Selected.{bytes_at_places, AddsPlaces};
@@ -75,15 +74,8 @@ fn fetch_apart<S: Store>(
     requires room { length out.old ≡ count * size }
     ensures told { IsTrue S.tells_bytes → OnOk result (out.new
         ≡ bytes_at_places (S.bytes (store_of file.old)) size (places_apart place step count)) }
-    ensures schema { schema_of file.new ≡ schema_of file.old }
-    ensures placed { placed_of file.new ≡ placed_of file.old }
-    ensures reopen { must_reopen file.new ≡ must_reopen file.old }
-    ensures unmoved { Unmoved S.bytes S.images S.moment S.images_since (store_of file.old) (store_of file.new) }
-    ensures kept { KeepsImages (S.images (store_of file.old)) (S.images (store_of file.new)) }
-    ensures count { Counts (S.failures (store_of file.old)) (S.failures (store_of file.new)) result }
-    ensures calls { S.calls (store_of file.new) ≤ S.calls (store_of file.old) + count }
-    ensures reach { S.reach (store_of file.new)
-        ≤ max (S.reach (store_of file.old)) (file_length_of (placed_of file.old)) }
+    ensures file { ReadsFile file.old file.new (λ a b. Counts a b result) true
+        count (file_length_of (placed_of file.old)) }
 {
     store_laws::unmoved_calls_join::<S>();
     let mut done = 0;
@@ -110,16 +102,9 @@ fn fetch_elements<S: Store>(
     requires room { length out.old ≡ count * size }
     ensures told { IsTrue S.tells_bytes → OnOk result (out.new
         ≡ bytes_at_places (S.bytes (store_of file.old)) size (take count (grid_rest grid.now first))) }
-    ensures schema { schema_of file.new ≡ schema_of file.old }
-    ensures placed { placed_of file.new ≡ placed_of file.old }
-    ensures reopen { must_reopen file.new ≡ must_reopen file.old }
-    ensures unmoved { Unmoved S.bytes S.images S.moment S.images_since (store_of file.old) (store_of file.new) }
-    ensures kept { KeepsImages (S.images (store_of file.old)) (S.images (store_of file.new)) }
-    ensures count { Counts (S.failures (store_of file.old)) (S.failures (store_of file.new)) result }
-    ensures calls { S.calls (store_of file.new)
-        ≤ S.calls (store_of file.old) + stretches size (take count (grid_rest grid.now first)) }
-    ensures reach { S.reach (store_of file.new)
-        ≤ max (S.reach (store_of file.old)) (file_length_of (placed_of file.old)) }
+    ensures file { ReadsFile file.old file.new (λ a b. Counts a b result) true
+        (stretches size (take count (grid_rest grid.now first)))
+        (file_length_of (placed_of file.old)) }
 {
     store_laws::unmoved_calls_join::<S>();
     if count == 0 {
@@ -180,16 +165,9 @@ pub fn add_part<S: Store>(
     ensures typed { type_of values.new ≡ type_of values.old }
     ensures counted { IfOk result (λ n. count_of values.new ≡ count_of values.old + n) }
     ensures err { OnErr result (values.new ≡ values.old) }
-    ensures schema { schema_of file.new ≡ schema_of file.old }
-    ensures placed { placed_of file.new ≡ placed_of file.old }
-    ensures reopen { must_reopen file.new ≡ must_reopen file.old }
-    ensures unmoved { Unmoved S.bytes S.images S.moment S.images_since (store_of file.old) (store_of file.new) }
-    ensures kept { KeepsImages (S.images (store_of file.old)) (S.images (store_of file.new)) }
-    ensures count { PartCounts (S.failures (store_of file.old)) (S.failures (store_of file.new)) result }
-    ensures calls { S.calls (store_of file.new) ≤ S.calls (store_of file.old)
-        + part_stretches (size_of (type_of values.old)) (grid_rest grid.now first) }
-    ensures reach { S.reach (store_of file.new)
-        ≤ max (S.reach (store_of file.old)) (file_length_of (placed_of file.old)) }
+    ensures file { ReadsFile file.old file.new (λ a b. PartCounts a b result) true
+        (part_stretches (size_of (type_of values.old)) (grid_rest grid.now first))
+        (file_length_of (placed_of file.old)) }
 {
     let size = values.xtype().size();
     let room = (BUFFER / size) as u64;
@@ -215,16 +193,9 @@ pub fn add_all<S: Store>(
         (size_of (type_of values.old)) (grid_places grid.now) values.old values.new) }
     ensures typed { type_of values.new ≡ type_of values.old }
     ensures counted { OnOk result (count_of values.new ≡ count_of values.old + grid_count grid.now) }
-    ensures schema { schema_of file.new ≡ schema_of file.old }
-    ensures placed { placed_of file.new ≡ placed_of file.old }
-    ensures reopen { must_reopen file.new ≡ must_reopen file.old }
-    ensures unmoved { Unmoved S.bytes S.images S.moment S.images_since (store_of file.old) (store_of file.new) }
-    ensures kept { KeepsImages (S.images (store_of file.old)) (S.images (store_of file.new)) }
-    ensures count { PartCounts (S.failures (store_of file.old)) (S.failures (store_of file.new)) result }
-    ensures calls { S.calls (store_of file.new) ≤ S.calls (store_of file.old)
-        + all_stretches (size_of (type_of values.old)) (grid_places grid.now) }
-    ensures reach { S.reach (store_of file.new)
-        ≤ max (S.reach (store_of file.old)) (file_length_of (placed_of file.old)) }
+    ensures file { ReadsFile file.old file.new (λ a b. PartCounts a b result) true
+        (all_stretches (size_of (type_of values.old)) (grid_places grid.now))
+        (file_length_of (placed_of file.old)) }
 {
     store_laws::unmoved_calls_join::<S>();
     let mut taken = 0;

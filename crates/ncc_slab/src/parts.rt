@@ -32,11 +32,10 @@ pub struct SlabParts {
 }
 
 impl SlabParts {
-    ghost use Rattle.std.specs.Prelude.{take, max, [], IsTrue, IsOk, IfOk, OnErr, ◌+◌};
+    ghost use Rattle.std.specs.Prelude.{take, true, [], IsTrue, IsOk, IfOk, OnErr, ◌+◌};
     ghost use Rattle.ncc_values.specs.Values.{type_of, count_of};
-    ghost use Rattle.ncc_store.specs.Store.{Unmoved, KeepsImages};
     ghost use Rattle.ncc_layout.specs.Placed.{file_length_of, vars_of};
-    ghost use Rattle.ncc_check.specs.Files.{store_of, schema_of, placed_of, must_reopen};
+    ghost use Rattle.ncc_check.specs.Files.{ReadsFile, store_of, placed_of};
     ghost use Rattle.ncc_slab.specs.Answers.{SelectsAs, PartCounts, TakesPart};
     ghost use Rattle.ncc_slab.specs.Selected.{AddsPlaces};
     ghost use Rattle.ncc_slab.specs.Stretches.{part_stretches};
@@ -107,16 +106,9 @@ impl SlabParts {
         ensures left { OnErr result (parts_left self.new ≡ parts_left self.old) }
         ensures err { OnErr result (values.new ≡ values.old) }
         ensures ends { parts_left self.old ≡ [] → IsOk result }
-        ensures schema { schema_of file.new ≡ schema_of file.old }
-        ensures placed { placed_of file.new ≡ placed_of file.old }
-        ensures reopen { must_reopen file.new ≡ must_reopen file.old }
-        ensures unmoved { Unmoved S.bytes S.images S.moment S.images_since (store_of file.old) (store_of file.new) }
-        ensures kept { KeepsImages (S.images (store_of file.old)) (S.images (store_of file.new)) }
-        ensures count { PartCounts (S.failures (store_of file.old)) (S.failures (store_of file.new)) result }
-        ensures calls { S.calls (store_of file.new) ≤ S.calls (store_of file.old)
-            + part_stretches (size_of (parts_type self.old)) (parts_left self.old) }
-        ensures reach { S.reach (store_of file.new)
-            ≤ max (S.reach (store_of file.old)) (file_length_of (placed_of file.old)) }
+        ensures file { ReadsFile file.old file.new (λ a b. PartCounts a b result) true
+            (part_stretches (size_of (parts_type self.old)) (parts_left self.old))
+            (file_length_of (placed_of file.old)) }
     {
         if self.left() == 0 {
             return Ok(0);

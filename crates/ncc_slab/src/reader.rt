@@ -24,12 +24,11 @@ pub struct SlabReader<'a, S: Store> {
 }
 
 impl<'a, S: Store> SlabReader<'a, S> {
-    ghost use Rattle.std.specs.Prelude.{◌≡◌, ◌+◌, take, max, [], IsTrue, IsOk, IfOk, OnErr};
+    ghost use Rattle.std.specs.Prelude.{◌≡◌, ◌+◌, take, true, [], IsTrue, IsOk, IfOk, OnErr};
     ghost use Rattle.ncc_values.specs.XType.{size_of};
     ghost use Rattle.ncc_values.specs.Values.{type_of, count_of};
-    ghost use Rattle.ncc_store.specs.Store.{Unmoved, KeepsImages};
     ghost use Rattle.ncc_layout.specs.Placed.{vars_of};
-    ghost use Rattle.ncc_check.specs.Files.{store_of, schema_of, must_reopen};
+    ghost use Rattle.ncc_check.specs.Files.{ReadsFile, store_of};
     ghost use Rattle.ncc_slab.specs.Answers.{SelectsAs, PartCounts, TakesPart};
     ghost use Rattle.ncc_slab.specs.Selected.{AddsPlaces};
     ghost use Rattle.ncc_slab.specs.SlabParts.{parts_left, parts_type};
@@ -86,18 +85,9 @@ impl<'a, S: Store> SlabReader<'a, S> {
         ensures left { OnErr result (left_in self.new ≡ left_in self.old) }
         ensures err { OnErr result (values.new ≡ values.old) }
         ensures ends { left_in self.old ≡ [] → IsOk result }
-        ensures schema { schema_of (file_in self.new) ≡ schema_of (file_in self.old) }
-        ensures placed { placed_of (file_in self.new) ≡ placed_of (file_in self.old) }
-        ensures reopen { must_reopen (file_in self.new) ≡ must_reopen (file_in self.old) }
-        ensures unmoved { Unmoved S.bytes S.images S.moment S.images_since
-            (store_of (file_in self.old)) (store_of (file_in self.new)) }
-        ensures kept { KeepsImages (S.images (store_of (file_in self.old))) (S.images (store_of (file_in self.new))) }
-        ensures count { PartCounts (S.failures (store_of (file_in self.old)))
-            (S.failures (store_of (file_in self.new))) result }
-        ensures calls { S.calls (store_of (file_in self.new)) ≤ S.calls (store_of (file_in self.old))
-            + part_stretches (size_of (type_in self.old)) (left_in self.old) }
-        ensures reach { S.reach (store_of (file_in self.new))
-            ≤ max (S.reach (store_of (file_in self.old))) (file_length_of (placed_of (file_in self.old))) }
+        ensures file { ReadsFile (file_in self.old) (file_in self.new) (λ a b. PartCounts a b result) true
+            (part_stretches (size_of (type_in self.old)) (left_in self.old))
+            (file_length_of (placed_of (file_in self.old))) }
     {
         self.parts.next_part(self.file, values)
     }

@@ -1,12 +1,11 @@
 //! Reading all values of a selection.
 
-ghost use Rattle.std.specs.Prelude.{◌≡◌, ◌≤◌, ◌+◌, None, map, max, IsTrue, IfOk};
+ghost use Rattle.std.specs.Prelude.{◌≡◌, None, map, true, IsTrue, IfOk};
 ghost use Rattle.ncc_values.specs.XType.{size_of};
 ghost use Rattle.ncc_values.specs.Values.{type_of, count_of};
-ghost use Rattle.ncc_store.specs.Store.{Unmoved, KeepsImages};
 ghost use Rattle.ncc_layout.specs.Elements.{var_at};
 ghost use Rattle.ncc_layout.specs.Placed.{file_length_of, record_size_of_file, vars_of};
-ghost use Rattle.ncc_check.specs.Files.{store_of, schema_of, placed_of, must_reopen};
+ghost use Rattle.ncc_check.specs.Files.{ReadsFile, store_of, placed_of};
 ghost use Rattle.ncc_slab.specs.Answers.{ReadsAs, SlabCounts};
 ghost use Rattle.ncc_slab.specs.Refusals.{slab_fault};
 ghost use Rattle.ncc_slab.specs.Selected.{Selected, number_at, numbers_of, places_of};
@@ -43,17 +42,10 @@ pub fn read_slab<S: Store>(
         (var_at (vars_of (placed_of file.old)) var)) (indices_of slab.now)) }
     ensures typed { IfOk result (λ v. type_of v ≡ (var_at (vars_of (placed_of file.old)) var).xtype) }
     ensures counted { IfOk result (λ v. count_of v ≡ selected_count slab.now) }
-    ensures schema { schema_of file.new ≡ schema_of file.old }
-    ensures placed { placed_of file.new ≡ placed_of file.old }
-    ensures reopen { must_reopen file.new ≡ must_reopen file.old }
-    ensures unmoved { Unmoved S.bytes S.images S.moment S.images_since (store_of file.old) (store_of file.new) }
-    ensures kept { KeepsImages (S.images (store_of file.old)) (S.images (store_of file.new)) }
-    ensures count { SlabCounts (S.failures (store_of file.old)) (S.failures (store_of file.new)) result }
-    ensures calls { S.calls (store_of file.new) ≤ S.calls (store_of file.old) + all_stretches
-        (size_of (var_at (vars_of (placed_of file.old)) var).xtype)
-        (places_of (record_size_of_file (placed_of file.old)) (var_at (vars_of (placed_of file.old)) var) slab.now) }
-    ensures reach { S.reach (store_of file.new)
-        ≤ max (S.reach (store_of file.old)) (file_length_of (placed_of file.old)) }
+    ensures file { ReadsFile file.old file.new (λ a b. SlabCounts a b result) true
+        (all_stretches (size_of (var_at (vars_of (placed_of file.old)) var).xtype) (places_of
+        (record_size_of_file (placed_of file.old)) (var_at (vars_of (placed_of file.old)) var) slab.now))
+        (file_length_of (placed_of file.old)) }
 {
     let grid = grid_of(alloc, file.placed(), var, slab)?;
     let mut values = Values::new(alloc, file.placed().xtype(var));

@@ -9,8 +9,8 @@ pub mod LogFile
 pub mod LogLaws
 pub mod Long
 pub mod Memory
-pub mod Opened
 pub mod Pages
+pub mod Reading
 pub mod Store
 pub mod StoreLaws
 pub mod Zeros

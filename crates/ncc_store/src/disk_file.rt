@@ -1,153 +1,59 @@
 //! A file of the disk.
 
-ghost use Rattle.std.specs.Prelude.{◌≡◌, ◌≤◌, ◌<◌, [], true, false, length, Some, None, Ok, Err, IsSome, IfOk, OnOk, OnErr};
-ghost use Rattle.std.specs.IoError.{error_kind};
-ghost use Rattle.std.specs.declared.io.Error.{Error};
-ghost use Rattle.std.specs.Fs.{new_options, with_read, with_write};
+ghost use Rattle.std.specs.Prelude.{◌≡◌, [], true, false, IfOk};
+ghost use Rattle.ncc_store.specs.DiskFile.{is_writable};
 
 use crate::device::Device;
-use crate::opened::Opened;
-use crate::system_file::SystemFile;
-use std::fs::{File, OpenOptions};
+use crate::system_file::{SystemFile, WHOLE};
+use std::fs::File;
+use std::io;
 use std::io::ErrorKind;
-use std::rt::Files;
-use std::{fs, io};
+use std::os::unix::fs::FileExt;
 
-/// How a file is opened: for reading, and where `write` says so for writing. None is made, and none is cut.
-fn options(write: bool) -> OpenOptions
-    ensures { result ≡ with_write (with_read new_options true) write }
-{
-    let mut options = OpenOptions::new();
-    options.read(true).write(write);
-    options
-}
-
-/// An open file of the disk. It tells nothing. It may be written where it was opened for that, and then has the lock of
-/// the system, which no two have at once; and not after a write or a sync that failed. A write is one call of the
-/// system, which isn't made again. So is a sync, but where a signal interrupted it.
+/// An open file of the disk. It tells nothing. It is written and synced only under its lock, which the system gives to
+/// one open file at a time, until that is closed; and not after a write or a sync that failed. Each call is one call of
+/// the system, but that a read goes on where it was cut short, and that a read and a sync are made again where a signal
+/// interrupted them (by the kit, which has no other sync).
 #[derive(Drop)]
 pub struct DiskFile {
-    file: Opened,
-    fault: Option<io::Error>,
+    file: File,
+    writable: bool,
 }
 
 impl DiskFile {
-    ghost use Rattle.ncc_store.specs.DiskFile.{is_writable, fault_of};
-
-    /// Opens a file that is there. `Device` comes where the system refuses it, where it is no regular file (a pipe is
-    /// not waited for), and where it is to be written and another has its lock.
-    pub fn open<R: Files<File = File>>(rt: &R, path: &str, write: bool) -> Result<DiskFile, Device>
-        ensures writable { IfOk result (λ f. is_writable f ≡ write) }
-        ensures fault { IfOk result (λ f. fault_of f ≡ None) }
+    /// A file without its lock.
+    pub(crate) fn unlocked(file: File) -> DiskFile
+        ensures { is_writable result ≡ false }
     {
-        if !fs::metadata(rt, path).is_ok_and(|about| about.is_file()) {
-            return Err(Device);
-        }
-        match options(write).open(rt, path) {
-            Ok(file) if file.metadata().is_ok_and(|about| about.is_file()) => {
-                DiskFile::take(file, write)
-            }
-            _ => Err(Device),
+        DiskFile {
+            file,
+            writable: false,
         }
     }
 
-    /// Takes the lock, where the file is to be written.
-    fn take(file: File, write: bool) -> Result<DiskFile, Device>
-        ensures writable { IfOk result (λ f. is_writable f ≡ write) }
-        ensures fault { IfOk result (λ f. fault_of f ≡ None) }
+    /// A file with its lock. It fails at once where another has that.
+    pub(crate) fn locked(file: File) -> Result<DiskFile, Device>
+        ensures { IfOk result (λ f. is_writable f ≡ true) }
     {
-        let file = if write {
-            Opened::locked(file)?
-        } else {
-            Opened::unlocked(file)
-        };
-        Ok(DiskFile { file, fault: None })
-    }
-
-    /// Why the last of its calls that failed did, if one did.
-    pub fn fault(&self) -> Option<ErrorKind>
-        ensures some { (error : Error) → fault_of self.now ≡ Some error → result ≡ Some (error_kind error) }
-        ensures none { fault_of self.now ≡ None → result ≡ None }
-    {
-        match &self.fault {
-            Some(error) => Some(error.kind()),
-            None => None,
+        match file.try_lock() {
+            Ok(()) => Ok(DiskFile {
+                file,
+                writable: true,
+            }),
+            Err(_) => Err(Device),
         }
     }
 
-    /// Keeps why a call failed.
-    fn fail(&mut self, error: io::Error) -> Device
-        ensures writable { is_writable self.new ≡ is_writable self.old }
-        ensures fault { fault_of self.new ≡ Some error }
+    /// Ends the writing.
+    fn end(&mut self, error: io::Error) -> io::Error
+        ensures writable { is_writable self.new ≡ false }
     {
-        self.fault = Some(error);
-        Device
-    }
-
-    /// The number of bytes. As each call, it keeps why it failed, and else leaves what was kept.
-    fn length(&mut self) -> Result<u64, Device>
-        ensures writable { is_writable self.new ≡ is_writable self.old }
-        ensures ok { OnOk result (fault_of self.new ≡ fault_of self.old) }
-        ensures err { OnErr result (IsSome (fault_of self.new)) }
-    {
-        match self.file.size() {
-            Ok(size) => Ok(size),
-            Err(error) => Err(self.fail(error)),
-        }
-    }
-
-    /// Fills `out`. The system lets nothing be read anywhere, also past the end, so an empty read asks for the length.
-    fn read(&mut self, place: u64, out: &mut [u8]) -> Result<(), Device>
-        ensures writable { is_writable self.new ≡ is_writable self.old }
-        ensures ok { OnOk result (fault_of self.new ≡ fault_of self.old) }
-        ensures err { OnErr result (IsSome (fault_of self.new)) }
-    {
-        if out.is_empty() {
-            return if place <= self.length()? {
-                Ok(())
-            } else {
-                Err(self.fail(ErrorKind::UnexpectedEof.into()))
-            };
-        }
-        match self.file.fill(place, out) {
-            Ok(()) => Ok(()),
-            Err(error) => Err(self.fail(error)),
-        }
-    }
-
-    /// Writes a front of the piece, of at most 8 bytes all.
-    fn write(&mut self, place: u64, piece: &[u8]) -> Result<usize, Device>
-        requires { is_writable self.old ≡ true }
-        ensures some { IfOk result (λ n. (n ≤ length piece.now) × (0 < length piece.now → 0 < n)) }
-        ensures short { length piece.now ≤ 8 → IfOk result (λ n. n ≡ length piece.now) }
-        ensures writable { OnOk result (is_writable self.new ≡ true) }
-        ensures ended { OnErr result (is_writable self.new ≡ false) }
-        ensures ok { OnOk result (fault_of self.new ≡ fault_of self.old) }
-        ensures err { OnErr result (IsSome (fault_of self.new)) }
-    {
-        match self.file.write(place, piece) {
-            Ok(n) => Ok(n),
-            Err(error) => Err(self.fail(error)),
-        }
-    }
-
-    /// Brings what was written to the disk.
-    fn sync(&mut self) -> Result<(), Device>
-        requires { is_writable self.old ≡ true }
-        ensures writable { OnOk result (is_writable self.new ≡ true) }
-        ensures ended { OnErr result (is_writable self.new ≡ false) }
-        ensures ok { OnOk result (fault_of self.new ≡ fault_of self.old) }
-        ensures err { OnErr result (IsSome (fault_of self.new)) }
-    {
-        match self.file.sync() {
-            Ok(()) => Ok(()),
-            Err(error) => Err(self.fail(error)),
-        }
+        self.writable = false;
+        error
     }
 }
 
 impl SystemFile for DiskFile {
-    ghost use Rattle.ncc_store.specs.DiskFile.{is_writable};
     ghost use Rattle.ncc_store.specs.StoreLaws.{untold};
 
     ghost tells_bytes = { false };
@@ -178,19 +84,30 @@ impl SystemFile for DiskFile {
 
     ghost only_now = { λ f c left. left };
 
-    fn size(&mut self) -> Result<u64, Device> {
-        self.length()
+    fn size(&mut self) -> io::Result<u64> {
+        Ok(self.file.metadata()?.len())
     }
 
-    fn fill(&mut self, place: u64, out: &mut [u8]) -> Result<(), Device> {
-        self.read(place, out)
+    // The system lets nothing be read anywhere, also past the end, so an empty read asks for the length.
+    fn fill(&mut self, place: u64, out: &mut [u8]) -> io::Result<()> {
+        if out.is_empty() && place > self.size()? {
+            return Err(ErrorKind::UnexpectedEof.into());
+        }
+        self.file.read_exact_at(out, place)
     }
 
-    fn write_some(&mut self, place: u64, piece: &[u8]) -> Result<usize, Device> {
-        self.write(place, piece)
+    fn write_some(&mut self, place: u64, piece: &[u8]) -> io::Result<usize> {
+        match self.file.write_at(piece, place) {
+            Ok(n) if n == piece.len() || (n > 0 && piece.len() > WHOLE) => Ok(n),
+            Ok(_) => Err(self.end(ErrorKind::WriteZero.into())),
+            Err(error) => Err(self.end(error)),
+        }
     }
 
-    fn settle(&mut self) -> Result<(), Device> {
-        self.sync()
+    fn settle(&mut self) -> io::Result<()> {
+        match self.file.sync_all() {
+            Ok(()) => Ok(()),
+            Err(error) => Err(self.end(error)),
+        }
     }
 }

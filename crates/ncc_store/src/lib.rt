@@ -13,7 +13,7 @@ mod log_file;
 mod logging;
 mod long;
 mod memory;
-mod opened;
+mod opening;
 mod putting;
 mod store;
 mod system_file;

@@ -8,6 +8,13 @@ use crate::device::{Device, end, fail};
 use crate::log::LogStore;
 use crate::store::Store;
 use crate::system_file::{SystemFile, WHOLE};
+use std::io;
+use std::io::ErrorKind;
+
+/// A call that failed, as the system tells it.
+fn told(_device: Device) -> io::Error {
+    ErrorKind::Other.into()
+}
 
 /// A file over a log. It passes so many calls, and takes of a long piece so many bytes a call. After a call that
 /// failed it answers `Ok` to each `settle` and syncs nothing, as systems do that forget what they couldn't write.
@@ -105,47 +112,47 @@ impl SystemFile for LogFile {
     ghost only_now = { λ f c left. back_only (log_moment (log_of f)) (reverse (log_calls (log_of f)))
         (reverse (log_replaced (log_of f))) (log_bytes (log_of f)) c left };
 
-    fn size(&mut self) -> Result<u64, Device> {
+    fn size(&mut self) -> io::Result<u64> {
         match self.log.len() {
             Ok(size) => Ok(size),
-            Err(_) => Err(fail(&mut self.failures)),
+            Err(_) => Err(told(fail(&mut self.failures))),
         }
     }
 
-    fn fill(&mut self, place: u64, out: &mut [u8]) -> Result<(), Device> {
+    fn fill(&mut self, place: u64, out: &mut [u8]) -> io::Result<()> {
         let size = self.size()?;
         if place > size || out.len() as u64 > size - place {
-            return Err(fail(&mut self.failures));
+            return Err(told(fail(&mut self.failures)));
         }
         match self.log.read_at(place, out) {
             Ok(()) => Ok(()),
-            Err(_) => Err(fail(&mut self.failures)),
+            Err(_) => Err(told(fail(&mut self.failures))),
         }
     }
 
-    fn write_some(&mut self, place: u64, piece: &[u8]) -> Result<usize, Device> {
+    fn write_some(&mut self, place: u64, piece: &[u8]) -> io::Result<usize> {
         if self.calls == 0 {
-            return Err(end(&mut self.sound, &mut self.failures));
+            return Err(told(end(&mut self.sound, &mut self.failures)));
         }
         self.calls -= 1;
         let front = self.front_of(piece);
         match self.log.write_at(place, front) {
             Ok(()) => Ok(front.len()),
-            Err(_) => Err(end(&mut self.sound, &mut self.failures)),
+            Err(_) => Err(told(end(&mut self.sound, &mut self.failures))),
         }
     }
 
-    fn settle(&mut self) -> Result<(), Device> {
+    fn settle(&mut self) -> io::Result<()> {
         if !self.sound {
             return Ok(());
         }
         if self.calls == 0 {
-            return Err(end(&mut self.sound, &mut self.failures));
+            return Err(told(end(&mut self.sound, &mut self.failures)));
         }
         self.calls -= 1;
         match self.log.sync() {
             Ok(()) => Ok(()),
-            Err(_) => Err(end(&mut self.sound, &mut self.failures)),
+            Err(_) => Err(told(end(&mut self.sound, &mut self.failures))),
         }
     }
 }

@@ -5,12 +5,12 @@ ghost use Rattle.ncc_values.specs.Failures.{Rose};
 ghost use Rattle.ncc_values.specs.Numbers.{IsBytes};
 ghost use Rattle.ncc_store.specs.Store.{written, FrontWritten, AfterWrite, Only, KeepsImages, Elapses, Unmoved};
 
-use crate::device::Device;
+use std::io;
 
 /// The length of a piece, in bytes, that goes out by one call of the system.
 pub(crate) const WHOLE: usize = 8;
 
-/// An open file, by calls of the system. A call that fails answers `Device`. It is written and settled only where it
+/// An open file, by calls of the system. A call that fails answers why. It is written and settled only where it
 /// may be, and not after a write or a `settle` that failed.
 pub trait SystemFile {
     /// Whether it tells its bytes.
@@ -43,29 +43,29 @@ pub trait SystemFile {
     ghost calls: { Self → ℕ };
 
     /// The number of bytes.
-    fn size(&mut self) -> Result<u64, Device>
+    fn size(&mut self) -> io::Result<u64>
         ensures told { IsTrue tells_bytes → IfOk result (λ n. n ≡ length (bytes self.old)) }
         ensures unmoved { Unmoved bytes images moment images_since self.old self.new }
         ensures kept { KeepsImages (images self.old) (images self.new) }
-        ensures sound { sound self.old ≡ true → sound self.new ≡ true }
+        ensures sound { sound self.new ≡ sound self.old }
         ensures once { OnOk result (failed self.new ≡ failed self.old) }
         ensures rose { IsTrue tells_failures → OnErr result (Rose (failed self.old) (failed self.new)) }
         ensures calls { calls self.new ≤ calls self.old + 1 };
 
     /// Fills `out` with the bytes from `place` on.
-    fn fill(&mut self, place: u64, out: &mut [u8]) -> Result<(), Device>
+    fn fill(&mut self, place: u64, out: &mut [u8]) -> io::Result<()>
         ensures told { IsTrue tells_bytes
             → OnOk result (out.new ≡ take (length out.old) (drop place (bytes self.old))) }
         ensures unmoved { Unmoved bytes images moment images_since self.old self.new }
         ensures kept { KeepsImages (images self.old) (images self.new) }
-        ensures sound { sound self.old ≡ true → sound self.new ≡ true }
+        ensures sound { sound self.new ≡ sound self.old }
         ensures once { OnOk result (failed self.new ≡ failed self.old) }
         ensures rose { IsTrue tells_failures → OnErr result (Rose (failed self.old) (failed self.new)) }
         ensures calls { calls self.new ≤ calls self.old + 1 };
 
     /// Writes a front of the piece, at least one byte where there is one, and answers how many. Of at most 8
     /// bytes it writes all, or it fails. After an `Err` a front is written, and of at most 8 bytes all or nothing.
-    fn write_some(&mut self, place: u64, piece: &[u8]) -> Result<usize, Device>
+    fn write_some(&mut self, place: u64, piece: &[u8]) -> io::Result<usize>
         requires end { place + length piece.now < 2 ^ 63 }
         requires begin { IsTrue tells_bytes → place ≤ length (bytes self.old) }
         requires sound { sound self.old ≡ true }
@@ -84,7 +84,7 @@ pub trait SystemFile {
         ensures calls { calls self.new ≤ calls self.old + 1 };
 
     /// Leaves nothing pending.
-    fn settle(&mut self) -> Result<(), Device>
+    fn settle(&mut self) -> io::Result<()>
         requires { sound self.old ≡ true }
         ensures durable { OnOk result (Only (bytes self.new) (images self.new)) }
         ensures unmoved { Unmoved bytes images moment images_since self.old self.new }
@@ -109,11 +109,7 @@ pub trait SystemFile {
 }
 
 /// Writes the whole piece, by as many writes as it takes: by one, where it has at most 8 bytes.
-pub(crate) fn write_whole<F: SystemFile>(
-    file: &mut F,
-    place: u64,
-    piece: &[u8],
-) -> Result<(), Device>
+pub(crate) fn write_whole<F: SystemFile>(file: &mut F, place: u64, piece: &[u8]) -> io::Result<()>
     requires end { place + length piece.now < 2 ^ 63 }
     requires begin { IsTrue F.tells_bytes → place ≤ length (F.bytes file.old) }
     requires sound { F.sound file.old ≡ true }
@@ -123,6 +119,7 @@ pub(crate) fn write_whole<F: SystemFile>(
     ensures images { Elapses F.images F.moment F.images_since file.old file.new
         (AfterWrite place piece.now (F.images file.old)) }
     ensures sound { OnOk result (F.sound file.new ≡ true) }
+    ensures ended { OnErr result (F.sound file.new ≡ false) }
     ensures once { OnOk result (F.failed file.new ≡ F.failed file.old) }
     ensures rose { IsTrue F.tells_failures → OnErr result (Rose (F.failed file.old) (F.failed file.new)) }
     ensures one_call { length piece.now ≤ 8 → F.calls file.new ≤ F.calls file.old + 1 }

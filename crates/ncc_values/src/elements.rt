@@ -1,6 +1,7 @@
 //! Lists of elements of one type, from and to their bytes.
 
-ghost use Rattle.std.specs.Prelude.{◌≡◌, ◌+◌, ◌*◌, ◌/◌, ◌%◌, ◌≤◌, ◌++◌, length, take, OnOk, OnErr};
+ghost use Rattle.std.specs.Prelude.{◌≡◌, ◌+◌, ◌*◌, ◌/◌, ◌%◌, ◌≤◌, ◌++◌, [], length, take, IsOk, OnOk, OnErr};
+ghost use Rattle.std.specs.Vec.{vec_len, vec_capacity};
 ghost use Rattle.ncc_values.specs.Values.{elements_of, bytes_by};
 
 use crate::external::External;
@@ -14,6 +15,8 @@ pub(crate) fn push_elements<T: External + Copy + Default>(
     requires { length bytes.now % T.SIZE ≡ 0 }
     ensures ok { OnOk result (items.new.items ≡ items.old.items ++ elements_of T.element T.TYPE bytes.now) }
     ensures err { OnErr result (items.new.items ≡ items.old.items) }
+    ensures room { vec_len items.old + length bytes.now / T.SIZE ≤ vec_capacity items.old → IsOk result }
+    ensures none { bytes.now ≡ [] → IsOk result }
 {
     let count = bytes.len() / T::SIZE;
     let start = items.len();

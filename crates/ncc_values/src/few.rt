@@ -48,7 +48,7 @@ impl<T, const N: usize> Model for Few<T, N> {
 /// How many elements there are with so many more, where they fit into `room`.
 fn len_with(len: u8, more: usize, room: usize) -> Option<u8>
     ensures sum { IfSome result (λ n. (n ≡ len + more) × (n ≤ room)) }
-    ensures some { len + more ≤ room → room < 256 → IsSome result }
+    ensures some { len + more ≤ room → len + more < 256 → IsSome result }
 {
     let free = 255 - len as usize;
     if more > free || len as usize + more > room {
@@ -156,6 +156,7 @@ impl<T: Copy, const N: usize> Place<T, N> {
         ensures room { IfSome result (λ r. r.1 ≤ N) }
         ensures small { IfSome result (λ r. r.1 < 256) }
         ensures some { IsInline self.now → length (items_of self.now) + more ≤ N → N < 256 → IsSome result }
+        ensures none { IsInline self.now → more ≡ 0 → IsSome result }
     {
         match self {
             Place::Inline { len, .. } => {
@@ -204,6 +205,7 @@ impl<T: Copy, const N: usize> Place<T, N> {
         ensures err { OnErr result (items_of self.new ≡ items_of self.old) }
         ensures few { IsInline self.old → length (items_of self.old) + length more.now ≤ N → N < 256
             → IsOk result }
+        ensures none { more.now ≡ [] → IsOk result }
     {
         if let Place::Heap(items) = self {
             return items.extend_from_slice(more);
@@ -252,6 +254,7 @@ impl<T: External + Copy + Default, const N: usize> Place<T, N> {
         ensures err { OnErr result (items_of self.new ≡ items_of self.old) }
         ensures few { IsInline self.old → length (items_of self.old) + length bytes.now / T.SIZE ≤ N → N < 256
             → IsOk result }
+        ensures none { bytes.now ≡ [] → IsOk result }
     {
         if let Place::Heap(items) = self {
             return push_elements(items, bytes);
@@ -312,6 +315,7 @@ impl<T: External + Copy + Default, const N: usize> Few<T, N> {
         requires { length bytes.now % T.SIZE ≡ 0 }
         ensures ok { OnOk result (self.new ≡ self.old ++ elements_of T.element T.TYPE bytes.now) }
         ensures err { OnErr result (self.new ≡ self.old) }
+        ensures none { bytes.now ≡ [] → IsOk result }
     {
         self.place.push(bytes)
     }
@@ -333,6 +337,7 @@ impl<T: Copy + Default, const N: usize> Few<T, N> {
     pub fn extend_from_slice(&mut self, more: &[T]) -> Result<(), AllocError>
         ensures ok { OnOk result (self.new ≡ self.old ++ more.now) }
         ensures err { OnErr result (self.new ≡ self.old) }
+        ensures none { more.now ≡ [] → IsOk result }
     {
         self.place.extend(more)
     }

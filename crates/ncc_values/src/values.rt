@@ -1,6 +1,6 @@
 //! Values of one external type.
 
-ghost use Rattle.std.specs.Prelude.{◌≡◌, ◌+◌, ◌*◌, ◌/◌, ◌%◌, ◌≤◌, ◌↔◌, length, take, drop, IsTrue, IfOk, OnOk, OnErr};
+ghost use Rattle.std.specs.Prelude.{◌≡◌, ◌+◌, ◌*◌, ◌/◌, ◌%◌, ◌≤◌, ◌↔◌, [], length, take, drop, IsTrue, IsOk, IfOk, OnOk, OnErr};
 
 use crate::few::Few;
 use crate::raw::{Char, F32Bits, F64Bits};
@@ -119,6 +119,7 @@ impl Values {
         requires { length bytes.now % size_of (type_of self.old) ≡ 0 }
         ensures ok { OnOk result (self.new ≡ with_bytes self.old bytes.now) }
         ensures err { OnErr result (self.new ≡ self.old) }
+        ensures none { bytes.now ≡ [] → IsOk result }
     {
         match self {
             Values::Bytes(items) => items.push_from(bytes),

@@ -54,3 +54,9 @@ pub mod NextPieces
 pub mod FileSlabs
 pub mod TakenIn
 mod PlannedSo
+mod TripValues
+mod TripReads
+mod TripNext
+mod TripEnds
+mod TripSlabs
+mod TripPuts

@@ -12,3 +12,4 @@ pub mod Appends
 pub mod Additions
 pub mod Extends
 pub mod Planned
+pub mod Trips

@@ -27,7 +27,7 @@ pub(crate) fn header_bytes(alloc: Global, built: &Built) -> Result<Vec<u8>, Allo
 }
 
 /// The number of records.
-fn records_of(count: Count) -> u64
+pub(crate) fn records_of(count: Count) -> u64
     ensures { result ≡ known count }
 {
     match count {

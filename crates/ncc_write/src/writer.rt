@@ -13,7 +13,7 @@ use crate::starting::{Parts, prepared};
 use crate::turn::Turn;
 use ncc_build::laws::built_is_writable;
 use ncc_build::{Built, WriteFault};
-use ncc_schema::{Failed, Sink, write_all};
+use ncc_schema::{Failed, Schema, Sink, write_all};
 use ncc_values::{Values, XType};
 use std::alloc::Global;
 
@@ -52,7 +52,7 @@ impl<W: Sink> FileWriter<W> {
     ghost use Rattle.ncc_write.specs.Laws.{IsCompleted};
     ghost use Rattle.ncc_write.specs.Positions.{slab_at};
     ghost use Rattle.ncc_write.specs.Turns.{turn_at};
-    ghost use Rattle.ncc_write.specs.Writer.{sink_in, Stands, StandsOrStops, Ends, Gives};
+    ghost use Rattle.ncc_write.specs.Writer.{schema_in, sink_in, Stands, StandsOrStops, Ends, Gives};
     ghost use Rattle.ncc_write.specs.Writing.{Standing, Went, next_of, starting, StartFails, expected, refuses_put, refuses_fill, refuses_finish, with_values, with_more, with_fills, IsAnswer, IsExactly, StandsAfter, CountsFailure};
 
     /// Puts out the header, and makes the buffer. After `Memory` nothing went out, after `Device` a beginning of the
@@ -88,6 +88,13 @@ impl<W: Sink> FileWriter<W> {
             outlet: Outlet::over(sink, buffer, header.len() as u64),
             built,
         })
+    }
+
+    /// The schema of the file.
+    pub fn schema(&self) -> &Schema
+        ensures { result.now ≡ schema_in self.now }
+    {
+        self.built.schema()
     }
 
     /// What is put for the slab of the next value, and in which record.

@@ -6,8 +6,8 @@ mod plans;
 use ncc_check::open;
 use ncc_convert::convert;
 use ncc_files::{
-    FIXED, FIXED_IN_CDF_2, FIXED_IN_CDF_5, LIMIT, RECORDS, RECORDS_DATA, TWO_RECORD_VARIABLES,
-    bytes_of, with_byte,
+    FIXED, FIXED_IN_CDF_2, FIXED_IN_CDF_5, LIMIT, MOST_RECORDS_IN_CDF_5, RECORDS, RECORDS_DATA,
+    TWO_RECORD_VARIABLES, bytes_of, with_byte,
 };
 use ncc_lines::{Halt, Unshown};
 use ncc_schema::{FuseSink, Sink, WriteSink};
@@ -16,6 +16,9 @@ use ncc_values::Version;
 use ncc_write::planned;
 use std::alloc::{AllocError, Global};
 use std::test::*;
+
+/// One more than a million.
+const MANY: u32 = 1_000_001;
 
 /// A file, a version, and what the file is in it.
 #[derive(Drop)]
@@ -39,6 +42,30 @@ fn without_padding(alloc: Global) -> Result<Vec<u8>, AllocError> {
     let mut bytes = bytes_of(alloc, &TWO_RECORD_VARIABLES)?;
     bytes.truncate(130);
     Ok(bytes)
+}
+
+/// So many records of a byte after a header: each tells its number.
+fn with_records(alloc: Global, words: &[u32], count: u32) -> Result<Vec<u8>, AllocError> {
+    let mut bytes = bytes_of(alloc, words)?;
+    for number in 0..count {
+        bytes.push((number % 251) as u8)?;
+    }
+    Ok(bytes)
+}
+
+/// One record more than a million, of the variable byte v(t), from CDF-1 to CDF-5.
+fn many_records(alloc: Global) -> Result<Row, AllocError> {
+    let mut words = RECORDS;
+    words[1] = MANY;
+    words[17] = 1;
+    let mut after = MOST_RECORDS_IN_CDF_5;
+    after[1] = 0;
+    after[2] = MANY;
+    Ok(Row {
+        bytes: with_records(alloc, &words, MANY)?,
+        version: Version::V5,
+        after: with_records(alloc, &after, MANY)?,
+    })
 }
 
 fn of_words(
@@ -75,6 +102,7 @@ fn rows(alloc: Global) -> Result<Vec<Row>, AllocError> {
         version: Version::V1,
         after: bytes_of(alloc, &TWO_RECORD_VARIABLES)?,
     })?;
+    rows.push(many_records(alloc)?)?;
     Ok(rows)
 }
 

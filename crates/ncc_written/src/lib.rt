@@ -42,6 +42,8 @@ mod reading;
 #[cfg(test)]
 mod reading_on;
 #[cfg(test)]
+mod round_trips;
+#[cfg(test)]
 mod rows;
 #[cfg(test)]
 mod stopping;

@@ -5,9 +5,9 @@ use crate::tests::steps::Step::{FailedRead, Len, Read, Sync, Write};
 use crate::tests::steps::{Step, takes, takes_all};
 use crate::{Device, LogFile, LogStore, Store, SystemFile};
 use std::alloc::{AllocError, Global};
-use std::fs;
 use std::io::ErrorKind;
 use std::test::Fail;
+use std::{fs, io};
 
 const WRITES: [Step; 4] = [
     Len(Ok(3)),
@@ -48,13 +48,13 @@ fn counts_each_failure(rt: HostRuntime) -> Result<(), Fail> {
     let path = "counts_each_failure.nc";
     fs::write(&rt, path, [1, 2, 3].as_slice())?;
     let mut store = FileStore::open(&rt, path, false)?;
-    assert!(rt; store.file().fault().is_none());
+    assert!(rt; store.fault().is_none());
     assert!(rt; takes(&mut store, None, FailedRead(2, 2)));
-    assert!(rt; matches!(store.file().fault(), Some(ErrorKind::UnexpectedEof)));
+    assert!(rt; matches!(store.fault(), Some(ErrorKind::UnexpectedEof)));
     takes_all(&rt, &mut store, &FAILS);
     assert_eq!(rt; store.failures, 7);
     // The last of them that asks the system has a place that no file has.
-    assert!(rt; matches!(store.file().fault(), Some(ErrorKind::InvalidInput)));
+    assert!(rt; matches!(store.fault(), Some(ErrorKind::InvalidInput)));
     fs::remove_file(&rt, path)?;
     Ok(())
 }
@@ -83,7 +83,7 @@ fn sync_that_fails_is_counted(rt: HostRuntime) -> Result<(), Fail> {
     for (step, failures) in [(UNSYNCED, 1), (Write(0, b"1", Err(Device)), 2)] {
         assert!(rt; takes(&mut store, None, step) && store.failures == failures);
     }
-    assert!(rt; matches!(store.file().fault(), Some(ErrorKind::InvalidInput)));
+    assert!(rt; matches!(store.fault(), Some(ErrorKind::InvalidInput)));
     Ok(())
 }
 
@@ -162,14 +162,14 @@ struct FailsOnce {
 }
 
 impl FailsOnce {
-    fn passes(&mut self) -> Result<(), Device>
+    fn passes(&mut self) -> io::Result<()>
         ensures { self.new.sound ≡ self.old.sound }
     {
         if self.failed {
             return Ok(());
         }
         self.failed = true;
-        Err(Device)
+        Err(ErrorKind::Other.into())
     }
 }
 
@@ -205,27 +205,31 @@ impl SystemFile for FailsOnce {
 
     ghost only_now = { λ f c left. left };
 
-    fn size(&mut self) -> Result<u64, Device> {
+    fn size(&mut self) -> io::Result<u64> {
         self.passes()?;
         Ok(3)
     }
 
-    fn fill(&mut self, _place: u64, _out: &mut [u8]) -> Result<(), Device> {
+    fn fill(&mut self, _place: u64, _out: &mut [u8]) -> io::Result<()> {
         self.passes()
     }
 
-    fn write_some(&mut self, _place: u64, piece: &[u8]) -> Result<usize, Device> {
+    fn write_some(&mut self, _place: u64, piece: &[u8]) -> io::Result<usize> {
         self.sound = self.passes().is_ok();
         if self.sound {
             Ok(piece.len())
         } else {
-            Err(Device)
+            Err(ErrorKind::Other.into())
         }
     }
 
-    fn settle(&mut self) -> Result<(), Device> {
+    fn settle(&mut self) -> io::Result<()> {
         self.sound = self.passes().is_ok();
-        if self.sound { Ok(()) } else { Err(Device) }
+        if self.sound {
+            Ok(())
+        } else {
+            Err(ErrorKind::Other.into())
+        }
     }
 }
 
@@ -258,5 +262,6 @@ fn errors_are_answered(rt: HostRuntime) {
         let mut store = fails_once();
         takes_all(&rt, &mut store, &steps);
         assert_eq!(rt; store.failures, failures);
+        assert!(rt; matches!(store.fault(), Some(ErrorKind::Other)));
     }
 }

@@ -1,4 +1,4 @@
-use Rattle.std.proofs.Common.{◌≡◌, ⊎_elim, inl, inr, ℕ, Err, refl, sym, ap, subst, ◌∙◌, arith}
+use Rattle.std.proofs.Common.{true, rules, ◌≡◌, ⊎_elim, inl, inr, ℕ, Err, refl, sym, ap, subst, ◌∙◌, arith}
 use Rattle.std.proofs.Math.Logic.{∥∥₁_map}
 use Rattle.ncc_values.specs.Failures.{Rose}
 use Rattle.ncc_schema.specs.Device.{Puts}
@@ -6,6 +6,7 @@ use Rattle.ncc_schema.specs.declared.schema.Schema.{Schema}
 use Rattle.ncc_build.specs.Builds.{schema_of as planned_schema}
 use Rattle.ncc_build.specs.Dataset.{data_of}
 use Rattle.ncc_build.specs.File.{header_of}
+use Rattle.ncc_check.proofs.ReadFiles.{files_answered, files_bounded, files_still}
 use Rattle.ncc_check.specs.Files.{store_of, schema_of, placed_of}
 use Rattle.ncc_write.specs.Laws.{IsCompleted}
 use Rattle.ncc_write.specs.Writer.{schema_in, sink_in}
@@ -45,8 +46,8 @@ returns-in-Err-clause-memory g c =
       refl,
     )
 
-pub returns-in-Err-clause-count : goal.returns-in-Err-clause-count
-returns-in-Err-clause-count g c =
+pub returns-in-Err-clause-file : goal.returns-in-Err-clause-file
+returns-in-Err-clause-file g c =
     let file = c.args.file.now in
     let s = schema_of file in
     let p = placed_of file in
@@ -54,8 +55,9 @@ returns-in-Err-clause-count g c =
     let tells = g.S.Store.tells_bytes in
     let t = planned_schema c.args.built in
     let start = g.W.Sink.put c.args.sink in
-    subst (λ (f : Halt). ConvertCounts (g.S.Store.failures (store_of file)) (g.S.Store.failures (store_of file)) (g.W.Sink.failures c.args.sink) (g.W.Sink.failures c.in-Err.sink) (Err f)) (sym c.halt_of.ensures)
-    (start_counts start (g.W.Sink.put c.in-Err.sink) (g.S.Store.failures (store_of file)) (g.W.Sink.failures c.args.sink) (g.W.Sink.failures c.in-Err.sink) (header_of t) c.in-Err.fault c.in-Err.ensures.refused)
+    files_answered file file (λ before after. after ≡ before) _ true _ _ (files_still file _ _)
+    (subst (λ (f : Halt). ConvertCounts (g.S.Store.failures (store_of file)) (g.S.Store.failures (store_of file)) (g.W.Sink.failures c.args.sink) (g.W.Sink.failures c.in-Err.sink) (Err f)) (sym c.halt_of.ensures)
+    (start_counts start (g.W.Sink.put c.in-Err.sink) (g.S.Store.failures (store_of file)) (g.W.Sink.failures c.args.sink) (g.W.Sink.failures c.in-Err.sink) (header_of t) c.in-Err.fault c.in-Err.ensures.refused))
 
 pub returns-in-Ok-finish-clause-converts : goal.returns-in-Ok-finish-clause-converts
 returns-in-Ok-finish-clause-converts g c =
@@ -196,8 +198,8 @@ returns-clause-converts g c =
     subst (λ q. HasFront tells bytes p t start (g.W.Sink.put q)) (sym c.into_sink.ensures)
     (subst (λ (u : Schema). HasFront tells bytes p u start (g.W.Sink.put (sink_in y))) planned (c.in-Err-copy_all.ensures.stops start first))
 
-pub returns-clause-count : goal.returns-clause-count
-returns-clause-count g c =
+pub returns-clause-file : goal.returns-clause-file
+returns-clause-file g c =
     let file = c.args.file.now in
     let s = schema_of file in
     let p = placed_of file in
@@ -207,19 +209,19 @@ returns-clause-count g c =
     let start = g.W.Sink.put c.args.sink in
     let sink : g.W.Sink.failures c.into_sink.result ≡ g.W.Sink.failures (sink_in c.copy_all.new.writer) = ap g.W.Sink.failures c.into_sink.ensures in
     let before : g.W.Sink.failures (sink_in c.in-Ok-start.writer) ≡ g.W.Sink.failures c.args.sink = c.in-Ok-start.ensures.count in
-    ⊎_elim
+    let x = c.in-Ok-start.writer in
+    let all = c.in-Err-copy_all.ensures.file in
+    files_bounded file c.copy_all.new.file _ true _ _ _ (files_answered file c.copy_all.new.file _ _ true _ _ all
+    (⊎_elim
     (λ store. inl (store.0, sink ∙ store.1 ∙ before))
     (λ other. inr (other.0, subst (λ (n : ℕ). Rose n (g.W.Sink.failures c.into_sink.result)) before (subst (Rose (g.W.Sink.failures (sink_in c.in-Ok-start.writer))) (sym sink) other.1)))
-    c.in-Err-copy_all.ensures.count
+    c.in-Err-copy_all.ensures.file.reads.counted))
+    (omega (arith, all.reads.calls refl, at_start start (g.W.Sink.put (sink_in x)) x t c.in-Ok-start.ensures.stands))
 
-pub returns-in-Ok-finish-clause-calls : goal.returns-in-Ok-finish-clause-calls
-returns-in-Ok-finish-clause-calls g c =
+pub returns-in-Ok-finish-clause-file : goal.returns-in-Ok-finish-clause-file
+returns-in-Ok-finish-clause-file g c =
     let x = c.in-Ok-start.writer in
     let t = planned_schema c.args.built in
-    omega (arith, c.copy_all.ensures.calls, at_start (g.W.Sink.put c.args.sink) (g.W.Sink.put (sink_in x)) x t c.in-Ok-start.ensures.stands)
-
-pub returns-clause-calls : goal.returns-clause-calls
-returns-clause-calls g c =
-    let x = c.in-Ok-start.writer in
-    let t = planned_schema c.args.built in
-    omega (arith, c.copy_all.ensures.calls, at_start (g.W.Sink.put c.args.sink) (g.W.Sink.put (sink_in x)) x t c.in-Ok-start.ensures.stands)
+    let all = c.in-Ok-copy_all.ensures.file in
+    files_bounded c.args.file.now c.copy_all.new.file _ true _ _ _ (files_answered c.args.file.now c.copy_all.new.file _ _ true _ _ all (search rules))
+    (omega (arith, all.reads.calls refl, at_start (g.W.Sink.put c.args.sink) (g.W.Sink.put (sink_in x)) x t c.in-Ok-start.ensures.stands))

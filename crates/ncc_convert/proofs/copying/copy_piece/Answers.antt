@@ -1,4 +1,4 @@
-use Rattle.std.proofs.Common.{◌≡◌, inr, ◌+◌, ◌-◌, ◌*◌, ◌++◌, ◌<◌, ◌≤◌, ◌/◌, min, false, ℕ, Err, length, length-append, take, drop, sym, ap, ap₂, subst, ◌∙◌, arith, rules}
+use Rattle.std.proofs.Common.{true, rules, ◌≡◌, inr, ◌+◌, ◌-◌, ◌*◌, ◌++◌, ◌<◌, ◌≤◌, ◌/◌, min, false, ℕ, Err, length, length-append, take, drop, sym, ap, ap₂, subst, ◌∙◌, arith}
 use Rattle.std.proofs.lemmas.List.{length-take}
 use Rattle.std.proofs.lemmas.Nat.{mul-le}
 use Rattle.ncc_values.specs.XType.{size_of}
@@ -7,6 +7,7 @@ use Rattle.ncc_values.specs.declared.xtype.XType.{XType}
 use Rattle.ncc_schema.specs.declared.schema.Schema.{Schema}
 use Rattle.ncc_layout.specs.Elements.{var_at}
 use Rattle.ncc_layout.specs.Placed.{file_length_of, record_size_of_file, vars_of}
+use Rattle.ncc_check.proofs.ReadFiles.{files_answered, files_within}
 use Rattle.ncc_check.specs.Files.{store_of, schema_of, placed_of, must_reopen}
 use Rattle.ncc_check.specs.Told.{tells_header}
 use Rattle.ncc_slab.specs.SlabPlaces.{HasSlab, slab_begin}
@@ -78,9 +79,9 @@ fetch-requires g c =
     let slab_is : c.slab.result ≡ (var_at (vars_of p) c.args.var).extent.slab = search rules in
     let left_are : at.offset + c.args.left * c.size-size.result ≡ c.slab.result = ap (λ (k : ℕ). at.offset + c.args.left * k) size_is ∙ at.left_are ∙ sym slab_is in
     let count : c.min-count.result ≤ c.args.left = omega (arith, c.min-count.ensures) in
-    let piece : length (take (c.min-count.result * c.size-size.result) c.args.buffer.now) ≤ c.min-count.result * c.size-size.result = omega (arith, length-take (c.min-count.result * c.size-size.result) c.args.buffer.now) in
+    let few_bytes : length (take (c.min-count.result * c.size-size.result) c.args.buffer.now) ≤ c.min-count.result * c.size-size.result = omega (arith, length-take (c.min-count.result * c.size-size.result) c.args.buffer.now) in
     let inside : c.in-Some.place + c.slab.result ≤ file_length_of p = search rules in
-    omega (arith, left_are, count, piece, inside, mul-le c.min-count.result c.size-size.result c.args.left c.size-size.result count (omega arith))
+    omega (arith, left_are, count, few_bytes, inside, mul-le c.min-count.result c.size-size.result c.args.left c.size-size.result count (omega arith))
 
 pub returns-in-Err-clause-before : goal.returns-in-Err-clause-before
 returns-in-Err-clause-before g c =
@@ -368,8 +369,8 @@ returns-in-Err-put_bytes-clause-planned g c =
     let failed : after.0 ≡ as_failed (with_values w v) = subst (λ (f : WriteFault). StandsAfter w (with_values w v) after.0 (Err f)) device after.2 in
     after.1.schema ∙ ap (λ (u : Standing). u.schema) failed ∙ sym copies.stands.schema
 
-pub returns-in-Err-put_bytes-clause-count : goal.returns-in-Err-put_bytes-clause-count
-returns-in-Err-put_bytes-clause-count g c =
+pub returns-in-Err-clause-file : goal.returns-in-Err-clause-file
+returns-in-Err-clause-file g c =
     let file = c.args.file.now in
     let x = c.args.writer.now in
     let s = schema_of file in
@@ -383,87 +384,70 @@ returns-in-Err-put_bytes-clause-count g c =
     let w = copies.standing in
     let at = faces b tells bytes s p start put x c.open_file_stands.ensures c.requires.planned copies c.args.var c.args.number c.args.left c.requires.next in
     let y = var_at (vars_of p) c.args.var in
+    let size_is : c.size-size.result ≡ size_of y.xtype = search rules in
+    let slab_is : c.slab.result ≡ y.extent.slab = search rules in
+    let inside : c.in-Some.place + y.extent.slab ≤ file_length_of p = search rules in
+    let few : c.min-count.result ≤ c.args.left = omega (arith, c.min-count.ensures) in
+    let left_are : at.offset + c.args.left * c.size-size.result ≡ y.extent.slab = ap (λ (n : ℕ). at.offset + c.args.left * n) size_is ∙ at.left_are in
+    let few_bytes : length (take (c.min-count.result * c.size-size.result) c.args.buffer.now) ≤ c.min-count.result * c.size-size.result = omega (arith, length-take (c.min-count.result * c.size-size.result) c.args.buffer.now) in
+    files_answered file c.fetch.new.self _ _ true 1 _
+    (files_within file c.fetch.new.self _ true 1 _ (file_length_of p) c.in-Err.ensures.file (omega (arith, slab_is, inside, left_are, few_bytes, mul-le c.min-count.result c.size-size.result c.args.left c.size-size.result few (omega arith))))
+    (search rules)
+
+pub returns-in-Ok-put_bytes-clause-file : goal.returns-in-Ok-put_bytes-clause-file
+returns-in-Ok-put_bytes-clause-file g c =
+    let file = c.args.file.now in
+    let x = c.args.writer.now in
+    let s = schema_of file in
+    let p = placed_of file in
+    let bytes = g.S.Store.bytes (store_of file) in
+    let tells = g.S.Store.tells_bytes in
+    let b = tells_header tells (must_reopen file) in
+    let put = g.W.Sink.put (sink_in x) in
+    let start = c.requires.copies.0 in
+    let copies = c.requires.copies.1 in
+    let w = copies.standing in
+    let at = faces b tells bytes s p start put x c.open_file_stands.ensures c.requires.planned copies c.args.var c.args.number c.args.left c.requires.next in
+    let y = var_at (vars_of p) c.args.var in
+    let size_is : c.size-size.result ≡ size_of y.xtype = search rules in
+    let slab_is : c.slab.result ≡ y.extent.slab = search rules in
+    let inside : c.in-Some.place + y.extent.slab ≤ file_length_of p = search rules in
+    let few : c.min-count.result ≤ c.args.left = omega (arith, c.min-count.ensures) in
+    let left_are : at.offset + c.args.left * c.size-size.result ≡ y.extent.slab = ap (λ (n : ℕ). at.offset + c.args.left * n) size_is ∙ at.left_are in
+    let few_bytes : length (take (c.min-count.result * c.size-size.result) c.args.buffer.now) ≤ c.min-count.result * c.size-size.result = omega (arith, length-take (c.min-count.result * c.size-size.result) c.args.buffer.now) in
+    files_answered file c.fetch.new.self _ _ true 1 _
+    (files_within file c.fetch.new.self _ true 1 _ (file_length_of p) c.in-Ok.ensures.file (omega (arith, slab_is, inside, left_are, few_bytes, mul-le c.min-count.result c.size-size.result c.args.left c.size-size.result few (omega arith))))
+    (search rules)
+
+pub returns-in-Err-put_bytes-clause-file : goal.returns-in-Err-put_bytes-clause-file
+returns-in-Err-put_bytes-clause-file g c =
+    let file = c.args.file.now in
+    let x = c.args.writer.now in
+    let s = schema_of file in
+    let p = placed_of file in
+    let bytes = g.S.Store.bytes (store_of file) in
+    let tells = g.S.Store.tells_bytes in
+    let b = tells_header tells (must_reopen file) in
+    let put = g.W.Sink.put (sink_in x) in
+    let start = c.requires.copies.0 in
+    let copies = c.requires.copies.1 in
+    let w = copies.standing in
+    let at = faces b tells bytes s p start put x c.open_file_stands.ensures c.requires.planned copies c.args.var c.args.number c.args.left c.requires.next in
+    let y = var_at (vars_of p) c.args.var in
+    let size_is : c.size-size.result ≡ size_of y.xtype = search rules in
+    let slab_is : c.slab.result ≡ y.extent.slab = search rules in
+    let inside : c.in-Some.place + y.extent.slab ≤ file_length_of p = search rules in
+    let few : c.min-count.result ≤ c.args.left = omega (arith, c.min-count.ensures) in
+    let left_are : at.offset + c.args.left * c.size-size.result ≡ y.extent.slab = ap (λ (n : ℕ). at.offset + c.args.left * n) size_is ∙ at.left_are in
+    let few_bytes : length (take (c.min-count.result * c.size-size.result) c.args.buffer.now) ≤ c.min-count.result * c.size-size.result = omega (arith, length-take (c.min-count.result * c.size-size.result) c.args.buffer.now) in
     let t = c.xtype-xtype.result in
     let k = c.min-count.result in
     let piece = c.fetch.new.out in
-    let v = values_of t piece in
     let type_is : t ≡ y.xtype = search rules in
-    let size_is : c.size-size.result ≡ size_of t = search rules in
-    let slab_is : c.slab.result ≡ y.extent.slab = search rules in
-    let few : k ≤ c.args.left = omega (arith, c.min-count.ensures) in
     let long : length piece ≡ k * size_of t = search rules in
-    let left_are : at.offset + c.args.left * size_of t ≡ y.extent.slab = ap (λ (u : XType). at.offset + c.args.left * size_of u) type_is ∙ at.left_are in
-    let fits : at.offset + length piece ≤ y.extent.slab = omega (arith, left_are, long, mul-le k (size_of t) c.args.left (size_of t) few (omega arith)) in
     let after = c.in-Err-put_bytes.ensures.stands start w copies.stands in
     let e = c.in-Err-put_bytes.field-0 in
     let device : e ≡ Device = device_is w t k piece at.n copies.goes at.next_is (type_is ∙ at.xtype_is) long (omega (arith, few, at.left_is)) e (c.in-Err-put_bytes.ensures.answer start w copies.stands) in
-    inr (c.in-Ok.ensures.count, subst (λ (f : WriteFault). CountsFailure (g.W.Sink.failures (sink_in x)) (g.W.Sink.failures (sink_in c.put_bytes.new.self)) (Err f)) device c.in-Err-put_bytes.ensures.count)
-
-pub returns-in-Err-clause-reach : goal.returns-in-Err-clause-reach
-returns-in-Err-clause-reach g c =
-    let file = c.args.file.now in
-    let x = c.args.writer.now in
-    let s = schema_of file in
-    let p = placed_of file in
-    let bytes = g.S.Store.bytes (store_of file) in
-    let tells = g.S.Store.tells_bytes in
-    let b = tells_header tells (must_reopen file) in
-    let put = g.W.Sink.put (sink_in x) in
-    let start = c.requires.copies.0 in
-    let copies = c.requires.copies.1 in
-    let w = copies.standing in
-    let at = faces b tells bytes s p start put x c.open_file_stands.ensures c.requires.planned copies c.args.var c.args.number c.args.left c.requires.next in
-    let y = var_at (vars_of p) c.args.var in
-    let size_is : c.size-size.result ≡ size_of y.xtype = search rules in
-    let slab_is : c.slab.result ≡ y.extent.slab = search rules in
-    let inside : c.in-Some.place + y.extent.slab ≤ file_length_of p = search rules in
-    let few : c.min-count.result ≤ c.args.left = omega (arith, c.min-count.ensures) in
-    let left_are : at.offset + c.args.left * c.size-size.result ≡ y.extent.slab = ap (λ (n : ℕ). at.offset + c.args.left * n) size_is ∙ at.left_are in
-    let piece : length (take (c.min-count.result * c.size-size.result) c.args.buffer.now) ≤ c.min-count.result * c.size-size.result = omega (arith, length-take (c.min-count.result * c.size-size.result) c.args.buffer.now) in
-    omega (arith, c.fetch.ensures.reach, slab_is, inside, left_are, piece, mul-le c.min-count.result c.size-size.result c.args.left c.size-size.result few (omega arith))
-
-pub returns-in-Ok-put_bytes-clause-reach : goal.returns-in-Ok-put_bytes-clause-reach
-returns-in-Ok-put_bytes-clause-reach g c =
-    let file = c.args.file.now in
-    let x = c.args.writer.now in
-    let s = schema_of file in
-    let p = placed_of file in
-    let bytes = g.S.Store.bytes (store_of file) in
-    let tells = g.S.Store.tells_bytes in
-    let b = tells_header tells (must_reopen file) in
-    let put = g.W.Sink.put (sink_in x) in
-    let start = c.requires.copies.0 in
-    let copies = c.requires.copies.1 in
-    let w = copies.standing in
-    let at = faces b tells bytes s p start put x c.open_file_stands.ensures c.requires.planned copies c.args.var c.args.number c.args.left c.requires.next in
-    let y = var_at (vars_of p) c.args.var in
-    let size_is : c.size-size.result ≡ size_of y.xtype = search rules in
-    let slab_is : c.slab.result ≡ y.extent.slab = search rules in
-    let inside : c.in-Some.place + y.extent.slab ≤ file_length_of p = search rules in
-    let few : c.min-count.result ≤ c.args.left = omega (arith, c.min-count.ensures) in
-    let left_are : at.offset + c.args.left * c.size-size.result ≡ y.extent.slab = ap (λ (n : ℕ). at.offset + c.args.left * n) size_is ∙ at.left_are in
-    let piece : length (take (c.min-count.result * c.size-size.result) c.args.buffer.now) ≤ c.min-count.result * c.size-size.result = omega (arith, length-take (c.min-count.result * c.size-size.result) c.args.buffer.now) in
-    omega (arith, c.fetch.ensures.reach, slab_is, inside, left_are, piece, mul-le c.min-count.result c.size-size.result c.args.left c.size-size.result few (omega arith))
-
-pub returns-in-Err-put_bytes-clause-reach : goal.returns-in-Err-put_bytes-clause-reach
-returns-in-Err-put_bytes-clause-reach g c =
-    let file = c.args.file.now in
-    let x = c.args.writer.now in
-    let s = schema_of file in
-    let p = placed_of file in
-    let bytes = g.S.Store.bytes (store_of file) in
-    let tells = g.S.Store.tells_bytes in
-    let b = tells_header tells (must_reopen file) in
-    let put = g.W.Sink.put (sink_in x) in
-    let start = c.requires.copies.0 in
-    let copies = c.requires.copies.1 in
-    let w = copies.standing in
-    let at = faces b tells bytes s p start put x c.open_file_stands.ensures c.requires.planned copies c.args.var c.args.number c.args.left c.requires.next in
-    let y = var_at (vars_of p) c.args.var in
-    let size_is : c.size-size.result ≡ size_of y.xtype = search rules in
-    let slab_is : c.slab.result ≡ y.extent.slab = search rules in
-    let inside : c.in-Some.place + y.extent.slab ≤ file_length_of p = search rules in
-    let few : c.min-count.result ≤ c.args.left = omega (arith, c.min-count.ensures) in
-    let left_are : at.offset + c.args.left * c.size-size.result ≡ y.extent.slab = ap (λ (n : ℕ). at.offset + c.args.left * n) size_is ∙ at.left_are in
-    let piece : length (take (c.min-count.result * c.size-size.result) c.args.buffer.now) ≤ c.min-count.result * c.size-size.result = omega (arith, length-take (c.min-count.result * c.size-size.result) c.args.buffer.now) in
-    omega (arith, c.fetch.ensures.reach, slab_is, inside, left_are, piece, mul-le c.min-count.result c.size-size.result c.args.left c.size-size.result few (omega arith))
+    files_answered file c.fetch.new.self _ _ true 1 _
+    (files_within file c.fetch.new.self _ true 1 _ (file_length_of p) c.in-Ok.ensures.file (omega (arith, slab_is, inside, left_are, few_bytes, mul-le c.min-count.result c.size-size.result c.args.left c.size-size.result few (omega arith))))
+    (inr (c.in-Ok.ensures.file.reads.counted, subst (λ (f : WriteFault). CountsFailure (g.W.Sink.failures (sink_in x)) (g.W.Sink.failures (sink_in c.put_bytes.new.self)) (Err f)) device c.in-Err-put_bytes.ensures.count))

@@ -81,4 +81,4 @@ returns-clause-added g c =
     ∙ ap (λ (k : ℕ). first_rows (run_row heads start stride (map text (take n values))) k) (length-take-le n values (omega (arith, c.min-n.ensures))) in
     let rows = rows_of_run text values s r c.args.number n heads start stride c.requires.fits c.requires.ranked (omega (arith, c.min-n.ensures)) c.requires.there
     (omega (arith, last.some, same, c.count_along-count.ensures, c.min-n.ensures)) set from c.stride_along.ensures in
-    c.in_ok-put_run.ensures ∙ ap (λ (t : List ℕ). c.args.page.now.items ++ t) (run ∙ rows)
+    c.in_ok-put_run.ensures.rows ∙ ap (λ (t : List ℕ). c.args.page.now.items ++ t) (run ∙ rows)

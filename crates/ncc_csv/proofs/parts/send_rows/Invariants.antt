@@ -1,10 +1,9 @@
 use Rattle.std.proofs.Common.{◌≡◌, ◌≤◌, ◌+◌, ◌-◌, ℕ, drop}
-use Rattle.std.specs.Prelude.{IsTrue}
+use Rattle.std.specs.Prelude.{IsTrue, false}
 use Rattle.ncc_schema.specs.Device.{Puts}
-use Rattle.ncc_store.specs.Store.{Unmoved, KeepsImages}
 use Rattle.ncc_layout.specs.Elements.{var_at}
-use Rattle.ncc_layout.specs.Placed.{record_size_of_file, vars_of}
-use Rattle.ncc_check.specs.Files.{store_of, schema_of, placed_of, must_reopen}
+use Rattle.ncc_layout.specs.Placed.{file_length_of, record_size_of_file, vars_of}
+use Rattle.ncc_check.specs.Files.{ReadsFile, store_of, placed_of}
 use Rattle.ncc_values.specs.XType.{size_of}
 use Rattle.ncc_slab.specs.Stretches.{all_stretches}
 use Rattle.ncc_slab.specs.SlabParts.{BeginsParts, parts_left, parts_length, parts_type}
@@ -19,12 +18,7 @@ invariant-loop-done g l = record {
   long : parts_length l.parts ≡ parts_length l.fn.parts;
   sent : IsTrue g.S.Store.tells_bytes → (number : ℕ) → BeginsParts (placed_of l.fn.file) number l.slab l.fn.parts
       → Puts (g.W.Sink.put l.fn.sink) (g.W.Sink.put l.sink) (part_rows l.style (g.S.Store.bytes (store_of l.fn.file)) (record_size_of_file (placed_of l.fn.file)) (var_at (vars_of (placed_of l.fn.file)) number) l.slab 0 l.done);
-  schema : schema_of l.file ≡ schema_of l.fn.file;
-  placed : placed_of l.file ≡ placed_of l.fn.file;
-  reopen : must_reopen l.file ≡ must_reopen l.fn.file;
-  unmoved : Unmoved g.S.Store.bytes g.S.Store.images g.S.Store.moment g.S.Store.images_since (store_of l.fn.file) (store_of l.file);
-  kept : KeepsImages (g.S.Store.images (store_of l.fn.file)) (g.S.Store.images (store_of l.file));
-  store_count : g.S.Store.failures (store_of l.file) ≡ g.S.Store.failures (store_of l.fn.file);
+  file : ReadsFile l.fn.file l.file (λ before after. after ≡ before) false 0 (file_length_of (placed_of l.fn.file));
   calls : g.S.Store.calls (store_of l.file) + all_stretches (size_of (parts_type l.fn.parts)) (parts_left l.parts) ≤ g.S.Store.calls (store_of l.fn.file) + all_stretches (size_of (parts_type l.fn.parts)) (parts_left l.fn.parts);
   sink_count : g.W.Sink.failures l.sink ≡ g.W.Sink.failures l.fn.sink;
 }

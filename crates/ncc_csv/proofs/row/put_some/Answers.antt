@@ -1,8 +1,9 @@
 use Rattle.std.proofs.Common.{◌≡◌, ◌+◌, ◌-◌, ◌*◌, ◌≤◌, ◌++◌, ◌∷◌, [], ℕ, List, suc, length, drop, decimal, map, get_or, ap, sym, ◌∙◌, arith, append_assoc}
-use Rattle.std.proofs.lemmas.List.{get_or-map}
+use Rattle.std.proofs.lemmas.List.{get_or-map, length-append}
 use Rattle.ncc_csv.specs.Rows.{row_line}
 use Rattle.ncc_csv.specs.Runs.{run_row, first_rows}
 use Rattle.ncc_csv.proofs.Plain.{run_line}
+use Rattle.ncc_csv.proofs.Runs.{on_err_weaker}
 use Rattle.ncc_csv.proofs.row.put_some.Goals as goal
 
 -- one row less stands before what is laid out, and one row more in it
@@ -34,3 +35,22 @@ loop-k-preserved g c =
           ∙ ap (λ (n : ℕ). rows n ++ drop l.at l.room) more
           ∙ l.invariant.rows heads plain front;
     }
+
+pub returns-clause-full : goal.returns-clause-full
+returns-clause-full g c before heads plain front is =
+    let l = c.loop-k in
+    let rows = first_rows (run_row heads c.args.start c.args.stride (map (g.T.Cell.text c.args.style) c.args.values.now)) in
+    let first : l.k ≡ c.args.from = omega (arith, l.invariant.above, c.loop-k-test.false) in
+    on_err_weaker c.extend_from_slice.result _ _
+    (λ full.
+    omega (
+      arith,
+      full,
+      ap length is,
+      length-append before (rows c.args.from),
+      ap length c.split_at.ensures.back,
+      ap length (l.invariant.rows heads plain front),
+      length-append (rows l.k) (drop l.at l.room),
+      ap (λ (n : ℕ). length (rows n)) first,
+    ))
+    c.extend_from_slice.ensures.full

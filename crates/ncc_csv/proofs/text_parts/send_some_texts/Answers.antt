@@ -1,10 +1,11 @@
-use Rattle.std.proofs.Common.{◌≡◌, ◌+◌, ◌-◌, ◌++◌, ℕ, List, rules, length, drop, refl, sym, ap, subst, ◌∙◌, arith}
+use Rattle.std.proofs.Common.{true, false, ◌≡◌, ◌+◌, ◌-◌, ◌++◌, ℕ, List, rules, length, drop, refl, sym, ap, subst, ◌∙◌, arith}
 use Rattle.std.proofs.lemmas.List.{length-drop, drop-drop}
 use Rattle.ncc_schema.specs.Device.{Puts}
 use Rattle.ncc_schema.proofs.Writing.{puts_both, puts_none}
 use Rattle.ncc_layout.specs.Elements.{var_at}
-use Rattle.ncc_layout.specs.Placed.{record_size_of_file, vars_of}
+use Rattle.ncc_layout.specs.Placed.{file_length_of, record_size_of_file, vars_of}
 use Rattle.ncc_check.specs.Files.{store_of, placed_of}
+use Rattle.ncc_check.proofs.ReadFiles.{files_join, files_bounded, files_answered, files_loose}
 use Rattle.ncc_lines.specs.Sends.{PutsFront}
 use Rattle.ncc_slab.specs.Selection.{selected_count}
 use Rattle.ncc_values.specs.XType.{size_of}
@@ -30,12 +31,7 @@ loop-done-init g c = record {
   short = omega (arith, c.requires.some, ap (λ (l : List ℕ). length l) c.new.ensures.items);
   done_is = omega (arith, ap (λ (l : List ℕ). length l) c.new.ensures.items);
   sent = λ told number begins. gathers_begin c.args.slab.now _ (Puts (g.W.Sink.put c.args.sink.now) (g.W.Sink.put c.args.sink.now)) refl c.new.ensures.items c.requires.some (puts_none (g.W.Sink.put c.args.sink.now));
-  schema = refl;
-  placed = refl;
-  reopen = refl;
-  unmoved = search rules;
-  kept = λ image was. was;
-  store_count = refl;
+  file = search rules;
   calls = omega arith;
   sink_count = refl;
 }
@@ -57,7 +53,7 @@ returns-in_err-done-clause-sent g c = λ told number begins.
     omega (arith, at.within, c.left-all.ensures, ap length at.left, length-drop done all, ap length begins.left_is, c.places_are_counted.ensures record_size x s) in
     let place = at.left ∙ ap (λ (l : List ℕ). drop done l) begins.left_is ∙ ap (λ (n : ℕ). drop n (places_of record_size x s)) (sym at.done_is) in
     let next = c.in_err-done.ensures.sent told record_size x (at.type_is ∙ begins.type_is) place in
-    let here = subst (λ (b : List ℕ). Fills s c.loop-done.gathered.number (c.loop-done.gathered.text.items ++ part_bytes b record_size x s (done_in s c.loop-done.gathered) left) (PutsFront mid new)) at.unmoved.same next in
+    let here = subst (λ (b : List ℕ). Fills s c.loop-done.gathered.number (c.loop-done.gathered.text.items ++ part_bytes b record_size x s (done_in s c.loop-done.gathered) left) (PutsFront mid new)) at.file.reads.unmoved.same next in
     let now = subst (λ (n : ℕ). Fills s c.loop-done.gathered.number (c.loop-done.gathered.text.items ++ part_bytes file record_size x s n left) (PutsFront mid new)) at.done_is here in
     let front = fills_behind s 0 (part_bytes file record_size x s 0 done) (part_bytes file record_size x s done left) c.loop-done.gathered (Puts first mid) (PutsFront mid new) (PutsFront first new)
     (λ t u a b. front_behind first mid new (t ++ u) t u refl a b) (at.sent told number begins) now in
@@ -65,13 +61,16 @@ returns-in_err-done-clause-sent g c = λ told number begins.
     fails _ _ _ _ c.from_residual.ensures.0
     (some_full s (length s.count - 1) c.requires.fits (omega (arith, counts_some s c.requires.some)) c.requires.some file record_size x first new total)
 
-pub returns-in_err-done-clause-calls : goal.returns-in_err-done-clause-calls
-returns-in_err-done-clause-calls g c =
+pub returns-in_err-done-clause-file : goal.returns-in_err-done-clause-file
+returns-in_err-done-clause-file g c =
     let at = c.loop-done.invariant in
+    let next = c.in_err-done.ensures.file in
     let t = parts_type c.args.parts.now in
     let left = parts_left c.loop-done.parts in
     let step = first_and_rest (size_of t) (room_some t) left in
-    omega (arith, at.calls, c.in_err-done.ensures.calls, ap (λ (m : ℕ). part_stretches m left) (ap size_of at.type_is), step)
+    let joined = files_join c.args.file.now c.loop-done.file c.send_next_texts.new.file _ false 0 0 0 _ _ at.file (files_loose c.loop-done.file c.send_next_texts.new.file _ _ _ next) (omega arith) (omega (arith, ap file_length_of at.file.placed)) in
+    files_bounded c.args.file.now c.send_next_texts.new.file _ false 0 _ _ (files_answered c.args.file.now c.send_next_texts.new.file _ _ false 0 _ joined (search rules))
+    (omega (arith, at.calls, next.reads.calls refl, ap (λ (m : ℕ). part_stretches m left) (ap size_of at.type_is), step))
 
 pub loop-done-preserved : goal.loop-done-preserved
 loop-done-preserved g c =
@@ -97,17 +96,14 @@ loop-done-preserved g c =
           let x = var_at (vars_of (placed_of c.args.file.now)) number in
           let place = at.left ∙ ap (λ (l : List ℕ). drop done l) begins.left_is ∙ ap (λ (k : ℕ). drop k (places_of record_size x s)) (sym at.done_is) in
           let next = part.sent told record_size x (at.type_is ∙ begins.type_is) place in
-          let here = subst (λ (b : List ℕ). Gathers s c.loop-done.gathered.number (c.loop-done.gathered.text.items ++ part_bytes b record_size x s (done_in s c.loop-done.gathered) n) c.send_next_texts.new.gathered (Puts mid new)) at.unmoved.same next in
+          let here = subst (λ (b : List ℕ). Gathers s c.loop-done.gathered.number (c.loop-done.gathered.text.items ++ part_bytes b record_size x s (done_in s c.loop-done.gathered) n) c.send_next_texts.new.gathered (Puts mid new)) at.file.reads.unmoved.same next in
           let now = subst (λ (k : ℕ). Gathers s c.loop-done.gathered.number (c.loop-done.gathered.text.items ++ part_bytes file record_size x s k n) c.send_next_texts.new.gathered (Puts mid new)) at.done_is here in
           subst (λ (l : List ℕ). Gathers s 0 l c.send_next_texts.new.gathered (Puts first new)) (bytes_so_far file record_size x s done n)
           (gathers_more s 0 (part_bytes file record_size x s 0 done) (part_bytes file record_size x s done n) c.loop-done.gathered c.send_next_texts.new.gathered (Puts first mid) (Puts mid new) (Puts first new)
           (λ t u a b. puts_both first mid new t u a b) (at.sent told number begins) now);
-      schema = part.schema ∙ at.schema;
-      placed = part.placed ∙ at.placed;
-      reopen = part.reopen ∙ at.reopen;
-      unmoved = c.unmoved_calls_join.ensures (store_of c.args.file.now) (store_of c.loop-done.file) (store_of c.send_next_texts.new.file) at.unmoved part.unmoved;
-      kept = λ image was. part.kept image (at.kept image was);
-      store_count = part.count.0 ∙ at.store_count;
+      file = files_join c.args.file.now c.loop-done.file c.send_next_texts.new.file _ false 0 0 0 _ _ at.file
+          (files_loose c.loop-done.file c.send_next_texts.new.file _ _ _ (files_answered c.loop-done.file c.send_next_texts.new.file _ (λ before after. after ≡ before) true _ _ part.file part.file.reads.counted.0))
+          (omega arith) (omega (arith, ap file_length_of at.file.placed));
       calls =
           let t = parts_type c.args.parts.now in
           let left = parts_left c.loop-done.parts in
@@ -117,12 +113,12 @@ loop-done-preserved g c =
           omega (
             arith,
             at.calls,
-            part.calls,
+            part.file.reads.calls refl,
             ap (λ (m : ℕ). part_stretches m left) same,
             step,
             ap (all_stretches (size_of t)) behind,
           );
-      sink_count = part.count.1 ∙ at.sink_count;
+      sink_count = part.file.reads.counted.1 ∙ at.sink_count;
     }
 
 pub returns-clause-sent : goal.returns-clause-sent
@@ -136,3 +132,9 @@ returns-clause-sent g c = λ told number begins.
     omega (arith, at.within, c.loop-done-test.false, c.left-all.ensures, ap length begins.left_is, c.places_are_counted.ensures record_size x s) in
     all_full s (length s.count - 1) c.requires.fits (omega (arith, counts_some s c.requires.some)) c.requires.some file record_size x c.loop-done.gathered (Puts (g.W.Sink.put c.args.sink.now) (g.W.Sink.put c.loop-done.sink))
     (subst (λ (n : ℕ). Gathers s 0 (part_bytes file record_size x s 0 n) c.loop-done.gathered (Puts (g.W.Sink.put c.args.sink.now) (g.W.Sink.put c.loop-done.sink))) whole (at.sent told number begins))
+
+pub returns-clause-file : goal.returns-clause-file
+returns-clause-file g c =
+    let at = c.loop-done.invariant in
+    files_bounded c.args.file.now c.loop-done.file _ false 0 _ _ (files_answered c.args.file.now c.loop-done.file _ _ false 0 _ at.file (at.file.reads.counted, at.sink_count))
+    (omega (arith, at.calls))

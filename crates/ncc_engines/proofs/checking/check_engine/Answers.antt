@@ -1,4 +1,5 @@
-use Rattle.std.proofs.Common.{subst}
+use Rattle.std.proofs.Common.{rules, subst}
+use Rattle.ncc_store.proofs.Reading.{reads_answered}
 use Rattle.ncc_check.specs.declared.fault.Refusal.{Refusal}
 use Rattle.ncc_check.specs.Checks.{Refuses}
 use Rattle.ncc_engines.proofs.SentVerdict.{Laws, sent_report, sent_file_fault}
@@ -16,3 +17,12 @@ returns-in-Err-Fault-clause-checks g c = λ told.
     let fails = subst (λ (r : Refusal). Refuses (g.S.Store.bytes c.args.store.now) c.args.limit r) c.in-Err-Fault.field-0-is (c.in-Err-Fault.ensures.answers told) in
     sent_file_fault laws (g.S.Store.bytes c.args.store.now) c.args.limit c.args.strict (g.W.Sink.put c.args.sink.now) (g.W.Sink.put c.send_file_fault.new.sink) c.in-Err-Fault.fault c.answered-in-Err-Fault.result c.send_file_fault.result
     fails c.send_file_fault.ensures.sent c.answered-in-Err-Fault.ensures
+
+pub returns-in-Ok-clause-store : goal.returns-in-Ok-clause-store
+returns-in-Ok-clause-store g c =
+    reads_answered g.S.Store c.args.store.now c.check.new.store _ _ g.S.Store.tells_bytes _ c.args.limit c.in-Ok.ensures.store
+    record {
+      quiet = search rules;
+      device = search rules;
+      still = search rules;
+    }

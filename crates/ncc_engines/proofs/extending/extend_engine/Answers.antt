@@ -1,5 +1,5 @@
 use Rattle.std.proofs.Math.Logic.{∥∥₁_map}
-use Rattle.std.proofs.Common.{◌≡◌, ◌≢◌, ◌⊎◌, ◌+◌, inl, inr, ⊎_elim, false, ℕ, List, [], length, Bool, Ok, Err, refl, ap, sym, subst, ◌∙◌, arith}
+use Rattle.std.proofs.Common.{rules, ◌≡◌, ◌≢◌, ◌⊎◌, ◌+◌, inl, inr, ⊎_elim, false, ℕ, List, [], length, Bool, Ok, Err, refl, ap, sym, subst, ◌∙◌, arith}
 use Rattle.std.specs.Prelude.{OnOk}
 use Rattle.ncc_values.specs.Failures.{Rose}
 use Rattle.ncc_layout.specs.Placed.{records_of_file}
@@ -34,7 +34,7 @@ returns-in-Ok-clause-extends g c = λ told.
 pub returns-in-Ok-clause-holds : goal.returns-in-Ok-clause-holds
 returns-in-Ok-clause-holds g c = λ told passed places d is all.
     let f = c.in-Ok.opened in
-    let same = c.in-Ok.ensures.unmoved.same in
+    let same = c.in-Ok.ensures.store.unmoved.same in
     let start : Contains (g.S.Store.bytes (store_of f)) c.args.limit places d (schema_of f) (placed_of f) =
     subst (λ (b : List ℕ). Contains b c.args.limit places d (schema_of f) (placed_of f)) (sym same)
     (record { dataset = is; all = all; opens = c.in-Ok.ensures.passes told }) in
@@ -45,7 +45,7 @@ returns-in-Ok-clause-holds g c = λ told passed places d is all.
 pub returns-in-Ok-clause-holds_some : goal.returns-in-Ok-clause-holds_some
 returns-in-Ok-clause-holds_some g c = λ told places d is all.
     let f = c.in-Ok.opened in
-    let same = c.in-Ok.ensures.unmoved.same in
+    let same = c.in-Ok.ensures.store.unmoved.same in
     let start : Contains (g.S.Store.bytes (store_of f)) c.args.limit places d (schema_of f) (placed_of f) =
     subst (λ (b : List ℕ). Contains b c.args.limit places d (schema_of f) (placed_of f)) (sym same)
     (record { dataset = is; all = all; opens = c.in-Ok.ensures.passes told }) in
@@ -55,7 +55,7 @@ returns-in-Ok-clause-holds_some g c = λ told places d is all.
 pub returns-in-Ok-clause-any_moment : goal.returns-in-Ok-clause-any_moment
 returns-in-Ok-clause-any_moment g c = λ told only places d is all.
     let f = c.in-Ok.opened in
-    let still = c.in-Ok.ensures.unmoved in
+    let still = c.in-Ok.ensures.store.unmoved in
     let start : Contains (g.S.Store.bytes (store_of f)) c.args.limit places d (schema_of f) (placed_of f) =
     subst (λ (b : List ℕ). Contains b c.args.limit places d (schema_of f) (placed_of f)) (sym still.same)
     (record { dataset = is; all = all; opens = c.in-Ok.ensures.passes told }) in
@@ -71,7 +71,7 @@ returns-in-Ok-clause-any_moment g c = λ told only places d is all.
 pub returns-in-Ok-clause-whatever_was_pending : goal.returns-in-Ok-clause-whatever_was_pending
 returns-in-Ok-clause-whatever_was_pending g c = λ told places d is all.
     let f = c.in-Ok.opened in
-    let still = c.in-Ok.ensures.unmoved in
+    let still = c.in-Ok.ensures.store.unmoved in
     let X = λ (i : List ℕ). ∥ HoldsSome i c.args.limit places d c.args.more ∥₁ in
     let start : Contains (g.S.Store.bytes (store_of f)) c.args.limit places d (schema_of f) (placed_of f) =
     subst (λ (b : List ℕ). Contains b c.args.limit places d (schema_of f) (placed_of f)) (sym still.same)
@@ -108,20 +108,20 @@ pub returns-in-Device-clause-whatever_was_pending : goal.returns-in-Device-claus
 returns-in-Device-clause-whatever_was_pending g c = λ told places d is all.
     stays g.S.Store.moment g.S.Store.images_since g.S.Store.bytes g.S.Store.images c.args.store c.args.store c.in-Err.store _
     (from_what_was g.S.Store.images g.S.Store.moment g.S.Store.images_since c.args.store
-    (λ i. ∥ HoldsSome i c.args.limit places d c.args.more ∥₁) (λ i left. g.met.S.Store.only_now c.args.store i left)) c.in-Err.ensures.unmoved
+    (λ i. ∥ HoldsSome i c.args.limit places d c.args.more ∥₁) (λ i left. g.met.S.Store.only_now c.args.store i left)) c.in-Err.ensures.store.unmoved
 
 pub returns-in-Memory-clause-whatever_was_pending : goal.returns-in-Memory-clause-whatever_was_pending
 returns-in-Memory-clause-whatever_was_pending g c = λ told places d is all.
     stays g.S.Store.moment g.S.Store.images_since g.S.Store.bytes g.S.Store.images c.args.store c.args.store c.in-Err.store _
     (from_what_was g.S.Store.images g.S.Store.moment g.S.Store.images_since c.args.store
-    (λ i. ∥ HoldsSome i c.args.limit places d c.args.more ∥₁) (λ i left. g.met.S.Store.only_now c.args.store i left)) c.in-Err.ensures.unmoved
+    (λ i. ∥ HoldsSome i c.args.limit places d c.args.more ∥₁) (λ i left. g.met.S.Store.only_now c.args.store i left)) c.in-Err.ensures.store.unmoved
 
 pub returns-in-Ok-clause-memory : goal.returns-in-Ok-clause-memory
 returns-in-Ok-clause-memory g c = λ is.
     let memory = c.tell-answer.ensures.memory is in
     let same = (rw memory at c.extend-extended.ensures.unchanged) (λ device. cc device) (λ full. cc full) in
     subst (λ x. Unmoved g.S.Store.bytes g.S.Store.images g.S.Store.moment g.S.Store.images_since c.args.store x)
-    (sym (c.into_store.ensures ∙ ap (λ x. store_of x) same)) c.in-Ok.ensures.unmoved
+    (sym (c.into_store.ensures ∙ ap (λ x. store_of x) same)) c.in-Ok.ensures.store.unmoved
 
 pub returns-in-Ok-clause-refused : goal.returns-in-Ok-clause-refused
 returns-in-Ok-clause-refused g c = λ told fails.
@@ -136,7 +136,7 @@ returns-in-Fault-clause-extends g c = λ told.
 
 pub returns-in-Device-clause-holds_some : goal.returns-in-Device-clause-holds_some
 returns-in-Device-clause-holds_some g c = λ told places d is all.
-    subst (λ (b : List ℕ). ∥ HoldsSome b c.args.limit places d c.args.more ∥₁) (sym c.in-Err.ensures.unmoved.same)
+    subst (λ (b : List ℕ). ∥ HoldsSome b c.args.limit places d c.args.more ∥₁) (sym c.in-Err.ensures.store.unmoved.same)
     (none_more c.followed_twice.ensures.none (g.S.Store.bytes c.args.store) c.args.limit places d c.args.more is all)
 
 pub returns-in-Device-clause-any_moment : goal.returns-in-Device-clause-any_moment
@@ -144,11 +144,11 @@ returns-in-Device-clause-any_moment g c = λ told only places d is all.
     stays g.S.Store.moment g.S.Store.images_since g.S.Store.bytes g.S.Store.images c.args.store c.args.store c.in-Err.store _
     (at_start g.S.Store.bytes g.S.Store.images g.S.Store.moment g.S.Store.images_since c.args.store
     (λ i. ∥ HoldsSome i c.args.limit places d c.args.more ∥₁) (λ i left. g.met.S.Store.only_now c.args.store i left)
-    only (none_more c.followed_twice.ensures.none (g.S.Store.bytes c.args.store) c.args.limit places d c.args.more is all)) c.in-Err.ensures.unmoved
+    only (none_more c.followed_twice.ensures.none (g.S.Store.bytes c.args.store) c.args.limit places d c.args.more is all)) c.in-Err.ensures.store.unmoved
 
 pub returns-in-Memory-clause-holds_some : goal.returns-in-Memory-clause-holds_some
 returns-in-Memory-clause-holds_some g c = λ told places d is all.
-    subst (λ (b : List ℕ). ∥ HoldsSome b c.args.limit places d c.args.more ∥₁) (sym c.in-Err.ensures.unmoved.same)
+    subst (λ (b : List ℕ). ∥ HoldsSome b c.args.limit places d c.args.more ∥₁) (sym c.in-Err.ensures.store.unmoved.same)
     (none_more c.followed_twice.ensures.none (g.S.Store.bytes c.args.store) c.args.limit places d c.args.more is all)
 
 pub returns-in-Memory-clause-any_moment : goal.returns-in-Memory-clause-any_moment
@@ -156,7 +156,7 @@ returns-in-Memory-clause-any_moment g c = λ told only places d is all.
     stays g.S.Store.moment g.S.Store.images_since g.S.Store.bytes g.S.Store.images c.args.store c.args.store c.in-Err.store _
     (at_start g.S.Store.bytes g.S.Store.images g.S.Store.moment g.S.Store.images_since c.args.store
     (λ i. ∥ HoldsSome i c.args.limit places d c.args.more ∥₁) (λ i left. g.met.S.Store.only_now c.args.store i left)
-    only (none_more c.followed_twice.ensures.none (g.S.Store.bytes c.args.store) c.args.limit places d c.args.more is all)) c.in-Err.ensures.unmoved
+    only (none_more c.followed_twice.ensures.none (g.S.Store.bytes c.args.store) c.args.limit places d c.args.more is all)) c.in-Err.ensures.store.unmoved
 
 pub returns-in-Ok-clause-bytes : goal.returns-in-Ok-clause-bytes
 returns-in-Ok-clause-bytes g c = λ told passed.
@@ -168,7 +168,7 @@ returns-in-Ok-clause-bytes g c = λ told passed.
       opens = c.in-Ok.ensures.passes told;
       bytes = ap g.S.Store.bytes c.into_store.ensures
           ∙ passed_ok c.extend-extended.result c.records.result _ _ tells (c.extend-extended.ensures.bytes told)
-          ∙ ap (λ (b : List ℕ). filled_bytes b (schema_of f) (placed_of f) c.args.more) c.in-Ok.ensures.unmoved.same;
+          ∙ ap (λ (b : List ℕ). filled_bytes b (schema_of f) (placed_of f) c.args.more) c.in-Ok.ensures.store.unmoved.same;
     } ∣₁
 
 pub returns-in-Ok-clause-untouched : goal.returns-in-Ok-clause-untouched
@@ -177,7 +177,7 @@ returns-in-Ok-clause-untouched g c = λ told refused.
     let s = schema_of f in
     let p = placed_of f in
     let new = c.extend-extended.new.file in
-    let same = c.in-Ok.ensures.unmoved.same in
+    let same = c.in-Ok.ensures.store.unmoved.same in
     let tells = subst (λ (a : Answer). Told c.extend-extended.result c.records.result (g.W.Sink.put c.args.sink.now) (g.W.Sink.put c.tell-answer.new.sink) a) refused c.tell-answer.ensures.tells in
     let why = refused_for c.extend-extended.result c.records.result (g.W.Sink.put c.args.sink.now) (g.W.Sink.put c.tell-answer.new.sink) tells in
     let e = why.0 in
@@ -193,7 +193,7 @@ returns-in-Ok-clause-untouched g c = λ told refused.
     let how : ExtendsAs false s p c.args.more (Err errors.CountFull) = rw is at answer in
     let unmoved : IsFull s.version p → Unmoved g.S.Store.bytes g.S.Store.images g.S.Store.moment g.S.Store.images_since c.args.store (store_of new) =
     λ at_once. subst (λ f. Unmoved g.S.Store.bytes g.S.Store.images g.S.Store.moment g.S.Store.images_since c.args.store (store_of f))
-    (sym ((rw is at c.extend-extended.ensures.full_at_once) at_once)) c.in-Ok.ensures.unmoved in
+    (sym ((rw is at c.extend-extended.ensures.full_at_once) at_once)) c.in-Ok.ensures.store.unmoved in
     let few = c.extend-extended.ensures.calls_added (λ device. cc (sym is ∙ device)) in
     let before = g.S.Store.calls c.args.store + calls_for (length (g.S.Store.bytes c.args.store)) c.args.limit in
     inr (subst (λ x. ∥ FillsUp (g.S.Store.bytes c.args.store) c.args.limit c.args.more (g.S.Store.bytes x)
@@ -206,13 +206,13 @@ returns-in-Ok-clause-untouched g c = λ told refused.
       up.0,
       λ none. (
         unmoved (up.2 none),
-        omega (arith, c.in-Ok.ensures.calls told, ap (λ f. g.S.Store.calls (store_of f)) ((rw is at c.extend-extended.ensures.full_at_once) (up.2 none))),
+        omega (arith, c.in-Ok.ensures.store.calls told, ap (λ f. g.S.Store.calls (store_of f)) ((rw is at c.extend-extended.ensures.full_at_once) (up.2 none))),
       ),
-      omega (arith, few, up.1, leaves.has.records_are, c.in-Ok.ensures.calls told),
+      omega (arith, few, up.1, leaves.has.records_are, c.in-Ok.ensures.store.calls told),
     )))))
     (λ other. inl (
       subst (λ x. Unmoved g.S.Store.bytes g.S.Store.images g.S.Store.moment g.S.Store.images_since c.args.store x)
-          (sym (c.into_store.ensures ∙ ap (λ x. store_of x) (unchanged why.2 other))) c.in-Ok.ensures.unmoved,
+          (sym (c.into_store.ensures ∙ ap (λ x. store_of x) (unchanged why.2 other))) c.in-Ok.ensures.store.unmoved,
       inr (
         s,
         p,
@@ -233,7 +233,7 @@ returns-in-Ok-clause-rest g c = λ other.
     let new = c.extend-extended.new.file in
     ⊎_elim
     (λ is. inl (subst (λ x. Unmoved g.S.Store.bytes g.S.Store.images g.S.Store.moment g.S.Store.images_since c.args.store x)
-    (sym (c.into_store.ensures ∙ ap (λ x. store_of x) is)) c.in-Ok.ensures.unmoved))
+    (sym (c.into_store.ensures ∙ ap (λ x. store_of x) is)) c.in-Ok.ensures.store.unmoved))
     (λ only. inr (subst (λ x. Only (g.S.Store.bytes x) (g.S.Store.images x)) (sym c.into_store.ensures) only))
     (c.extend-extended.ensures.rest (λ device. other (c.tell-answer.ensures.told device)))
 
@@ -243,10 +243,10 @@ returns-in-Ok-clause-leaves g c = λ told.
     let s = schema_of f in
     let p = placed_of f in
     let new = c.extend-extended.new.file in
-    let same = c.in-Ok.ensures.unmoved.same in
+    let same = c.in-Ok.ensures.store.unmoved.same in
     let stays : new ≡ f → Unmoved g.S.Store.bytes g.S.Store.images g.S.Store.moment g.S.Store.images_since c.args.store c.into_store.result =
     λ is. subst (λ x. Unmoved g.S.Store.bytes g.S.Store.images g.S.Store.moment g.S.Store.images_since c.args.store x)
-    (sym (c.into_store.ensures ∙ ap (λ x. store_of x) is)) c.in-Ok.ensures.unmoved in
+    (sym (c.into_store.ensures ∙ ap (λ x. store_of x) is)) c.in-Ok.ensures.store.unmoved in
     let filled = subst (λ (b : List ℕ). (new ≡ f) ⊎ (∥ IsFilledSome b c.args.limit c.args.more (g.S.Store.bytes (store_of new)) ∥₁)) same
     (some_filled (g.S.Store.bytes (store_of f)) c.args.limit s p
     (subst (λ (b : List ℕ). Opens b c.args.limit s p) (sym same) (c.in-Ok.ensures.passes told)) c.args.more
@@ -280,7 +280,7 @@ returns-in-Ok-clause-calls_none g c = λ told either.
     either in
     omega (
       arith,
-      c.in-Ok.ensures.calls told,
+      c.in-Ok.ensures.store.calls told,
       ap (λ x. g.S.Store.calls (store_of x)) same,
       ap g.S.Store.calls c.into_store.ensures,
     )
@@ -289,7 +289,7 @@ pub returns-in-Fault-clause-untouched : goal.returns-in-Fault-clause-untouched
 returns-in-Fault-clause-untouched g c = λ told refused.
     let fails = subst (λ (r : Refusal). Refuses (g.S.Store.bytes c.args.store) c.args.limit r) c.in-Fault.is (c.in-Err.ensures.refused told) in
     inl (
-      c.in-Err.ensures.unmoved,
+      c.in-Err.ensures.store.unmoved,
       inl (λ passes. c.passing_has_no_fault.ensures.apart (g.S.Store.bytes c.args.store) c.args.limit c.in-Fault.fault passes fails),
     )
 
@@ -299,7 +299,7 @@ returns-in-Ok-clause-whole g c = λ told other.
     let s = schema_of f in
     let p = placed_of f in
     let new = c.extend-extended.new.file in
-    let same = c.in-Ok.ensures.unmoved.same in
+    let same = c.in-Ok.ensures.store.unmoved.same in
     let filled = subst (λ (b : List ℕ). ∥ IsFilledWhole b c.args.limit c.args.more (g.S.Store.bytes (store_of new)) ∥₁) same
     (whole_filled (g.S.Store.bytes (store_of f)) c.args.limit s p
     (subst (λ (b : List ℕ). Opens b c.args.limit s p) (sym same) (c.in-Ok.ensures.passes told)) c.args.more
@@ -315,12 +315,12 @@ returns-in-Ok-clause-unprinted g c = λ told sound.
     let s = schema_of f in
     let p = placed_of f in
     let new = c.extend-extended.new.file in
-    let same = c.in-Ok.ensures.unmoved.same in
+    let same = c.in-Ok.ensures.store.unmoved.same in
     let no_device : c.extend-extended.result ≡ Err errors.Device → ⊥ = λ device.
     let rose : Rose (g.S.Store.failures (store_of f)) (g.S.Store.failures (store_of new)) =
     rw device at c.extend-extended.ensures.count in
     sound (subst (λ x. Rose (g.S.Store.failures c.args.store) (g.S.Store.failures x)) (sym c.into_store.ensures)
-    (subst (λ (m : ℕ). Rose m (g.S.Store.failures (store_of new))) c.in-Ok.ensures.count rose)) in
+    (subst (λ (m : ℕ). Rose m (g.S.Store.failures (store_of new))) c.in-Ok.ensures.store.counted rose)) in
     let filled = subst (λ (b : List ℕ). ∥ IsFilledWhole b c.args.limit c.args.more (g.S.Store.bytes (store_of new)) ∥₁) same
     (whole_filled (g.S.Store.bytes (store_of f)) c.args.limit s p
     (subst (λ (b : List ℕ). Opens b c.args.limit s p) (sym same) (c.in-Ok.ensures.passes told)) c.args.more
@@ -329,16 +329,21 @@ returns-in-Ok-clause-unprinted g c = λ told sound.
     inr (subst (λ x. ∥ IsFilledWhole (g.S.Store.bytes c.args.store) c.args.limit c.args.more (g.S.Store.bytes x) ∥₁)
     (sym c.into_store.ensures) filled)
 
-pub returns-in-Ok-clause-device : goal.returns-in-Ok-clause-device
-returns-in-Ok-clause-device g c = λ is.
+pub returns-in-Ok-clause-fails : goal.returns-in-Ok-clause-fails
+returns-in-Ok-clause-fails g c =
     let new = c.extend-extended.new.file in
-    ⊎_elim
-    (λ device.
-    let rose : Rose (g.S.Store.failures (store_of c.in-Ok.opened)) (g.S.Store.failures (store_of new)) =
-    rw device at c.extend-extended.ensures.count in
-    inl (subst (λ x. Rose (g.S.Store.failures c.args.store) (g.S.Store.failures x)) (sym c.into_store.ensures)
-    (subst (λ (m : ℕ). Rose m (g.S.Store.failures (store_of new))) c.in-Ok.ensures.count rose)))
-    (λ sink. inr sink) (c.tell-answer.ensures.device is)
+    record {
+      quiet = search rules;
+      device = λ is.
+          ⊎_elim
+          (λ device.
+          let rose : Rose (g.S.Store.failures (store_of c.in-Ok.opened)) (g.S.Store.failures (store_of new)) =
+          rw device at c.extend-extended.ensures.count in
+          inl (subst (λ x. Rose (g.S.Store.failures c.args.store) (g.S.Store.failures x)) (sym c.into_store.ensures)
+          (subst (λ (m : ℕ). Rose m (g.S.Store.failures (store_of new))) c.in-Ok.ensures.store.counted rose)))
+          (λ sink. inr sink) (c.tell-answer.ensures.device is);
+      still = search rules;
+    }
 
 pub returns-in-Ok-clause-counted : goal.returns-in-Ok-clause-counted
 returns-in-Ok-clause-counted g c = λ told.
@@ -346,7 +351,7 @@ returns-in-Ok-clause-counted g c = λ told.
     let s = schema_of f in
     let p = placed_of f in
     let new = g.S.Store.bytes (store_of c.extend-extended.new.file) in
-    let same = c.in-Ok.ensures.unmoved.same in
+    let same = c.in-Ok.ensures.store.unmoved.same in
     let answer = subst (λ (b : Bool). ExtendsAs b s p c.args.more c.extend-extended.result) c.in-Ok.ensures.fresh c.extend-extended.ensures.answer in
     let tells = c.tell-answer.ensures.tells in (
       tells.0,

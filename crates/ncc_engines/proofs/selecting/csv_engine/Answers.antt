@@ -16,7 +16,7 @@ returns-in-Ok-clause-selects g c = λ told.
     let f = c.in-Ok.opened in
     let old = g.W.Sink.put c.args.sink.now in
     let new = g.W.Sink.put c.select-answer.new.sink in
-    let gone = subst (λ (b : List ℕ). Gone (IsSelection (contents_in b (schema_of f) (placed_of f)) c.args.name.now c.args.pick c.args.style c.args.texts) old new c.select-answer.result) c.in-Ok.ensures.unmoved.same (c.select-answer.ensures.selects told) in
+    let gone = subst (λ (b : List ℕ). Gone (IsSelection (contents_in b (schema_of f) (placed_of f)) c.args.name.now c.args.pick c.args.style c.args.texts) old new c.select-answer.result) c.in-Ok.ensures.store.unmoved.same (c.select-answer.ensures.selects told) in
     sent_opened laws (g.S.Store.bytes c.args.store) c.args.limit c.args.name.now c.args.pick c.args.style c.args.texts (schema_of f) (placed_of f) (c.in-Ok.ensures.passes told) old new c.select-answer.result gone
 
 pub returns-in-Fault-clause-selects : goal.returns-in-Fault-clause-selects
@@ -35,13 +35,13 @@ returns-in-Ok-clause-calls g c = λ told h passes number is.
     let schema : h.schema ≡ schema_of f = ap (λ (k : Header). k.schema) same ∙ sym o.schema_is in
     let named = subst (λ (s : Schema). IsFirstNamed s.vars c.args.name.now number) schema is in
     let contents : contents_in (g.S.Store.bytes (store_of f)) (schema_of f) (placed_of f) ≡ contents_of bytes h =
-    ap (λ (b : List ℕ). contents_in b (schema_of f) (placed_of f)) c.in-Ok.ensures.unmoved.same
+    ap (λ (b : List ℕ). contents_in b (schema_of f) (placed_of f)) c.in-Ok.ensures.store.unmoved.same
     ∙ opened_contents bytes c.args.limit (schema_of f) (placed_of f) o
     ∙ ap (contents_of bytes) (sym same) in
     omega (
       arith,
       c.select-answer.ensures.calls number named,
-      c.in-Ok.ensures.calls told,
+      c.in-Ok.ensures.store.calls told,
       ap (λ (k : Contents). value_calls k c.args.pick number) contents,
       ap g.S.Store.calls c.into_store.ensures,
     )

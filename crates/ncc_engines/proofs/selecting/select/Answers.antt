@@ -1,4 +1,4 @@
-use Rattle.std.proofs.Common.{◌≡◌, ℕ, ◌<◌, ◌≤◌, ◌+◌, List, Bool, Option, Some, Result, Ok, Err, IfOk, length, ap, subst, ◌∙◌, arith, rules}
+use Rattle.std.proofs.Common.{◌≡◌, ℕ, ◌<◌, ◌≤◌, ◌+◌, List, Bool, Option, Some, Result, Ok, Err, IfOk, length, refl, ap, subst, ◌∙◌, arith, rules}
 use Rattle.std.specs.Prelude.{is_none}
 use Rattle.ncc_schema.specs.declared.schema.Schema.{Schema}
 use Rattle.ncc_schema.specs.declared.schema.Var.{Var}
@@ -80,5 +80,5 @@ returns-in-Ok-clause-calls g c = λ number is.
     subst (λ (l : List Var). IsFirstNamed l c.args.name.now (Some var)) (c.as_slice.ensures ∙ ap (λ (s : Schema). s.vars) c.schema.ensures) c.in-Some.ensures in
     let shape : c.shape.result.now ≡ x.shape = c.shape.ensures ∙ ap (λ (p : Placed). (var_at (vars_of p) var).shape) c.placed.ensures in
     let slab : c.in-Ok.slab ≡ picked x.shape c.args.pick = c.in-Ok.ensures.1 ∙ ap (λ (l : List ℕ). picked l c.args.pick) shape in
-    let calls = subst (λ (s : Slab). new ≤ old + all_stretches (size_of x.xtype) (places_of (record_size_of_file (placed_of f)) x s)) slab c.send_sheet.ensures.calls in
+    let calls = subst (λ (s : Slab). new ≤ old + all_stretches (size_of x.xtype) (places_of (record_size_of_file (placed_of f)) x s)) slab (c.send_sheet.ensures.file.reads.calls refl) in
     subst (λ (n : Option ℕ). new ≤ old + value_calls contents c.args.pick n) (one_number (schema_of f).vars c.args.name.now (Some var) number named is) calls

@@ -6,7 +6,8 @@ use Rattle.ncc_header.specs.declared.built.Parts.{Parts}
 use Rattle.ncc_header.specs.declared.built.Vars.{Vars}
 use Rattle.ncc_header.specs.Left.{before_of, begins_of, begins_of_vars, come_of, from_type, from_vars}
 use Rattle.ncc_header.specs.Passing.{placed}
-use Rattle.ncc_header.proofs.WholeItems.{went_begin, starts_tail}
+use Rattle.ncc_header.specs.declared.built.Next.TheVariants as nexts
+use Rattle.ncc_header.proofs.WholeItems.{went_begin, starts_tail, needed}
 use Rattle.ncc_header.proofs.whole_var.take_tail.Goals as goal
 
 pub returns-in-Ok-clause-some : goal.returns-in-Ok-clause-some
@@ -23,7 +24,7 @@ returns-in-Ok-clause-some c =
     let vars = c.add_var.new.vars in
     let used : ℕ = length c.args.rest.now - length after in
     let place : Place = record { vsize = tail.vsize; begin = tail.begin } in
-    went_begin r _ c.args.rest.now after _ (ap (λ n. come_of n r.built) c.requires.next) c.requires.none (omega (arith, c.in-Some.ensures.less)) (omega (arith, c.if-used-reading.false))
+    went_begin r _ c.args.rest.now after _ (ap (λ n. come_of n r.built) c.requires.next) c.requires.none (omega (arith, c.in-Some.ensures.less)) (omega (arith, c.requires.within))
     c.next_var-reading.ensures.fresh c.requires.none refl refl refl
     (from_type v name ids notes) (λ y. from_vars l.parts (before_of l.vars ++ y ∷ []) l.vars.left) (placed name ids notes tail.xtype tail.vsize tail.begin) (offset_width_of v)
     (starts_tail r c.requires.next) (c.in-Some.ensures.passes name ids notes)
@@ -36,3 +37,13 @@ returns-in-Ok-clause-some c =
     ∙ ap (λ (w : Vars). begins_of_vars w ++ (r.at + used - c.offset_width.result) ∷ []) begun.ensures.vars
     ∙ ap (λ (n : ℕ). begins_of_vars l.vars ++ (r.at + used - n) ∷ []) c.offset_width.ensures
     ∙ sym (ap (λ n. begins_of n l.vars ++ (r.at + used - offset_width_of v) ∷ []) c.requires.next))
+
+pub returns-in-Err-clause-needs : goal.returns-in-Err-clause-needs
+returns-in-Err-clause-needs c =
+    let l = c.args.reading.now.built.lists in
+    let tail = c.in-Some.tail in
+    let name = l.var.name in
+    let ids = l.var.dims.items in
+    let notes = l.attrs.items in
+    needed c.args.reading.now nexts.VarType c.args.rest.now c.requires.next
+    (placed name ids notes tail.xtype tail.vsize tail.begin, tail.after.now, c.in-Some.ensures.passes name ids notes)

@@ -1,11 +1,13 @@
-use Rattle.std.proofs.Common.{refl, sym, ap, ◌∙◌, arith, ℕ, List, [], subst}
+use Rattle.std.proofs.Common.{refl, sym, ap, ◌∙◌, arith, ℕ, List, [], subst, inl, inr}
 use Rattle.ncc_schema.specs.declared.schema.Attr.{Attr}
 use Rattle.ncc_schema.specs.declared.schema.Dim.{Dim}
 use Rattle.ncc_header.specs.Left.{Given, begins_of, come_of, in_var, from_type}
 use Rattle.ncc_header.specs.Grammar.{Grammar, ◌>>=◌, repeat}
 use Rattle.ncc_header.specs.Fields.{attr}
-use Rattle.ncc_header.specs.Passing.{Passes, var_head}
-use Rattle.ncc_header.proofs.WholeItems.{went, after_head, starts_head}
+use Rattle.ncc_header.specs.Passing.{Passes, HasFrontOfVar, var_head}
+use Rattle.ncc_header.specs.declared.built.Named.TheVariants as named
+use Rattle.ncc_header.specs.declared.built.Next.TheVariants as nexts
+use Rattle.ncc_header.proofs.WholeItems.{went, after_head, starts_head, if_err, needed}
 use Rattle.ncc_header.proofs.whole_var.take_var.Goals as goal
 
 pub returns-clause-some : goal.returns-clause-some
@@ -17,9 +19,24 @@ returns-clause-some c =
     let found = rw c.in-Some.is at c.in_ok-head.ensures.passes in
     let x : List ℕ × List ℕ × ℕ = (head.text.now, head.ids.items, head.attrs) in
     let rest : (List ℕ) → (List ℕ) → (List Attr) → Grammar Given = λ text ids items. repeat (λ before. attr p.version) items head.attrs >>= λ notes. in_var p r.built.lists.vars (from_type p.version text ids notes) in
-    went r _ c.args.rest.now head.after.now _ (ap (λ n. come_of n r.built) c.requires.next) c.requires.none (omega (arith, less)) (omega (arith, c.if-used-reading.false))
+    went r _ c.args.rest.now head.after.now _ (ap (λ n. come_of n r.built) c.requires.next) c.requires.none (omega (arith, less)) (omega (arith, c.requires.within))
     c.next_attr-reading.ensures.fresh c.requires.none refl refl refl
     (var_head p.version p.dims.items) (after_head p r.built.lists.vars) x
     (starts_head r c.requires.next) (subst (λ (dims : List Dim). Passes (var_head p.version dims) x c.args.rest.now head.after.now) c.deref.ensures.value found)
     (c.next_attr-reading.ensures.left ∙ ap (λ (items : List Attr). rest c.in_ok-name.name head.ids.items items) c.new.ensures.items ∙ ap (λ (text : List ℕ). rest text head.ids.items []) c.in_ok-name.ensures.same)
     (c.next_attr-reading.ensures.begins ∙ sym (ap (λ n. begins_of n r.built.lists.vars) c.requires.next))
+
+pub returns-in_err-name-clause-needs : goal.returns-in_err-name-clause-needs
+returns-in_err-name-clause-needs c =
+    let p = c.args.reading.now.built.lists.parts in
+    let head = c.in-Some.head in
+    let found = rw c.in-Some.is at c.in_ok-head.ensures.passes in
+    let x : List ℕ × List ℕ × ℕ = (head.text.now, head.ids.items, head.attrs) in
+    if_err c.from_residual-in_err-name.result _ (needed c.args.reading.now (nexts.NameLength named.Var) c.args.rest.now c.requires.next
+    (inl (x, head.after.now, subst (λ (dims : List Dim). Passes (var_head p.version dims) x c.args.rest.now head.after.now) c.deref.ensures.value found)))
+
+pub returns-in_err-head-clause-needs : goal.returns-in_err-head-clause-needs
+returns-in_err-head-clause-needs c =
+    let p = c.args.reading.now.built.lists.parts in
+    if_err c.from_residual.result _ (needed c.args.reading.now (nexts.NameLength named.Var) c.args.rest.now c.requires.next
+    (inr (subst (λ (dims : List Dim). HasFrontOfVar p.version dims c.args.rest.now) c.deref.ensures.value c.in_err-head.ensures.needs)))

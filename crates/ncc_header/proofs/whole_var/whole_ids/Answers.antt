@@ -1,10 +1,10 @@
-use Rattle.std.proofs.Common.{◌≡◌, ◌-◌, ◌+◌, ◌++◌, ◌∷◌, ℕ, List, [], length, subst, ap, ◌∙◌, arith}
+use Rattle.std.proofs.Common.{◌≡◌, ◌-◌, ◌+◌, ◌++◌, ◌∷◌, ℕ, List, [], length, inl, inr, refl, subst, ap, ◌∙◌, arith}
 use Rattle.std.proofs.lemmas.List.{length-append}
 use Rattle.ncc_header.specs.Fields.{dimid, dimid_wrong}
 use Rattle.ncc_header.specs.Grammar.{repeat}
 use Rattle.ncc_header.specs.Passing.{Passes}
 use Rattle.std.specs.Prelude.{None}
-use Rattle.ncc_header.proofs.WholeItems.{passes_nothing, passes_dimid, passes_dimids}
+use Rattle.ncc_header.proofs.WholeItems.{passes_nothing, passes_dimid, passes_dimids, first_id, if_err}
 use Rattle.ncc_header.proofs.whole_var.whole_ids.Goals as goal
 
 pub loop-i-init : goal.loop-i-init
@@ -18,6 +18,7 @@ loop-i-init c =
       goes = λ final after p.
           subst (λ (k : ℕ). Passes (repeat (dimid v dims) [] k) final start after) all
           (subst (λ (ids : List ℕ). Passes (repeat (dimid v dims) ids (rank - 0)) final start after) c.new-ids.ensures.items p);
+      first = inl (refl, c.new-ids.ensures.items, refl);
       less = omega arith;
     }
 
@@ -37,6 +38,7 @@ loop-i-preserved c =
           c.loop-i.invariant.goes final after
           (passes_dimid v dims ids final n rank c.loop-i.i c.loop-i.rest.now found.0 mid after c.loop-i-test.true found.1 found.2 right
           (subst (λ (xs : List ℕ). Passes (repeat (dimid v dims) xs (rank - (c.loop-i.i + 1))) final mid after) more p));
+      first = inr (first_id v dims ids c.in-Some.start.now c.loop-i.rest.now found.0 mid n c.loop-i.i c.loop-i.invariant.first found.1 found.2 right);
       less = omega (arith, c.loop-i.invariant.less, ap length found.1.0, length-append found.0 mid);
     }
 
@@ -53,3 +55,14 @@ returns-clause-passes c =
 
 pub returns-clause-less : goal.returns-clause-less
 returns-clause-less c = omega (arith, c.in-Some.ensures.less, c.loop-i.invariant.less)
+
+pub returns-in_err-push_item-clause-needs : goal.returns-in_err-push_item-clause-needs
+returns-in_err-push_item-clause-needs c =
+    let v = c.args.version in
+    let dims = c.args.dims.now in
+    let rank = c.in-Some.rank in
+    let n = c.in-Some-counted.n in
+    let found = c.in-Some-counted.ensures in
+    let right = subst (λ (before : List ℕ). dimid_wrong dims before n ≡ None) c.deref.ensures.value c.in-Ok.ensures.judged in
+    let first = first_id v dims c.loop-i.ids.items c.in-Some.start.now c.loop-i.rest.now found.0 c.in-Some-counted.after.now n c.loop-i.i c.loop-i.invariant.first found.1 found.2 right in
+    if_err c.from_residual.result _ (rank, first.0, c.in-Some.start.now, first.1, omega (arith, c.loop-i-test.true), c.in-Some.ensures.passes, first.2)

@@ -1,4 +1,4 @@
-use Rattle.std.proofs.Common.{◌-◌, ◌≤◌, ℕ, List, [], length}
+use Rattle.std.proofs.Common.{◌≡◌, ◌⊎◌, ◌-◌, ◌≤◌, ℕ, List, [], length}
 use Rattle.ncc_header.specs.Fields.{dimid}
 use Rattle.ncc_header.specs.Grammar.{repeat}
 use Rattle.ncc_header.specs.Passing.{Passes}
@@ -8,5 +8,6 @@ abbrev pub invariant-loop-i : goal.invariant-loop-i
 invariant-loop-i l = record {
   goes : (final after : List ℕ) → Passes (repeat (dimid l.version l.dims) l.ids.items (l.rank - l.i)) final l.rest after
       → Passes (repeat (dimid l.version l.dims) [] l.rank) final l.initial.rest after;
+  first : (l.i ≡ 0) × (l.ids.items ≡ []) × (l.rest ≡ l.initial.rest) ⊎ ((id : ℕ) × (mid : List ℕ) × Passes (dimid l.version l.dims []) id l.initial.rest mid);
   less : length l.rest ≤ length l.initial.rest;
 }

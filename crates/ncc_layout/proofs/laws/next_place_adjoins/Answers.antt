@@ -1,4 +1,4 @@
-use Rattle.std.proofs.Common.{◌+◌, ap, subst, ◌∙◌, ℕ, Bool, sym, arith, ◌≡◌}
+use Rattle.std.proofs.Common.{◌+◌, subst, Bool, sym, arith, ◌≡◌}
 use Rattle.ncc_values.specs.XType.{size_of}
 use Rattle.ncc_layout.specs.Elements.{offset_in, next_index}
 use Rattle.ncc_layout.proofs.NextPlaces.{next_offset, next_record}

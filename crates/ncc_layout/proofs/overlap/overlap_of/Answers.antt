@@ -16,7 +16,7 @@ numbered_of_kind false es h = distinct_filter (λ (d e : Extent). d.variable == 
 
 pub first_shared-requires : goal.first_shared-requires
 first_shared-requires c =
-    let is = sym (c.deref_mut.ensures.value ∙ c.in_ok-kept.ensures) in
+    let is = sym (c.deref_mut.ensures.value ∙ c.in_ok-kept.ensures.kept) in
     record {
       bytes = subst (AllByRecursion HasBytes) is (bytes_of_kind c.args.is_record c.args.extents.now c.requires.bytes);
       numbered = subst AreNumbered is (numbered_of_kind c.args.is_record c.args.extents.now c.requires.numbered);

@@ -1,4 +1,4 @@
-use Rattle.std.proofs.Common.{◌≡◌, ◌<◌, ◌^◌, drop, map}
+use Rattle.std.proofs.Common.{◌<◌, ◌^◌, drop, map}
 use Rattle.std.specs.Prelude.{◌↔◌}
 use Rattle.ncc_layout.specs.Extents.{records_of}
 use Rattle.ncc_layout.specs.Standard.{PackedFrom}

@@ -9,11 +9,11 @@ pub returns-in_err-found-clause-plan : goal.returns-in_err-found-clause-plan
 returns-in_err-found-clause-plan c =
     let s = c.args.schema.now in
     let records = known s.count in
-    size_fails (λ places. IsPlan s records places.items) s records c.in_err-found.field-0.0 c.from_residual.result c.from_residual.ensures.1 c.in_err-found.ensures
+    size_fails (λ places. IsPlan s records places.items) s records c.in_err-found.field-0.0 c.from_residual.result c.from_residual.ensures.1 c.in_err-found.ensures.sizes
 
 pub returns-clause-legal : goal.returns-clause-legal
 returns-clause-legal c =
     let s = c.args.schema.now in
     let fits = c.fits_version.ensures.0 c.if-not-fits_version.false in
     let begins : AllByRecursion (λ p. p.begin < offset_limit s.version) (places_of c.in_ok-places.places.items) = rw c.deref.ensures.value at (c.offsets_fit.ensures.0 c.if-not-offsets_fit.false) in
-    standard_legal s c.known-records.result c.in_ok-places.places.items c.requires.sound fits c.in_ok-places.ensures begins
+    standard_legal s c.known-records.result c.in_ok-places.places.items c.requires.sound fits c.in_ok-places.ensures.standard begins

@@ -12,7 +12,7 @@ returns-in-Err-clause-published g c = λ is none store target.
     absurd (none against.0 against.1)
 
 pub returns-in_default-clause-unprinted : goal.returns-in_default-clause-unprinted
-returns-in_default-clause-unprinted g c = λ tells is none store target. absurd (⊎_elim store target (c.convert_into-answer.ensures.device is))
+returns-in_default-clause-unprinted g c = λ tells is none store target. absurd (⊎_elim store target (c.convert_into-answer.ensures.store.counted.device is))
 
 pub returns-in_default-clause-published : goal.returns-in_default-clause-published
-returns-in_default-clause-published g c = λ is none store target. absurd (⊎_elim store target (c.convert_into-answer.ensures.device is))
+returns-in_default-clause-published g c = λ is none store target. absurd (⊎_elim store target (c.convert_into-answer.ensures.store.counted.device is))

@@ -24,7 +24,7 @@ returns-in-Ok-clause-made g c = λ told tells is.
     let p = placed_of c.in-Ok.opened in
     let made = g.T.Target.named c.convert_file-answer.new.target in
     converted_is c.open_file_holds_a_dataset.ensures g.S.Store.tells_bytes (g.S.Store.bytes c.args.store) _ c.args.limit c.args.version s p
-    made (g.met.S.Store.are_bytes c.args.store) c.in-Ok.ensures.unmoved.same (c.in-Ok.ensures.passes told) (c.convert_file-answer.ensures.made tells is)
+    made (g.met.S.Store.are_bytes c.args.store) c.in-Ok.ensures.store.unmoved.same (c.in-Ok.ensures.passes told) (c.convert_file-answer.ensures.made tells is)
 
 pub returns-in-Ok-clause-any_moment : goal.returns-in-Ok-clause-any_moment
 returns-in-Ok-clause-any_moment g c = λ told tells none.
@@ -37,7 +37,7 @@ returns-in-Ok-clause-any_moment g c = λ told tells none.
     (g.T.Target.entries c.convert_file-answer.new.target) (g.met.T.Target.only_now c.args.target.now)
     (c.convert_file-answer.ensures.names tells)
     (λ made whole. converted_is c.open_file_holds_a_dataset.ensures g.S.Store.tells_bytes (g.S.Store.bytes c.args.store) _ c.args.limit
-    c.args.version s p made (g.met.S.Store.are_bytes c.args.store) c.in-Ok.ensures.unmoved.same (c.in-Ok.ensures.passes told) whole)
+    c.args.version s p made (g.met.S.Store.are_bytes c.args.store) c.in-Ok.ensures.store.unmoved.same (c.in-Ok.ensures.passes told) whole)
     none
 
 pub returns-in-Ok-clause-whatever_was_pending : goal.returns-in-Ok-clause-whatever_was_pending
@@ -51,7 +51,7 @@ returns-in-Ok-clause-whatever_was_pending g c = λ told tells.
     (g.T.Target.entries c.convert_file-answer.new.target) (g.met.T.Target.only_now c.args.target.now)
     (c.convert_file-answer.ensures.names tells)
     (λ made whole. converted_is c.open_file_holds_a_dataset.ensures g.S.Store.tells_bytes (g.S.Store.bytes c.args.store) _ c.args.limit
-    c.args.version s p made (g.met.S.Store.are_bytes c.args.store) c.in-Ok.ensures.unmoved.same (c.in-Ok.ensures.passes told) whole)
+    c.args.version s p made (g.met.S.Store.are_bytes c.args.store) c.in-Ok.ensures.store.unmoved.same (c.in-Ok.ensures.passes told) whole)
 
 pub returns-in-Ok-clause-unnamed : goal.returns-in-Ok-clause-unnamed
 returns-in-Ok-clause-unnamed g c = λ told tells failed.
@@ -61,7 +61,7 @@ returns-in-Ok-clause-unnamed g c = λ told tells failed.
     → IsFileOf g.S.Store.tells_bytes (g.S.Store.bytes (store_of c.in-Ok.opened)) p (in_version c.args.version s p) made
     → IsConverted g.S.Store.tells_bytes (g.S.Store.bytes c.args.store) c.args.limit c.args.version made =
     λ made whole. converted_is c.open_file_holds_a_dataset.ensures g.S.Store.tells_bytes (g.S.Store.bytes c.args.store) _ c.args.limit
-    c.args.version s p made (g.met.S.Store.are_bytes c.args.store) c.in-Ok.ensures.unmoved.same (c.in-Ok.ensures.passes told) whole in
+    c.args.version s p made (g.met.S.Store.are_bytes c.args.store) c.in-Ok.ensures.store.unmoved.same (c.in-Ok.ensures.passes told) whole in
     ⊎_elim
     (λ unnamed. inl (unnamed_as _ _ _ _ (g.T.Target.entries c.convert_file-answer.new.target) converted unnamed))
     (λ untold. inr (untold.0, converted _ untold.1))
@@ -137,8 +137,8 @@ returns-in-Ok-clause-calls g c = λ told.
       c.in-Ok.ensures.passes told,
       omega (
         arith,
-        c.in-Ok.ensures.calls told,
-        c.convert_file-answer.ensures.calls,
+        c.in-Ok.ensures.store.calls told,
+        c.convert_file-answer.ensures.store.calls refl,
         ap g.S.Store.calls c.into_store.ensures,
       ),
     )
@@ -151,42 +151,42 @@ returns-in-Ok-clause-calls_refused g c = λ told text line.
     let same = (c.convert_file-answer.ensures.unmade because.0 because.1).1 in
     omega (
       arith,
-      c.in-Ok.ensures.calls told,
+      c.in-Ok.ensures.store.calls told,
       ap (λ f. g.S.Store.calls (store_of f)) same,
       ap g.S.Store.calls c.into_store.ensures,
     )
 
 pub returns-in-Err-clause-calls : goal.returns-in-Err-clause-calls
-returns-in-Err-clause-calls g c = λ told. inl (c.in-Err.ensures.calls told)
+returns-in-Err-clause-calls g c = λ told. inl (c.in-Err.ensures.store.calls told)
 
 pub returns-in-Ok-clause-unprinted : goal.returns-in-Ok-clause-unprinted
 returns-in-Ok-clause-unprinted g c = λ told tells is unrefused store target.
     let s = schema_of c.in-Ok.opened in
     let p = placed_of c.in-Ok.opened in
     converted_is c.open_file_holds_a_dataset.ensures g.S.Store.tells_bytes (g.S.Store.bytes c.args.store) _ c.args.limit c.args.version s p
-    (g.T.Target.named c.convert_file-answer.new.target) (g.met.S.Store.are_bytes c.args.store) c.in-Ok.ensures.unmoved.same (c.in-Ok.ensures.passes told)
+    (g.T.Target.named c.convert_file-answer.new.target) (g.met.S.Store.are_bytes c.args.store) c.in-Ok.ensures.store.unmoved.same (c.in-Ok.ensures.passes told)
     (c.convert_file-answer.ensures.unprinted tells is
     (λ f against. unrefused (plan_line f) (inr (s, p, f, c.in-Ok.ensures.passes told, against, refl)))
-    (λ rose. store (rw (sym c.into_store.ensures, c.in-Ok.ensures.count) at rose))
+    (λ rose. store (rw (sym c.into_store.ensures, c.in-Ok.ensures.store.counted) at rose))
     target)
 
 pub returns-in-Ok-clause-published : goal.returns-in-Ok-clause-published
 returns-in-Ok-clause-published g c = λ told is unrefused store target.
     c.convert_file-answer.ensures.published is
     (λ f against. unrefused (plan_line f) (inr (schema_of c.in-Ok.opened, placed_of c.in-Ok.opened, f, c.in-Ok.ensures.passes told, against, refl)))
-    (λ rose. store (rw (sym c.into_store.ensures, c.in-Ok.ensures.count) at rose))
+    (λ rose. store (rw (sym c.into_store.ensures, c.in-Ok.ensures.store.counted) at rose))
     target
 
 pub returns-in-Err-clause-unprinted : goal.returns-in-Err-clause-unprinted
 returns-in-Err-clause-unprinted g c = λ told tells is unrefused store target.
     refusal_is c.in-Err.refusal _
     (λ f e. absurd (unrefused (file_fault_line f) (inl (f, subst (λ (r : Refusal). Refuses (g.S.Store.bytes c.args.store) c.args.limit r) e (c.in-Err.ensures.refused told), refl))))
-    (λ e. absurd (store (rw e at c.in-Err.ensures.count)))
+    (λ e. absurd (store (rw e at c.in-Err.ensures.store.counted)))
     (λ e. absurd (cc (sym is ∙ (c.refused-answer.ensures.memory e).0)))
 
 pub returns-in-Err-clause-published : goal.returns-in-Err-clause-published
 returns-in-Err-clause-published g c = λ told is unrefused store target.
     refusal_is c.in-Err.refusal _
     (λ f e. absurd (unrefused (file_fault_line f) (inl (f, subst (λ (r : Refusal). Refuses (g.S.Store.bytes c.args.store) c.args.limit r) e (c.in-Err.ensures.refused told), refl))))
-    (λ e. absurd (store (rw e at c.in-Err.ensures.count)))
+    (λ e. absurd (store (rw e at c.in-Err.ensures.store.counted)))
     (λ e. absurd (cc (sym is ∙ (c.refused-answer.ensures.memory e).0)))

@@ -1,8 +1,10 @@
-use Rattle.std.proofs.Common.{◌≡◌, ◌+◌, ◌-◌, ℕ, take, refl, ap, subst, ◌∙◌, arith}
+use Rattle.std.proofs.Common.{false, ◌≡◌, ◌+◌, ◌-◌, ℕ, take, refl, ap, subst, ◌∙◌, arith}
+use Rattle.std.proofs.lemmas.Result.{err_from_is_err_and}
 use Rattle.ncc_values.specs.XType.{size_of}
 use Rattle.ncc_values.specs.Values.{type_of}
 use Rattle.ncc_layout.specs.Placed.{file_length_of}
 use Rattle.ncc_check.specs.Files.{store_of}
+use Rattle.ncc_check.proofs.ReadFiles.{files_join, files_bounded, files_loose}
 use Rattle.ncc_slab.specs.Axes.{place_at}
 use Rattle.ncc_slab.specs.Answers.{part_count}
 use Rattle.ncc_slab.specs.Grids.{grid_place, grid_rest}
@@ -43,23 +45,17 @@ loop-taken-preserved g c =
       told = λ told.
           let same : size_of (type_of c.loop-taken.values) ≡ size = ap size_of at.typed in
           let added : AddsPlaces bytes (size_of (type_of c.loop-taken.values)) rest c.loop-taken.values c.add_part.new.values =
-          subst (λ (b : _). AddsPlaces b (size_of (type_of c.loop-taken.values)) rest c.loop-taken.values c.add_part.new.values) at.unmoved.same (part.told told) in
+          subst (λ (b : _). AddsPlaces b (size_of (type_of c.loop-taken.values)) rest c.loop-taken.values c.add_part.new.values) at.file.reads.unmoved.same (part.told told) in
           next_part bytes size (place_at grid.base grid.axes.items) grid.count c.loop-taken.taken n c.args.values.now c.loop-taken.values c.add_part.new.values refl
           (at.told told) (subst (λ (k : ℕ). AddsPlaces bytes k rest c.loop-taken.values c.add_part.new.values) same added);
       counted = omega (arith, part.counted, at.counted);
-      schema = part.schema ∙ at.schema;
-      placed = part.placed ∙ at.placed;
-      reopen = part.reopen ∙ at.reopen;
-      unmoved = c.unmoved_calls_join.ensures (store_of c.args.file.now) (store_of c.loop-taken.file) (store_of c.add_part.new.file) at.unmoved part.unmoved;
-      kept = λ image was. part.kept image (at.kept image was);
-      count = part.count ∙ at.count;
-      reach = omega (arith, part.reach, at.reach, ap file_length_of at.placed);
+      file = files_join c.args.file.now c.loop-taken.file c.add_part.new.file _ false 0 0 0 _ _ at.file (files_loose c.loop-taken.file c.add_part.new.file _ _ _ part.file) (omega arith) (omega (arith, ap file_length_of at.file.placed));
       read =
           let same : size_of (type_of c.loop-taken.values) ≡ size = ap size_of at.typed in
           part_read (type_of c.args.values.now) (grid_place grid) grid.count c.loop-taken.taken n
           (g.S.Store.calls (store_of c.args.file.now)) (g.S.Store.calls (store_of c.loop-taken.file)) (g.S.Store.calls (store_of c.add_part.new.file))
           (omega (arith, c.loop-taken-test.true, c.count.ensures)) (part.took ∙ ap (λ (m : ℕ). part_count m (grid_rest grid c.loop-taken.taken)) same) at.read
-          (omega (arith, part.calls, ap (λ (m : ℕ). part_stretches m (grid_rest grid c.loop-taken.taken)) same));
+          (omega (arith, part.file.reads.calls refl, ap (λ (m : ℕ). part_stretches m (grid_rest grid c.loop-taken.taken)) same));
     }
 
 pub returns-clause-told : goal.returns-clause-told
@@ -68,13 +64,14 @@ returns-clause-told g c = λ told.
     all_taken (g.S.Store.bytes (store_of c.args.file.now)) (size_of (type_of c.args.values.now)) (place_at grid.base grid.axes.items) grid.count c.loop-taken.taken c.args.values.now c.loop-taken.values
     (omega (arith, c.loop-taken.invariant.within, c.loop-taken-test.false, c.count.ensures)) (c.loop-taken.invariant.told told)
 
-pub returns-clause-calls : goal.returns-clause-calls
-returns-clause-calls g c =
+pub returns-clause-file : goal.returns-clause-file
+returns-clause-file g c =
     let grid = c.args.grid.now in
-    all_read (type_of c.args.values.now) (grid_place grid) grid.count c.loop-taken.taken _ _ c.loop-taken.invariant.read
+    let at = c.loop-taken.invariant in
+    files_bounded c.args.file.now c.loop-taken.file _ false 0 _ _ at.file (all_read (type_of c.args.values.now) (grid_place grid) grid.count c.loop-taken.taken _ _ at.read)
 
-pub returns-in_err-taken-clause-calls : goal.returns-in_err-taken-clause-calls
-returns-in_err-taken-clause-calls g c =
+pub returns-in_err-taken-clause-file : goal.returns-in_err-taken-clause-file
+returns-in_err-taken-clause-file g c =
     let at = c.loop-taken.invariant in
     let part = c.in_err-taken.ensures in
     let grid = c.args.grid.now in
@@ -83,5 +80,8 @@ returns-in_err-taken-clause-calls g c =
     let same : size_of (type_of c.loop-taken.values) ≡ size = ap size_of at.typed in
     let read = part_read (type_of c.args.values.now) (grid_place grid) grid.count c.loop-taken.taken (part_count size rest)
     (g.S.Store.calls (store_of c.args.file.now)) (g.S.Store.calls (store_of c.loop-taken.file)) (g.S.Store.calls (store_of c.add_part.new.file))
-    (omega (arith, c.loop-taken-test.true, c.count.ensures)) refl at.read (omega (arith, part.calls, ap (λ (m : ℕ). part_stretches m rest) same)) in
-    all_read (type_of c.args.values.now) (grid_place grid) grid.count (c.loop-taken.taken + part_count size rest) _ _ read
+    (omega (arith, c.loop-taken-test.true, c.count.ensures)) refl at.read (omega (arith, part.file.reads.calls refl, ap (λ (m : ℕ). part_stretches m rest) same)) in
+    let p = err_from_is_err_and c.from_residual.result c.from_residual.ensures.1 in
+    rw (p.1, p.2) (files_bounded c.args.file.now c.add_part.new.file _ false 0 _ _
+    (files_join c.args.file.now c.loop-taken.file c.add_part.new.file _ false 0 0 0 _ _ at.file (files_loose c.loop-taken.file c.add_part.new.file _ _ _ part.file) (omega arith) (omega (arith, ap file_length_of at.file.placed)))
+    (all_read (type_of c.args.values.now) (grid_place grid) grid.count (c.loop-taken.taken + part_count size rest) _ _ read))

@@ -1,9 +1,11 @@
-use Rattle.std.proofs.Common.{◌≡◌, ℕ, ◌-◌, ◌*◌, ◌/◌, ◌≤◌, min, length, take, refl, sym, ap, subst, ◌∙◌, arith}
+use Rattle.std.proofs.Common.{true, ◌≡◌, ℕ, ◌-◌, ◌*◌, ◌/◌, ◌≤◌, min, length, take, refl, sym, ap, subst, ◌∙◌, arith}
 use Rattle.std.proofs.lemmas.List.FromFn.{length-map-range_with_len}
+use Rattle.std.proofs.lemmas.Result.{err_from_is_err_and}
 use Rattle.ncc_values.specs.XType.{size_of}
 use Rattle.ncc_values.specs.Values.{type_of, count_of, with_bytes}
 use Rattle.ncc_values.proofs.ValuesLemmas.{count_of-with_bytes}
 use Rattle.ncc_check.specs.Files.{store_of}
+use Rattle.ncc_check.proofs.ReadFiles.{files_bounded}
 use Rattle.ncc_slab.specs.Axes.{place_at}
 use Rattle.ncc_slab.specs.Grids.{grid_rest}
 use Rattle.ncc_slab.specs.Selected.{bytes_at_places}
@@ -45,26 +47,28 @@ returns-clause-told g c = λ told.
       whole = sym (ap length out) ∙ long ∙ sym (ap (λ (m : ℕ). m * size_of (type_of c.args.values.now)) counted);
     }
 
-pub returns-in_err-fetch_elements-clause-calls : goal.returns-in_err-fetch_elements-clause-calls
-returns-in_err-fetch_elements-clause-calls g c =
+pub returns-in_err-fetch_elements-clause-file : goal.returns-in_err-fetch_elements-clause-file
+returns-in_err-fetch_elements-clause-file g c =
     let grid = c.args.grid.now in
     let size : c.size-size.result ≡ size_of (type_of c.args.values.now) = c.size-size.ensures ∙ ap size_of c.xtype.ensures in
     let counted = first_part (place_at grid.base grid.axes.items) c.args.first (grid.count - c.args.first) c.min-count.result c.size-size.result (size_of (type_of c.args.values.now))
     (c.min-count.ensures ∙ ap (λ (m : ℕ). min (m - c.args.first) (65536 / c.size-size.result)) c.count.ensures) size in
-    omega (arith, c.in_err-fetch_elements.ensures.calls, counted)
+    let p = err_from_is_err_and c.from_residual.result c.from_residual.ensures.1 in
+    rw (p.1, p.2) (files_bounded c.args.file.now c.fetch_elements.new.file _ true _ _ _ c.in_err-fetch_elements.ensures.file (omega (arith, c.in_err-fetch_elements.ensures.file.reads.calls refl, counted)))
 
-pub returns-in_err-push_from-clause-calls : goal.returns-in_err-push_from-clause-calls
-returns-in_err-push_from-clause-calls g c =
+pub returns-in_err-push_from-clause-file : goal.returns-in_err-push_from-clause-file
+returns-in_err-push_from-clause-file g c =
     let grid = c.args.grid.now in
     let size : c.size-size.result ≡ size_of (type_of c.args.values.now) = c.size-size.ensures ∙ ap size_of c.xtype.ensures in
     let counted = first_part (place_at grid.base grid.axes.items) c.args.first (grid.count - c.args.first) c.min-count.result c.size-size.result (size_of (type_of c.args.values.now))
     (c.min-count.ensures ∙ ap (λ (m : ℕ). min (m - c.args.first) (65536 / c.size-size.result)) c.count.ensures) size in
-    omega (arith, c.in_ok-fetch_elements.ensures.calls, counted)
+    let p = err_from_is_err_and c.from_residual-in_err-push_from.result c.from_residual-in_err-push_from.ensures.1 in
+    rw (p.1, p.2) (files_bounded c.args.file.now c.fetch_elements.new.file _ true _ _ _ c.in_ok-fetch_elements.ensures.file (omega (arith, c.in_ok-fetch_elements.ensures.file.reads.calls refl, counted)))
 
-pub returns-clause-calls : goal.returns-clause-calls
-returns-clause-calls g c =
+pub returns-clause-file : goal.returns-clause-file
+returns-clause-file g c =
     let grid = c.args.grid.now in
     let size : c.size-size.result ≡ size_of (type_of c.args.values.now) = c.size-size.ensures ∙ ap size_of c.xtype.ensures in
     let counted = first_part (place_at grid.base grid.axes.items) c.args.first (grid.count - c.args.first) c.min-count.result c.size-size.result (size_of (type_of c.args.values.now))
     (c.min-count.ensures ∙ ap (λ (m : ℕ). min (m - c.args.first) (65536 / c.size-size.result)) c.count.ensures) size in
-    omega (arith, c.in_ok-fetch_elements.ensures.calls, counted)
+    files_bounded c.args.file.now c.fetch_elements.new.file _ true _ _ _ c.in_ok-fetch_elements.ensures.file (omega (arith, c.in_ok-fetch_elements.ensures.file.reads.calls refl, counted))

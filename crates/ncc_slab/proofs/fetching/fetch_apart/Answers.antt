@@ -1,10 +1,11 @@
-use Rattle.std.proofs.Common.{◌≡◌, ◌+◌, ◌-◌, ◌*◌, ◌≤◌, ◌++◌, ℕ, List, length, take, drop, sym, ap, ◌∙◌, arith}
+use Rattle.std.proofs.Common.{true, ◌≡◌, ◌+◌, ◌-◌, ◌*◌, ◌≤◌, ◌++◌, ℕ, List, length, take, drop, sym, ap, ◌∙◌, arith}
 use Rattle.std.proofs.lemmas.List.{take_all}
 use Rattle.std.proofs.lemmas.Slice.{take-put_mid}
 use Rattle.std.proofs.lemmas.Nat.{mul-le}
 use Rattle.std.proofs.lemmas.List.FromFn.{length-map-range_with_len}
 use Rattle.std.proofs.Math.Nat.{add-mul}
 use Rattle.ncc_check.specs.Files.{store_of}
+use Rattle.ncc_check.proofs.ReadFiles.{files_join}
 use Rattle.ncc_slab.specs.Apart.{places_apart}
 use Rattle.ncc_slab.specs.Selected.{bytes_at_places}
 use Rattle.ncc_slab.proofs.Apart.{next_apart}
@@ -30,19 +31,12 @@ loop-done-preserved g c =
           let piece : c.fetch.new.out ≡ take (1 * size) (drop (c.args.place + done * c.args.step) bytes) =
           fetched.told told
           ∙ ap (λ (k : ℕ). take k (drop (c.args.place + done * c.args.step) (g.S.Store.bytes (store_of c.loop-done.file)))) room
-          ∙ ap (λ (b : List ℕ). take (1 * size) (drop (c.args.place + done * c.args.step) b)) at.unmoved.same in
+          ∙ ap (λ (b : List ℕ). take (1 * size) (drop (c.args.place + done * c.args.step) b)) at.file.reads.unmoved.same in
           take-put_mid (done * size) ((done + 1) * size - done * size) c.loop-done.out c.fetch.new.out ((done + 1) * size) end begin
           ∙ ap (λ (l : List ℕ). l ++ c.fetch.new.out) (at.told told)
           ∙ ap (λ (l : List ℕ). bytes_at_places bytes size (take done (places_apart c.args.place c.args.step c.args.count)) ++ l) piece
           ∙ next_apart bytes size c.args.place c.args.step c.args.count done c.loop-done-test.true;
-      schema = fetched.schema ∙ at.schema;
-      placed = fetched.placed ∙ at.placed;
-      reopen = fetched.reopen ∙ at.reopen;
-      unmoved = c.unmoved_calls_join.ensures (store_of c.args.file.now) (store_of c.loop-done.file) (store_of c.fetch.new.self) at.unmoved fetched.unmoved;
-      kept = λ image was. fetched.kept image (at.kept image was);
-      count = fetched.count ∙ at.count;
-      reach = omega (arith, fetched.reach, at.reach, last, room);
-      calls = omega (arith, fetched.calls, at.calls);
+      file = files_join c.args.file.now c.loop-done.file c.fetch.new.self _ true done 1 (done + 1) _ _ at.file fetched.file (omega arith) (omega (arith, last, room));
     }
 
 pub returns-clause-told : goal.returns-clause-told

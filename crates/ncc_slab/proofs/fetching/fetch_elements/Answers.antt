@@ -1,10 +1,12 @@
-use Rattle.std.proofs.Common.{◌≡◌, ◌+◌, ◌-◌, ◌*◌, ◌≤◌, ◌++◌, ℕ, inl, inr, List, map, length, take, drop, ap, subst, ◌∙◌, arith}
+use Rattle.std.proofs.Common.{true, refl, ◌≡◌, ◌+◌, ◌-◌, ◌*◌, ◌≤◌, ◌++◌, ℕ, inl, inr, List, map, length, take, drop, ap, subst, ◌∙◌, arith}
 use Rattle.std.specs.List.{range_with_len}
+use Rattle.std.proofs.lemmas.Result.{err_from_is_err_and}
 use Rattle.std.proofs.lemmas.Slice.{take-put_mid}
 use Rattle.std.proofs.lemmas.Nat.{mul-le}
 use Rattle.std.proofs.Math.Nat.{add-mul}
 use Rattle.ncc_layout.specs.Placed.{file_length_of}
 use Rattle.ncc_check.specs.Files.{store_of}
+use Rattle.ncc_check.proofs.ReadFiles.{files_join, files_bounded}
 use Rattle.ncc_slab.specs.Grids.{grid_place, grid_rest, IsRun}
 use Rattle.ncc_slab.specs.Axes.{place_at}
 use Rattle.ncc_slab.specs.Selected.{bytes_at_places}
@@ -25,7 +27,7 @@ fetch-requires g c =
     let end = stretch_end (grid_place c.args.grid.now) next more c.loop-done.run.place c.args.size _ c.stretch-more.ensures.some c.stretch-more.ensures.adjoin
     (c.requires.ends (next + (more - 1)) (omega arith)) in
     let room = room_there c.loop-done.done more c.args.count c.args.size c.loop-done.out (omega arith) (c.loop-done.auto.out ∙ c.requires.room) in
-    let placed = ap file_length_of at.placed in
+    let placed = ap file_length_of at.file.placed in
     omega (arith, end, room, placed)
 
 pub loop-done-preserved : goal.loop-done-preserved
@@ -48,25 +50,17 @@ loop-done-preserved g c =
           let piece : c.fetch.new.out ≡ take (more * size) (drop c.loop-done.run.place bytes) =
           fetched.told told
           ∙ ap (λ (k : ℕ). take k (drop c.loop-done.run.place (g.S.Store.bytes (store_of c.loop-done.file)))) room
-          ∙ ap (λ (b : List ℕ). take (more * size) (drop c.loop-done.run.place b)) at.unmoved.same in
+          ∙ ap (λ (b : List ℕ). take (more * size) (drop c.loop-done.run.place b)) at.file.reads.unmoved.same in
           take-put_mid (done * size) ((done + more) * size - done * size) c.loop-done.out c.fetch.new.out ((done + more) * size) end begin
           ∙ ap (λ (l : List ℕ). l ++ c.fetch.new.out) (at.told told)
           ∙ ap (λ (l : List ℕ). bytes_at_places bytes size (take done (grid_rest grid c.args.first)) ++ l) piece
           ∙ bytes_so_far bytes size (place_at grid.base grid.axes.items) c.args.first (grid.count - c.args.first) done more c.loop-done.run.place
           (omega arith) c.stretch-more.ensures.adjoin;
-      schema = fetched.schema ∙ at.schema;
-      placed = fetched.placed ∙ at.placed;
-      reopen = fetched.reopen ∙ at.reopen;
-      unmoved = c.unmoved_calls_join.ensures (store_of c.args.file.now) (store_of c.loop-done.file) (store_of c.fetch.new.self) at.unmoved fetched.unmoved;
-      kept = λ image was. fetched.kept image (at.kept image was);
-      count = fetched.count ∙ at.count;
-      reach =
+      file =
           let end = stretch_end (grid_place grid) (c.args.first + done) more c.loop-done.run.place size _ c.stretch-more.ensures.some c.stretch-more.ensures.adjoin
           (c.requires.ends (c.args.first + done + (more - 1)) (omega arith)) in
-          omega (arith, fetched.reach, at.reach, end, room);
-      calls =
           let grown = one_more size (grid_place grid) c.args.first done more c.stretch-more.ensures.some (at.apart c.loop-done-test.true) in
-          omega (arith, fetched.calls, at.calls, grown);
+          files_join c.args.file.now c.loop-done.file c.fetch.new.self _ true _ 1 _ _ _ at.file fetched.file (omega (arith, grown)) (omega (arith, end, room));
       apart = λ below some is.
           elim c.stretch-more.ensures.longest [
             | inl all ↦ absurd (omega (arith, all, below))
@@ -79,42 +73,36 @@ loop-done-preserved g c =
       left = λ below. omega (arith, c.stretch-more.ensures.within (omega (arith, below)));
     }
 
-pub returns-in_err-fetch-clause-reach : goal.returns-in_err-fetch-clause-reach
-returns-in_err-fetch-clause-reach g c =
-    let at = c.loop-done.invariant in
-    let size = c.args.size in
-    let next = c.args.first + c.loop-done.done in
-    let more = c.stretch-more.result.0 in
-    let room = room_there c.loop-done.done more c.args.count size c.loop-done.out (omega arith) (c.loop-done.auto.out ∙ c.requires.room) in
-    let end = stretch_end (grid_place c.args.grid.now) next more c.loop-done.run.place size _ c.stretch-more.ensures.some c.stretch-more.ensures.adjoin
-    (c.requires.ends (next + (more - 1)) (omega arith)) in
-    omega (arith, c.in_err-fetch.ensures.reach, at.reach, end, room)
-
-pub returns-in_err-fetch-clause-calls : goal.returns-in_err-fetch-clause-calls
-returns-in_err-fetch-clause-calls g c =
+pub returns-in_err-fetch-clause-file : goal.returns-in_err-fetch-clause-file
+returns-in_err-fetch-clause-file g c =
     let at = c.loop-done.invariant in
     let grid = c.args.grid.now in
     let size = c.args.size in
     let first = c.args.first in
     let done = c.loop-done.done in
     let more = c.stretch-more.result.0 in
+    let room = room_there done more c.args.count size c.loop-done.out (omega arith) (c.loop-done.auto.out ∙ c.requires.room) in
+    let end = stretch_end (grid_place grid) (first + done) more c.loop-done.run.place size _ c.stretch-more.ensures.some c.stretch-more.ensures.adjoin
+    (c.requires.ends (first + done + (more - 1)) (omega arith)) in
     let left = c.args.count - done in
     let grown = one_more size (grid_place grid) first done left (omega (arith, c.loop-done-test.true)) (at.apart c.loop-done-test.true) in
     let all : done + left ≡ c.args.count = omega (arith, at.within) in
     let whole = take-map-range (grid_place grid) first (grid.count - first) c.args.count (omega (arith, c.requires.there)) in
-    rw whole (omega (arith, c.in_err-fetch.ensures.calls, at.calls, grown, ap (λ (n : ℕ). stretches size (map (grid_place grid) (range_with_len first n))) all))
+    let p = err_from_is_err_and c.from_residual-in_err-fetch.result c.from_residual-in_err-fetch.ensures.1 in
+    rw (whole, p.1) (files_join c.args.file.now c.loop-done.file c.fetch.new.self _ true _ 1 _ _ _ at.file c.in_err-fetch.ensures.file
+    (omega (arith, grown, ap (λ (n : ℕ). stretches size (map (grid_place grid) (range_with_len first n))) all)) (omega (arith, end, room)))
 
-pub returns-clause-calls : goal.returns-clause-calls
-returns-clause-calls g c =
+pub returns-clause-file : goal.returns-clause-file
+returns-clause-file g c =
     let at = c.loop-done.invariant in
     let grid = c.args.grid.now in
     let first = c.args.first in
     let all : c.loop-done.done ≡ c.args.count = omega (arith, at.within, c.loop-done-test.false) in
     let whole = take-map-range (grid_place grid) first (grid.count - first) c.args.count (omega (arith, c.requires.there)) in
-    rw whole (omega (arith, at.calls, ap (λ (n : ℕ). stretches c.args.size (map (grid_place grid) (range_with_len first n))) all))
+    rw whole (files_bounded c.args.file.now c.loop-done.file _ true _ _ _ at.file (omega (arith, at.file.reads.calls refl, ap (λ (n : ℕ). stretches c.args.size (map (grid_place grid) (range_with_len first n))) all)))
 
-pub returns-in_err-fetch_apart-clause-calls : goal.returns-in_err-fetch_apart-clause-calls
-returns-in_err-fetch_apart-clause-calls g c =
+pub returns-in_err-fetch_apart-clause-file : goal.returns-in_err-fetch_apart-clause-file
+returns-in_err-fetch_apart-clause-file g c =
     let at = c.loop-done.invariant in
     let grid = c.args.grid.now in
     let f = grid_place grid in
@@ -130,7 +118,9 @@ returns-in_err-fetch_apart-clause-calls g c =
     let rest = stretches_grow size f first (done + more) (c.args.count - (done + more)) in
     let all : done + more + (c.args.count - (done + more)) ≡ c.args.count = omega (arith, left, at.within) in
     let whole = take-map-range f first (grid.count - first) c.args.count (omega (arith, c.requires.there)) in
-    rw whole (omega (arith, c.in_err-fetch_apart.ensures.calls, at.calls, grown, rest, ap (λ (n : ℕ). stretches size (map f (range_with_len first n))) all))
+    let p = err_from_is_err_and c.from_residual.result c.from_residual.ensures.1 in
+    rw (whole, p.1) (files_join c.args.file.now c.loop-done.file c.fetch_apart.new.file _ true _ more _ _ _ at.file c.in_err-fetch_apart.ensures.file
+    (omega (arith, grown, rest, ap (λ (n : ℕ). stretches size (map f (range_with_len first n))) all)) (omega (arith, ap file_length_of at.file.placed)))
 
 pub loop-done-preserved-then-run-gt1 : goal.loop-done-preserved-then-run-gt1
 loop-done-preserved-then-run-gt1 g c =
@@ -158,22 +148,15 @@ loop-done-preserved-then-run-gt1 g c =
       told = λ told.
           let piece : c.fetch_apart.new.out ≡ bytes_at_places bytes size (places_apart run.place c.step-step.result more) =
           fetched.told told
-          ∙ ap (λ (b : List ℕ). bytes_at_places b size (places_apart run.place c.step-step.result more)) at.unmoved.same in
+          ∙ ap (λ (b : List ℕ). bytes_at_places b size (places_apart run.place c.step-step.result more)) at.file.reads.unmoved.same in
           take-put_mid (done * size) ((done + more) * size - done * size) c.loop-done.out c.fetch_apart.new.out ((done + more) * size) end begin
           ∙ ap (λ (l : List ℕ). l ++ c.fetch_apart.new.out) (at.told told)
           ∙ ap (λ (l : List ℕ). bytes_at_places bytes size (take done (grid_rest grid first)) ++ l) piece
           ∙ apart_so_far bytes size (place_at grid.base grid.axes.items) first (grid.count - first) done more run.place c.step-step.result
           (omega (arith, within, c.requires.there)) (λ i lt. is.even i (omega (arith, lt)));
-      schema = fetched.schema ∙ at.schema;
-      placed = fetched.placed ∙ at.placed;
-      reopen = fetched.reopen ∙ at.reopen;
-      unmoved = c.unmoved_calls_join.ensures (store_of c.args.file.now) (store_of c.loop-done.file) (store_of c.fetch_apart.new.file) at.unmoved fetched.unmoved;
-      kept = λ image was. fetched.kept image (at.kept image was);
-      count = fetched.count ∙ at.count;
-      reach = omega (arith, fetched.reach, at.reach, ap file_length_of at.placed);
-      calls =
+      file =
           let grown = more_apart size f first done more (λ j lt. none j (omega (arith, lt))) in
-          omega (arith, fetched.calls, at.calls, grown);
+          files_join c.args.file.now c.loop-done.file c.fetch_apart.new.file _ true _ more _ _ _ at.file fetched.file (omega (arith, grown)) (omega (arith, ap file_length_of at.file.placed));
       apart = λ below some. none more (omega (arith, c.if-run-gt1.true)) some;
       run = λ below. record {
         some = omega arith;

@@ -1,9 +1,8 @@
 use Rattle.std.proofs.Common.{◌≡◌, ◌+◌, ◌-◌, ◌*◌, ◌<◌, ◌≤◌, max, map, take}
-use Rattle.std.specs.Prelude.{IsTrue}
+use Rattle.std.specs.Prelude.{IsTrue, true}
 use Rattle.std.specs.List.{range_with_len}
-use Rattle.ncc_store.specs.Store.{Unmoved, KeepsImages}
 use Rattle.ncc_layout.specs.Placed.{file_length_of}
-use Rattle.ncc_check.specs.Files.{store_of, schema_of, placed_of, must_reopen}
+use Rattle.ncc_check.specs.Files.{ReadsFile, store_of, placed_of}
 use Rattle.ncc_slab.specs.Grids.{grid_place, grid_rest, IsRun}
 use Rattle.ncc_slab.specs.Stretches.{stretches}
 use Rattle.ncc_slab.specs.Selected.{bytes_at_places}
@@ -13,17 +12,10 @@ abbrev pub invariant-loop-done : goal.invariant-loop-done
 invariant-loop-done g l = record {
   within : l.done ≤ l.count;
   told : IsTrue g.S.Store.tells_bytes → take (l.done * l.size) l.out ≡ bytes_at_places (g.S.Store.bytes (store_of l.fn.file)) l.size (take l.done (grid_rest l.grid l.first));
-  schema : schema_of l.file ≡ schema_of l.fn.file;
-  placed : placed_of l.file ≡ placed_of l.fn.file;
-  reopen : must_reopen l.file ≡ must_reopen l.fn.file;
-  unmoved : Unmoved g.S.Store.bytes g.S.Store.images g.S.Store.moment g.S.Store.images_since (store_of l.fn.file) (store_of l.file);
-  kept : KeepsImages (g.S.Store.images (store_of l.fn.file)) (g.S.Store.images (store_of l.file));
-  calls : g.S.Store.calls (store_of l.file) ≤ g.S.Store.calls (store_of l.fn.file) + stretches l.size (map (grid_place l.grid) (range_with_len l.first l.done));
+  file : ReadsFile l.fn.file l.file (λ before after. after ≡ before) true (stretches l.size (map (grid_place l.grid) (range_with_len l.first l.done))) (file_length_of (placed_of l.fn.file));
   apart : l.done < l.count → 0 < l.done → grid_place l.grid (l.first + l.done) ≡ grid_place l.grid (l.first + l.done - 1) + l.size → ⊥;
   run : l.done < l.count → IsRun l.step l.grid (l.first + l.done) l.run;
   left : l.done < l.count → l.done + l.run.count ≤ l.count;
-  reach : g.S.Store.reach (store_of l.file) ≤ max (g.S.Store.reach (store_of l.fn.file)) (file_length_of (placed_of l.fn.file));
-  count : g.S.Store.failures (store_of l.file) ≡ g.S.Store.failures (store_of l.fn.file);
 }
 
 abbrev pub decreases-loop-done : goal.decreases-loop-done

@@ -23,6 +23,6 @@ unreachable-requires c =
     let s = schema_of c.args.built.now in
     let n = c.in-Err-TooLarge.field-0-0 in
     let found : FirstTooLarge c.schema-schema.result.now n =
-    subst (λ (e : SizeError). IsSizes c.schema-schema.result.now (Err e)) c.in-Err-TooLarge.field-0-is c.in-Err-TooLarge.ensures in
+    subst (λ (e : SizeError). IsSizes c.schema-schema.result.now (Err e)) c.in-Err-TooLarge.field-0-is c.in-Err-TooLarge.ensures.sizes in
     let first : FirstTooLarge s n = subst (λ (t : Schema). FirstTooLarge t n) c.schema-schema.ensures found in
     not_fit s n first (fits_of s c.built_is_writable.ensures.writable).fit
