@@ -80,7 +80,8 @@ fn send_next<S: Store, W: Sink>(
         (length (parts_left parts.old)) (W.put sink.old) (W.put sink.new) result }
     ensures type_is { parts_type parts.new ≡ parts_type parts.old }
     ensures long { parts_length parts.new ≡ parts_length parts.old }
-    ensures file { ReadsFile file.old file.new (λ a b. BlamesEither a b (W.failures sink.old) (W.failures sink.new) result) true
+    ensures file { ReadsFile file.old file.new
+        (λ a b. BlamesEither a b (W.failures sink.old) (W.failures sink.new) result) true
         (part_stretches (size_of (parts_type parts.old)) (parts_left parts.old))
         (file_length_of (placed_of file.old)) }
 {
@@ -113,7 +114,8 @@ pub fn send_rows<S: Store, W: Sink, P: Progress>(
         → SendsAll (W.put sink.old) (W.put sink.new) (rows_text style (S.bytes (store_of file.old))
         (record_size_of_file (placed_of file.old)) (var_at (vars_of (placed_of file.old)) number)
         (indices_of slab.now)) result }
-    ensures file { ReadsFile file.old file.new (λ a b. BlamesEither a b (W.failures sink.old) (W.failures sink.new) result) true
+    ensures file { ReadsFile file.old file.new
+        (λ a b. BlamesEither a b (W.failures sink.old) (W.failures sink.new) result) true
         (all_stretches (size_of (parts_type parts.old)) (parts_left parts.old))
         (file_length_of (placed_of file.old)) }
 {

@@ -88,7 +88,8 @@ fn send_selected<S: Store, W: Sink, P: Progress>(
         (csv_text style (schema_of file.old).dims (get_or (schema_of file.old).vars var no_var)
         (S.bytes (store_of file.old)) (record_size_of_file (placed_of file.old))
         (var_at (vars_of (placed_of file.old)) var) slab.now) result }
-    ensures file { ReadsFile file.old file.new (λ a b. BlamesEither a b (W.failures sink.old) (W.failures sink.new) result) true
+    ensures file { ReadsFile file.old file.new
+        (λ a b. BlamesEither a b (W.failures sink.old) (W.failures sink.new) result) true
         (all_stretches (size_of (var_at (vars_of (placed_of file.old)) var).xtype) (places_of
         (record_size_of_file (placed_of file.old)) (var_at (vars_of (placed_of file.old)) var) slab.now))
         (file_length_of (placed_of file.old)) }
@@ -121,7 +122,8 @@ fn send_selected_texts<S: Store, W: Sink, P: Progress>(
         (text_sheet (schema_of file.old).dims (get_or (schema_of file.old).vars var no_var)
         (S.bytes (store_of file.old)) (record_size_of_file (placed_of file.old))
         (var_at (vars_of (placed_of file.old)) var) slab.now) result }
-    ensures file { ReadsFile file.old file.new (λ a b. BlamesEither a b (W.failures sink.old) (W.failures sink.new) result) true
+    ensures file { ReadsFile file.old file.new
+        (λ a b. BlamesEither a b (W.failures sink.old) (W.failures sink.new) result) true
         (all_stretches (size_of (var_at (vars_of (placed_of file.old)) var).xtype) (places_of
         (record_size_of_file (placed_of file.old)) (var_at (vars_of (placed_of file.old)) var) slab.now))
         (file_length_of (placed_of file.old)) }
@@ -162,7 +164,8 @@ fn send_printed<S: Store, W: Sink, P: Progress>(
     ensures sent { IsTrue S.tells_bytes → SendsAll (W.put sink.old) (W.put sink.new)
         (sheet_text style texts (S.bytes (store_of file.old)) (schema_of file.old) (placed_of file.old) var slab.now)
         result }
-    ensures file { ReadsFile file.old file.new (λ a b. BlamesEither a b (W.failures sink.old) (W.failures sink.new) result) true
+    ensures file { ReadsFile file.old file.new
+        (λ a b. BlamesEither a b (W.failures sink.old) (W.failures sink.new) result) true
         (all_stretches (size_of (var_at (vars_of (placed_of file.old)) var).xtype) (places_of
         (record_size_of_file (placed_of file.old)) (var_at (vars_of (placed_of file.old)) var) slab.now))
         (file_length_of (placed_of file.old)) }
@@ -191,7 +194,8 @@ pub fn send_sheet<S: Store, W: Sink, P: Progress>(
         (sheet_text style texts (S.bytes (store_of file.old)) (schema_of file.old) (placed_of file.old) var slab.now)
         result }
     ensures answer { IfOk result (λ b. b ≡ is_none (slab_fault (vars_of (placed_of file.old)) var slab.now)) }
-    ensures file { ReadsFile file.old file.new (λ a b. BlamesEither a b (W.failures sink.old) (W.failures sink.new) result) true
+    ensures file { ReadsFile file.old file.new
+        (λ a b. BlamesEither a b (W.failures sink.old) (W.failures sink.new) result) true
         (all_stretches (size_of (var_at (vars_of (placed_of file.old)) var).xtype) (places_of
         (record_size_of_file (placed_of file.old)) (var_at (vars_of (placed_of file.old)) var) slab.now))
         (file_length_of (placed_of file.old)) }

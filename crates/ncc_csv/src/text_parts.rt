@@ -93,7 +93,8 @@ fn send_next_texts<S: Store, W: Sink>(
         (length (parts_left parts.old)) (W.put sink.old) (W.put sink.new) result }
     ensures type_is { parts_type parts.new ≡ parts_type parts.old }
     ensures long { parts_length parts.new ≡ parts_length parts.old }
-    ensures file { ReadsFile file.old file.new (λ a b. BlamesEither a b (W.failures sink.old) (W.failures sink.new) result) true
+    ensures file { ReadsFile file.old file.new
+        (λ a b. BlamesEither a b (W.failures sink.old) (W.failures sink.new) result) true
         (part_stretches (size_of (parts_type parts.old)) (parts_left parts.old))
         (file_length_of (placed_of file.old)) }
 {
@@ -125,7 +126,8 @@ fn send_some_texts<S: Store, W: Sink, P: Progress>(
     ensures sent { IsTrue S.tells_bytes → (number : ℕ) → BeginsParts (placed_of file.old) number slab.now parts.old
         → SendsAll (W.put sink.old) (W.put sink.new) (texts_text (S.bytes (store_of file.old))
         (record_size_of_file (placed_of file.old)) (var_at (vars_of (placed_of file.old)) number) slab.now) result }
-    ensures file { ReadsFile file.old file.new (λ a b. BlamesEither a b (W.failures sink.old) (W.failures sink.new) result) true
+    ensures file { ReadsFile file.old file.new
+        (λ a b. BlamesEither a b (W.failures sink.old) (W.failures sink.new) result) true
         (all_stretches (size_of (parts_type parts.old)) (parts_left parts.old))
         (file_length_of (placed_of file.old)) }
 {
@@ -162,7 +164,8 @@ pub fn send_texts<S: Store, W: Sink, P: Progress>(
     ensures sent { IsTrue S.tells_bytes → (number : ℕ) → BeginsParts (placed_of file.old) number slab.now parts.old
         → SendsAll (W.put sink.old) (W.put sink.new) (texts_text (S.bytes (store_of file.old))
         (record_size_of_file (placed_of file.old)) (var_at (vars_of (placed_of file.old)) number) slab.now) result }
-    ensures file { ReadsFile file.old file.new (λ a b. BlamesEither a b (W.failures sink.old) (W.failures sink.new) result) true
+    ensures file { ReadsFile file.old file.new
+        (λ a b. BlamesEither a b (W.failures sink.old) (W.failures sink.new) result) true
         (all_stretches (size_of (parts_type parts.old)) (parts_left parts.old))
         (file_length_of (placed_of file.old)) }
 {

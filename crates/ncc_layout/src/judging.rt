@@ -41,7 +41,8 @@ pub fn first_fault(
 ) -> Result<Option<(LayoutFaultKind, usize)>, AllocError>
     requires bytes { AllByRecursion HasBytes extents.now }
     requires numbered { AreNumbered extents.now }
-    ensures judged { IfOk result (Judged frame.header_length frame.file_length frame.record_size frame.records extents.now) }
+    ensures judged { IfOk result
+        (Judged frame.header_length frame.file_length frame.record_size frame.records extents.now) }
     ensures none { extents.now ≡ [] → IsOk result }
 {
     if let Some(variable) = in_header(extents, frame.header_length) {

@@ -66,7 +66,8 @@ fn vars_of(
 ) -> Result<Vec<PlacedVar>, AllocError>
     requires sound { Sound schema.now }
     requires long { length extents.now ≡ length schema.now.vars }
-    ensures placed { IfOk result (λ placed. placed.items ≡ placed_on schema.now.dims records schema.now.vars extents.now) }
+    ensures placed { IfOk result (λ placed. placed.items
+        ≡ placed_on schema.now.dims records schema.now.vars extents.now) }
     ensures none { schema.now.vars ≡ [] → IsOk result }
 {
     let dims = schema.dims.as_slice();
