@@ -770,6 +770,8 @@ count "300 files, and a reader that goes" "tiny.nc: ok CDF-1 records 0 variables
   "$("$ncc" check --files-from0 names 2> err | head -n 1) $(wc -c < err | tr -d ' ')"
 "$ncc" check --files-from0 names > /dev/full 2> err
 count "300 files, full output" "3 error device" "$? $(cat err)"
+"$ncc" check tiny.nc tiny.nc > /dev/full 2> err
+count "two files that pass, full output" "3 error device" "$? $(cat err)"
 "$ncc" check tiny.nc not_there.nc > /dev/full 2> err
 count "several files, one of them not there, full output" "3 not_there.nc: error device error device" "$? $(echo $(cat err))"
 mkdir "$(printf '%0200d' 0)"

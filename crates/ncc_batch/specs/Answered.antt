@@ -1,11 +1,11 @@
 -- What several files come to, one after the other.
 use Rattle.std.specs.Prelude.{◌≡◌, ◌⊎◌, ℕ, ◌+◌, ◌≤◌, List, [], ◌∷◌, ◌++◌, Option, Some, None, Result, Ok, Err}
-use Rattle.ncc_values.specs.Failures.{last_count}
+use Rattle.ncc_values.specs.Failures.{last_count, Rose}
 use Rattle.ncc_schema.specs.Device.{Puts}
 use Rattle.ncc_schema.specs.declared.failed.Failed.{Failed}
 use Rattle.ncc_engines.specs.Answers.{Texts}
-use Rattle.ncc_engines.specs.Checking.{IsCheckText}
-use Rattle.ncc_engines.specs.Listing.{IsListText}
+use Rattle.ncc_engines.specs.Checking.{IsCheckText, IsFaultOf as IsCheckFault}
+use Rattle.ncc_engines.specs.Listing.{IsListText, IsFaultOf as IsListFault}
 use Rattle.ncc_engines.specs.declared.answer.Answer.{Answer}
 use Rattle.ncc_engines.specs.declared.answer.Answer.TheVariants.{Passed, Refused, Device, Memory}
 use Rattle.ncc_batch.specs.Shown.{shown, worst, devices}
@@ -19,6 +19,11 @@ use Rattle.ncc_batch.specs.declared.work.Work.TheVariants.{Check, List as Listin
 abbrev pub TextsOf : Work → (bytes : List ℕ) → Texts
 TextsOf (Check limit strict) bytes = IsCheckText bytes limit strict
 TextsOf (Listing limit style) bytes = IsListText bytes limit style
+
+-- the line of the fault that these bytes have
+abbrev pub IsFaultIn : Work → (bytes : List ℕ) → (text : List ℕ) → Type 0
+IsFaultIn (Check limit strict) bytes text = IsCheckFault bytes limit text
+IsFaultIn (Listing limit style) bytes text = IsListFault bytes limit text
 
 -- how many bytes a header may have
 abbrev pub limit_of : Work → ℕ
@@ -40,7 +45,12 @@ IsTextAt work None Refused text = ⊥
 IsTextAt work None Device text = text ≡ []
 IsTextAt work None Memory text = ⊥
 
--- and what is shown of it
+-- which failures of the store an answer tells: Device only where its count rose; Passed and Refused that none changed it
+pub record TextFails (answer : Answer) (before after : ℕ) : Type 0 where
+  pub device : answer ≡ Device → Rose before after
+  pub quiet : (answer ≡ Device → ⊥) → (answer ≡ Memory → ⊥) → after ≡ before
+
+-- what is shown of a file
 abbrev pub IsAnswered : Work → Form → (path : List ℕ) → (bytes : Option (List ℕ)) → Answer → (out : List ℕ) → Type 0
 IsAnswered work form path bytes a out = (text : List ℕ) × IsTextAt work bytes a text × (out ≡ shown form path a text)
 

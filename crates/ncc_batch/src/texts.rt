@@ -1,13 +1,13 @@
 //! The answer of a file, and its text in memory.
 
-ghost use Rattle.std.specs.Prelude.{◌≡◌, ◌+◌, ◌≤◌, ◌∷◌, max, ℕ, Bool, List, length, drop, IsTrue};
+ghost use Rattle.std.specs.Prelude.{◌≡◌, ◌≤◌, ◌∷◌, ℕ, Bool, List, length, drop, IsTrue};
 ghost use Rattle.ncc_values.specs.Failures.{Rose};
 ghost use Rattle.ncc_schema.specs.Device.{Puts};
-ghost use Rattle.ncc_store.specs.Reading.{ReadsOnly, Rests};
+ghost use Rattle.ncc_store.specs.Reading.{ReadsOnly};
 ghost use Rattle.ncc_check.specs.FromStore.{calls_for, ReadsFew};
 ghost use Rattle.ncc_check.specs.Passes.{HasOwnElements};
 ghost use Rattle.ncc_engines.specs.Answers.{Fails, Writes};
-ghost use Rattle.ncc_batch.specs.Answered.{TextsOf, IsTextIn, IsTextAt, limit_of};
+ghost use Rattle.ncc_batch.specs.Answered.{TextFails, TextsOf, IsFaultIn, IsTextIn, IsTextAt, limit_of};
 
 use crate::shelf::Shelf;
 use crate::work::Work;
@@ -25,6 +25,8 @@ pub fn write_text<S: Store, W: Sink>(
 ) -> Answer
     ensures told { IsTrue S.tells_bytes → (out : List ℕ) × Puts (W.put sink.old) (W.put sink.new) out
         × Writes (TextsOf work (S.bytes store.old)) result out }
+    ensures memory { IsTrue S.tells_bytes → (text : List ℕ) → IsFaultIn work (S.bytes store.old) text
+        → result ≡ Answer.Memory → sink.new ≡ sink.old }
     ensures own { IsTrue S.tells_bytes → result ≡ Answer.Passed → (limit : ℕ) (strict : Bool)
         → work ≡ Work.Check limit strict → HasOwnElements (S.bytes store.old) limit }
     ensures store { ReadsOnly S.Store store.old store.new (Fails W.Sink sink.old sink.new result) S.tells_bytes
@@ -41,14 +43,10 @@ pub fn write_text<S: Store, W: Sink>(
 /// What is asked of a store's file, and its text, which is empty where the store failed or there was no memory.
 fn text_in<S: Store>(alloc: Global, store: &mut S, work: Work) -> (Answer, Vec<u8>)
     ensures told { IsTrue S.tells_bytes → IsTextIn work (S.bytes store.old) result.0 result.1.items }
-    ensures quiet { (result.0 ≡ Answer.Device → ⊥) → (result.0 ≡ Answer.Memory → ⊥)
-        → S.failures store.new ≡ S.failures store.old }
-    ensures rests { Rests S.Store store.old store.new (λ a b. result.0 ≡ Answer.Device → Rose a b) }
-    ensures calls { IsTrue S.tells_bytes
-        → S.calls store.new ≤ S.calls store.old + calls_for (length (S.bytes store.old)) (limit_of work) }
+    ensures store { ReadsOnly S.Store store.old store.new (TextFails result.0) S.tells_bytes
+        (calls_for (length (S.bytes store.old)) (limit_of work)) (limit_of work) }
     ensures settled { IsTrue S.tells_bytes
         → ReadsFew S.Store store.old store.new (S.bytes store.old) (limit_of work) 1 }
-    ensures reach { S.reach store.new ≤ max (S.reach store.old) (limit_of work) }
 {
     let mut sink = WriteSink::new(Vec::new(alloc));
     let answer = write_text(alloc, store, work, &mut sink);

@@ -2,7 +2,6 @@
 
 ghost use Rattle.std.specs.Prelude.{◌≡◌, ◌≤◌, ◌+◌, max, false, length, take, drop, IsTrue, OnOk};
 ghost use Rattle.ncc_values.specs.Failures.{Counts};
-ghost use Rattle.ncc_store.specs.Store.{Unmoved, KeepsImages};
 ghost use Rattle.ncc_layout.specs.Placed.{records_of_file, file_length_of};
 ghost use Rattle.ncc_check.specs.Checks.{StandsIn};
 ghost use Rattle.ncc_check.specs.Told.{tells_header};
@@ -32,12 +31,12 @@ pub struct NcFile<S: Store> {
 }
 
 impl<S: Store> NcFile<S> {
-    ghost use Rattle.ncc_check.specs.Appending.{HasRecord, HasRecordOrNot, IsAppendable, TakesRecord, CountsDevice, next_record_at, with_record};
+    ghost use Rattle.ncc_check.specs.Appending.{IsAppendable, TakesRecord};
     ghost use Rattle.ncc_check.specs.declared.append_error.AppendError.TheVariants as AppendError;
     ghost use Rattle.ncc_layout.specs.Placed.{record_size_of_file};
-    ghost use Rattle.ncc_store.specs.Store.{LeavesOnly, Only};
     ghost use Rattle.std.specs.Prelude.{true, Err, IfErr, OnErr};
     ghost use Rattle.ncc_check.specs.Files.{ReadsFile, store_of, schema_of, placed_of, must_reopen};
+    ghost use Rattle.ncc_check.specs.Writes.{AddsRecord, CallsForRecord, CallsStore, SettlesFile};
 
     /// A file that passed.
     pub(crate) fn new(store: S, schema: Schema, placed: Placed) -> NcFile<S>
@@ -119,24 +118,9 @@ impl<S: Store> NcFile<S> {
         requires image { length image.now ≡ record_size_of_file (placed_of self.old) }
         ensures reopen { must_reopen self.old ≡ true → (result ≡ Err AppendError.Reopen) × (self.new ≡ self.old) }
         ensures answer { must_reopen self.old ≡ false → IfErr result (λ e. e ≡ AppendError.Device) }
-        ensures added { OnOk result (HasRecord (schema_of self.old) (placed_of self.old)
-            (schema_of self.new) (placed_of self.new) × (must_reopen self.new ≡ false)) }
-        ensures bytes { IsTrue S.tells_bytes → OnOk result (S.bytes (store_of self.new)
-            ≡ with_record (S.bytes (store_of self.old)) (schema_of self.old) (placed_of self.old) image.now) }
-        ensures durable { OnOk result (Only (S.bytes (store_of self.new)) (S.images (store_of self.new))) }
-        ensures err { OnErr result ((schema_of self.new ≡ schema_of self.old) × (placed_of self.new ≡ placed_of self.old)
-            × (must_reopen self.new ≡ true)) }
-        ensures front { IsTrue S.tells_bytes → OnErr result (HasRecordOrNot (S.bytes (store_of self.old))
-            (schema_of self.old) (placed_of self.old) image.now (S.bytes (store_of self.new))) }
-        ensures any_moment { IsTrue S.tells_bytes → must_reopen self.old ≡ false
-            → Only (S.bytes (store_of self.old)) (S.images (store_of self.old))
-            → LeavesOnly S.moment S.images_since (store_of self.old) (store_of self.new)
-            (HasRecordOrNot (S.bytes (store_of self.old)) (schema_of self.old) (placed_of self.old) image.now) }
-        ensures count { CountsDevice (S.failures (store_of self.old)) (S.failures (store_of self.new)) result }
-        ensures calls { S.calls (store_of self.new) ≤ S.calls (store_of self.old) + 5 }
-        ensures calls_whole { next_record_at (placed_of self.old) ≤ file_length_of (placed_of self.old)
-            → S.calls (store_of self.new) ≤ S.calls (store_of self.old) + 4 }
-        ensures reach { S.reach (store_of self.new) ≤ S.reach (store_of self.old) }
+        ensures ended { OnErr result (must_reopen self.new ≡ true) }
+        ensures adds { AddsRecord self.old self.new result image.now }
+        ensures calls { CallsForRecord self.old self.new result }
     {
         placed_file_keeps_all_rules();
         one_more_is_placed();
@@ -177,16 +161,8 @@ impl<S: Store> NcFile<S> {
     pub fn settle(&mut self) -> Result<(), AppendError>
         ensures reopen { must_reopen self.old ≡ true → (result ≡ Err AppendError.Reopen) × (self.new ≡ self.old) }
         ensures answer { must_reopen self.old ≡ false → IfErr result (λ e. e ≡ AppendError.Device) }
-        ensures durable { OnOk result (Only (S.bytes (store_of self.new)) (S.images (store_of self.new))) }
-        ensures fresh { OnOk result (must_reopen self.new ≡ false) }
-        ensures err { OnErr result (must_reopen self.new ≡ true) }
-        ensures schema { schema_of self.new ≡ schema_of self.old }
-        ensures placed { placed_of self.new ≡ placed_of self.old }
-        ensures unmoved { Unmoved S.bytes S.images S.moment S.images_since (store_of self.old) (store_of self.new) }
-        ensures kept { OnErr result (KeepsImages (S.images (store_of self.old)) (S.images (store_of self.new))) }
-        ensures count { CountsDevice (S.failures (store_of self.old)) (S.failures (store_of self.new)) result }
-        ensures calls { S.calls (store_of self.new) ≤ S.calls (store_of self.old) + 1 }
-        ensures reach { S.reach (store_of self.new) ≤ S.reach (store_of self.old) }
+        ensures settles { SettlesFile self.old self.new result }
+        ensures calls { CallsStore self.old self.new result 1 }
     {
         if self.must_reopen {
             return Err(AppendError::Reopen);

@@ -1,6 +1,6 @@
 //! The commands' engines with the program's limit of a header's bytes.
 
-ghost use Rattle.std.specs.Prelude.{◌≡◌, ◌≢◌, ◌⊎◌, ◌+◌, ◌*◌, ◌<◌, ◌≤◌, max, List, ℕ, Option, None, length, true, IsTrue, IsSome, IfSome};
+ghost use Rattle.std.specs.Prelude.{◌≡◌, ◌≢◌, ◌⊎◌, ◌+◌, ◌<◌, ◌≤◌, max, List, ℕ, Some, length, true, IsTrue, IsSome, IfSome};
 ghost use Rattle.ncc_values.specs.Failures.{Rose};
 ghost use Rattle.ncc_schema.specs.Device.{LosesAtMost, Puts};
 ghost use Rattle.ncc_schema.specs.Schema.{Place};
@@ -12,33 +12,28 @@ ghost use Rattle.ncc_check.specs.Checks.{Opens};
 ghost use Rattle.ncc_header.specs.Answers.{Begins, IsLeft};
 ghost use Rattle.ncc_store.specs.File.{file_of, file_ready, file_failures};
 ghost use Rattle.ncc_store.specs.Reading.{Rests as StoreRests};
-ghost use Rattle.ncc_store.specs.Store.{LeavesOnly, Only, Unmoved};
-ghost use Rattle.ncc_check.specs.Passes.{HasOwnElements, Passes, PassesWith};
-ghost use Rattle.ncc_check.specs.FromStore.{calls_for};
+ghost use Rattle.ncc_check.specs.Passes.{HasOwnElements};
 ghost use Rattle.ncc_build.specs.Dataset.{Dataset, IsDataset};
 ghost use Rattle.ncc_write.specs.Additions.{HoldsAll};
-ghost use Rattle.ncc_write.specs.Extends.{HoldsSome, with_fills};
 ghost use Rattle.ncc_check.specs.Checks.{Opens};
 ghost use Rattle.ncc_layout.specs.Placed.{records_of_file};
 ghost use Rattle.ncc_layout.specs.declared.placed_file.Placed.{Placed};
 ghost use Rattle.ncc_schema.specs.declared.schema.Schema.{Schema};
-ghost use Rattle.ncc_convert.specs.Lines.{converted_line};
-ghost use Rattle.ncc_engines.specs.Converting.{IsRefusalLine, HasConvertedFront, HasRefusalFront};
 ghost use Rattle.ncc_engines.specs.Planning.{IsConvertible};
-ghost use Rattle.ncc_making.specs.Making.{IsConverted, FailsAny, FewCalls};
-ghost use Rattle.ncc_making.specs.Names.{MayLeave, Rests, IsUnnamed, IsNoneOrWhole, IsPublished};
-ghost use Rattle.ncc_engines.specs.Answers.{Blames, Fails};
-ghost use Rattle.ncc_engines.specs.Extending.{ExtendsInto, IsFilled, FillsUp, IsFilledSome, IsFilledWhole, IsFrontOfRefusal, TakesNone};
-ghost use Rattle.ncc_engines.specs.Listing.{Lists};
-ghost use Rattle.ncc_csv.specs.Named.{IsFirstNamed};
-ghost use Rattle.ncc_engines.specs.Selecting.{SelectsInto, contents_of, value_calls};
+ghost use Rattle.ncc_making.specs.Making.{IsConverted, FailsAny};
+ghost use Rattle.ncc_making.specs.Names.{Rests};
+ghost use Rattle.ncc_engines.specs.Answers.{Blames, ChecksBy, Fails};
+ghost use Rattle.ncc_making.specs.Conversions.{ChecksAndCopies, IsRefused, Lasts, Leaves, Names, Prints, Stops};
+ghost use Rattle.ncc_engines.specs.Extending.{ExtendsByFew, ExtendsInto, IsFilled, IsFrontOfRefusal, LeavesAtStop, LeavesBytes, Settles};
+ghost use Rattle.ncc_engines.specs.Listing.{IsFaultOf, Lists};
+ghost use Rattle.ncc_engines.specs.Selecting.{IsCsvText, SelectsByFew, SelectsInto};
 
 use crate::commands::LIMIT;
 use crate::task::{Converting, Extending, Selecting};
 use ncc_engines::{Answer, csv_engine, extend_engine, list_engine};
 use ncc_header::{Sink, Source};
 use ncc_lines::{FloatStyle, Progress};
-use ncc_making::{Entry, Target, convert_store};
+use ncc_making::{Target, convert_store};
 use ncc_store::{FileStore, Store, SystemFile};
 use std::alloc::Global;
 
@@ -51,6 +46,8 @@ pub fn listed<R: Source, W: Sink>(
 ) -> Answer
     ensures lists { IfSome (R.left source.old) (λ input. (out : List ℕ)
         × Puts (W.put sink.old) (W.put sink.new) out × Lists input LIMIT style result out) }
+    ensures memory { (input text : List ℕ) → R.left source.old ≡ Some input → IsFaultOf input LIMIT text
+        → result ≡ Answer.Memory → sink.new ≡ sink.old }
     ensures exactly { result ≡ Answer.Passed → IfSome (R.left source.old) (λ input.
         (h : Header) × Begins input LIMIT h × IsLeft (R.left source.new) input h) }
     ensures most { LosesAtMost (R.left source.old) (R.left source.new) LIMIT }
@@ -70,13 +67,12 @@ pub fn selected<S: Store, W: Sink, P: Progress>(
     ensures selects { IsTrue S.tells_bytes → (out : List ℕ) × Puts (W.put sink.old) (W.put sink.new) out
         × SelectsInto (S.bytes store) LIMIT selecting.entry.variable.now selecting.entry.pick selecting.entry.style
         selecting.entry.texts result.1 out }
+    ensures memory { IsTrue S.tells_bytes → (text : List ℕ) → IsCsvText (S.bytes store) LIMIT
+        selecting.entry.variable.now selecting.entry.pick selecting.entry.style selecting.entry.texts Answer.Refused text
+        → result.1 ≡ Answer.Memory → sink.new ≡ sink.old }
     ensures own { IsTrue S.tells_bytes → result.1 ≡ Answer.Passed → HasOwnElements (S.bytes store) LIMIT }
-    ensures calls { IsTrue S.tells_bytes → (h : Header) → PassesWith (S.bytes store) LIMIT h
-        → (number : Option ℕ) → IsFirstNamed h.schema.vars selecting.entry.variable.now number
-        → S.calls result.0 ≤ S.calls store + calls_for (length (S.bytes store)) LIMIT
-        + value_calls (contents_of (S.bytes store) h) selecting.entry.pick number }
-    ensures stopped { IsTrue S.tells_bytes → (Passes (S.bytes store) LIMIT → ⊥)
-        → S.calls result.0 ≤ S.calls store + calls_for (length (S.bytes store)) LIMIT }
+    ensures calls { IsTrue S.tells_bytes → (checked : ℕ) → ChecksBy (S.bytes store) LIMIT checked
+        → SelectsByFew S.Store store result.0 LIMIT selecting.entry.variable.now selecting.entry.pick checked }
     ensures rests { StoreRests S.Store store result.0 (Blames W.Sink sink.old sink.new result.1) }
 {
     let Selecting {
@@ -103,55 +99,17 @@ pub fn extended<S: Store, W: Sink>(
     ensures counted { IsTrue S.tells_bytes → (out : List ℕ) × Puts (W.put sink.old) (W.put sink.new) out
         × (IsFrontOfRefusal (S.bytes store) LIMIT extending.entry.more out
         ⊎ (∥ IsFilled (S.bytes store) LIMIT extending.entry.more (S.bytes result.0) ∥₁)) }
-    ensures holds { IsTrue S.tells_bytes → result.1 ≡ Answer.Passed → (places : List Place) (d : Dataset)
-        → IsDataset d → HoldsAll (S.bytes store) LIMIT places d
-        → ∥ HoldsAll (S.bytes result.0) LIMIT places (with_fills d extending.entry.more) ∥₁ }
-    ensures bytes { IsTrue S.tells_bytes → result.1 ≡ Answer.Passed
-        → ∥ IsFilled (S.bytes store) LIMIT extending.entry.more (S.bytes result.0) ∥₁ }
-    ensures untouched { IsTrue S.tells_bytes → result.1 ≡ Answer.Refused
-        → (Unmoved S.bytes S.images S.moment S.images_since store result.0 × TakesNone (S.bytes store) LIMIT)
-        ⊎ (∥ FillsUp (S.bytes store) LIMIT extending.entry.more (S.bytes result.0)
-        (Unmoved S.bytes S.images S.moment S.images_since store result.0)
-        (S.calls store + calls_for (length (S.bytes store)) LIMIT) (S.calls result.0) ∥₁) }
-    ensures leaves { IsTrue S.tells_bytes
-        → Unmoved S.bytes S.images S.moment S.images_since store result.0
-        ⊎ (∥ IsFilledSome (S.bytes store) LIMIT extending.entry.more (S.bytes result.0) ∥₁) }
-    ensures whole { IsTrue S.tells_bytes → result.1 ≢ Answer.Device
-        → Unmoved S.bytes S.images S.moment S.images_since store result.0
-        ⊎ (∥ IsFilledWhole (S.bytes store) LIMIT extending.entry.more (S.bytes result.0) ∥₁) }
-    ensures unprinted { IsTrue S.tells_bytes → (Rose (S.failures store) (S.failures result.0) → ⊥)
-        → Unmoved S.bytes S.images S.moment S.images_since store result.0
-        ⊎ (∥ IsFilledWhole (S.bytes store) LIMIT extending.entry.more (S.bytes result.0) ∥₁) }
-    ensures holds_some { IsTrue S.tells_bytes → (places : List Place) (d : Dataset)
-        → IsDataset d → HoldsAll (S.bytes store) LIMIT places d
-        → ∥ HoldsSome (S.bytes result.0) LIMIT places d extending.entry.more ∥₁ }
-    ensures any_moment { IsTrue S.tells_bytes → Only (S.bytes store) (S.images store)
-        → (places : List Place) (d : Dataset) → IsDataset d → HoldsAll (S.bytes store) LIMIT places d
-        → LeavesOnly S.moment S.images_since store result.0
-        (λ c. ∥ HoldsSome c LIMIT places d extending.entry.more ∥₁) }
-    ensures whatever_was_pending { IsTrue S.tells_bytes
-        → (places : List Place) (d : Dataset) → IsDataset d → HoldsAll (S.bytes store) LIMIT places d
-        → LeavesOnly S.moment S.images_since store result.0
-        (λ c. S.images store c ⊎ (∥ HoldsSome c LIMIT places d extending.entry.more ∥₁)) }
+    ensures bytes { IsTrue S.tells_bytes → LeavesBytes S.Store store result.0 LIMIT extending.entry.more result.1 }
+    ensures stop { IsTrue S.tells_bytes → LeavesAtStop S.Store store result.0 LIMIT extending.entry.more }
+    ensures settles { Settles S.Store store result.0 extending.entry.more result.1 }
     ensures dataset { IsTrue S.tells_bytes → (s : Schema) (p : Placed) → Opens (S.bytes store) LIMIT s p
         → IsKnown s.count → (places : List Place) × (d : Dataset) × IsDataset d
         × HoldsAll (S.bytes store) LIMIT places d }
-    ensures durable { Only (S.bytes store) (S.images store) → result.1 ≡ Answer.Passed
-        → Only (S.bytes result.0) (S.images result.0) }
-    ensures memory { result.1 ≡ Answer.Memory → Unmoved S.bytes S.images S.moment S.images_since store result.0 }
-    ensures settled { 0 < extending.entry.more → result.1 ≡ Answer.Passed
-        → Only (S.bytes result.0) (S.images result.0) }
-    ensures rest { result.1 ≢ Answer.Device → Unmoved S.bytes S.images S.moment S.images_since store result.0
-        ⊎ Only (S.bytes result.0) (S.images result.0) }
-    ensures none { extending.entry.more ≡ 0 → Unmoved S.bytes S.images S.moment S.images_since store result.0 }
-    ensures refused { IsTrue S.tells_bytes → (Passes (S.bytes store) LIMIT → ⊥)
-        → Unmoved S.bytes S.images S.moment S.images_since store result.0 }
-    ensures calls { IsTrue S.tells_bytes
-        → S.calls result.0 ≤ S.calls store + calls_for (length (S.bytes store)) LIMIT + 4 * extending.entry.more + 2 }
-    ensures calls_none { IsTrue S.tells_bytes → (extending.entry.more ≡ 0) ⊎ TakesNone (S.bytes store) LIMIT
-        → S.calls result.0 ≤ S.calls store + calls_for (length (S.bytes store)) LIMIT }
-    ensures reach { S.reach result.0 ≤ max (S.reach store) LIMIT }
     ensures fails { Fails W.Sink sink.old sink.new result.1 (S.failures store) (S.failures result.0) }
+    ensures calls { IsTrue S.tells_bytes → (checked : ℕ) → ChecksBy (S.bytes store) LIMIT checked
+        → ExtendsByFew S.Store store result.0 LIMIT extending.entry.more result.1 checked }
+    ensures memory { result.1 ≡ Answer.Memory → sink.new ≡ sink.old }
+    ensures reach { S.reach result.0 ≤ max (S.reach store) LIMIT }
 {
     extend_engine(alloc, store, LIMIT, extending.more, sink)
 }
@@ -165,6 +123,10 @@ pub fn extended_file<F: SystemFile, W: Sink>(
 ) -> (FileStore<F>, Answer)
     requires ready { 0 < extending.more → file_ready store ≡ true }
     requires sound { 0 < extending.more → F.sound (file_of store) ≡ true }
+    ensures extends { IsTrue F.tells_bytes → (out : List ℕ) × Puts (W.put sink.old) (W.put sink.new) out
+        × ExtendsInto (F.bytes (file_of store)) LIMIT extending.entry.more result.1 out }
+    ensures bytes { IsTrue F.tells_bytes → result.1 ≡ Answer.Passed
+        → ∥ IsFilled (F.bytes (file_of store)) LIMIT extending.entry.more (F.bytes (file_of result.0)) ∥₁ }
     ensures fails { Fails W.Sink sink.old sink.new result.1 (file_failures store) (file_failures result.0) }
 {
     extended(alloc, store, extending, sink)
@@ -179,66 +141,29 @@ pub fn converted<S: Store + Drop, T: Target, W: Sink, P: Progress>(
     sink: &mut W,
     progress: &mut P,
 ) -> (S, Answer)
-    ensures made { IsTrue S.tells_bytes → IsTrue T.tells_bytes → result.1 ≡ Answer.Passed
-        → IsConverted S.tells_bytes (S.bytes store) LIMIT converting.entry.version (T.named target.new) }
-    ensures durable { result.1 ≡ Answer.Passed
-        → (c : Option (List ℕ)) → T.names target.new c → c ≡ T.named target.new }
-    ensures settled { result.1 ≡ Answer.Passed → IsPublished (T.entries target.new) }
-    ensures any_moment { IsTrue S.tells_bytes → IsTrue T.tells_bytes
-        → ((c : Option (List ℕ)) → T.names target.old c → c ≡ None)
-        → (c : Option (List ℕ)) → T.names_since target.new (T.moment target.old) c
-        → IsNoneOrWhole (IsConverted S.tells_bytes (S.bytes store) LIMIT converting.entry.version)
-        (T.entries target.new) c }
-    ensures whatever_was_pending { IsTrue S.tells_bytes → IsTrue T.tells_bytes
-        → (c : Option (List ℕ)) → T.names_since target.new (T.moment target.old) c → MayLeave (T.names target.old)
-        (IsConverted S.tells_bytes (S.bytes store) LIMIT converting.entry.version) (T.entries target.new) c }
-    ensures unnamed { IsTrue S.tells_bytes → IsTrue T.tells_bytes → result.1 ≢ Answer.Passed
-        → IsUnnamed (T.named target.old) (T.named target.new)
-        (IsConverted S.tells_bytes (S.bytes store) LIMIT converting.entry.version) (T.entries target.new)
-        ⊎ (Rose (W.failures sink.old) (W.failures sink.new)
-        × IsConverted S.tells_bytes (S.bytes store) LIMIT converting.entry.version (T.named target.new)) }
-    ensures unprinted { IsTrue S.tells_bytes → IsTrue T.tells_bytes → result.1 ≡ Answer.Device
-        → ((text : List ℕ) → IsRefusalLine (S.bytes store) LIMIT converting.entry.version text → ⊥)
-        → (Rose (S.failures store) (S.failures result.0) → ⊥) → (Rose (T.failures target.old) (T.failures target.new) → ⊥)
-        → IsConverted S.tells_bytes (S.bytes store) LIMIT converting.entry.version (T.named target.new) }
-    ensures published { IsTrue S.tells_bytes → result.1 ≡ Answer.Device
-        → ((text : List ℕ) → IsRefusalLine (S.bytes store) LIMIT converting.entry.version text → ⊥)
-        → (Rose (S.failures store) (S.failures result.0) → ⊥) → (Rose (T.failures target.old) (T.failures target.new) → ⊥)
-        → IsPublished (T.entries target.new)
-        × ((c : Option (List ℕ)) → T.names target.new c → c ≡ T.named target.new) }
-    ensures no_part { (T.entries target.old).part ≢ Entry.Made → (T.entries target.new).part ≢ Entry.Made }
-    ensures no_name { result.1 ≢ Answer.Passed → (T.entries target.old).name ≢ Entry.Made
-        → ((T.entries target.new).name ≢ Entry.Made) ⊎ Rose (W.failures sink.old) (W.failures sink.new) }
+    ensures named { IsTrue S.tells_bytes → IsTrue T.tells_bytes → Names T.Target target.old target.new
+        (IsConverted S.tells_bytes (S.bytes store) LIMIT converting.entry.version)
+        (IsRefused (S.bytes store) LIMIT converting.entry.version)
+        (Rose (S.failures store) (S.failures result.0)) (Rose (W.failures sink.old) (W.failures sink.new)) result.1 }
+    ensures lasts { Lasts T.Target target.old target.new S.tells_bytes
+        (IsRefused (S.bytes store) LIMIT converting.entry.version)
+        (Rose (S.failures store) (S.failures result.0)) result.1 }
+    ensures stops { IsTrue S.tells_bytes → IsTrue T.tells_bytes → Stops T.Target target.old target.new
+        (IsConverted S.tells_bytes (S.bytes store) LIMIT converting.entry.version) }
+    ensures leaves { Leaves T.Target target.old target.new (Rose (W.failures sink.old) (W.failures sink.new)) result.1 }
     ensures occupied { IsSome (T.named target.old) → (result.1 ≢ Answer.Passed)
         × Rests T.named T.names T.moment T.names_since T.entries T.makes target.old target.new }
-    ensures occupied_calls { IsTrue S.tells_bytes → IsSome (T.named target.old)
-        → S.calls result.0 ≤ S.calls store + calls_for (length (S.bytes store)) LIMIT }
     ensures unmade { result.1 ≡ Answer.Refused → target.new ≡ target.old }
-    ensures unmade_where_refused { IsTrue S.tells_bytes → (text : List ℕ)
-        → IsRefusalLine (S.bytes store) LIMIT converting.entry.version text → target.new ≡ target.old }
-    ensures spared { result.1 ≡ Answer.Memory → T.named target.new ≡ T.named target.old }
-    ensures once { T.makes target.new ≤ T.makes target.old + 1 }
+    ensures unmade_where_refused { IsTrue S.tells_bytes → IsRefused (S.bytes store) LIMIT converting.entry.version
+        → target.new ≡ target.old }
     ensures convertible { IsTrue S.tells_bytes → result.1 ≡ Answer.Passed → (s : Schema) × (p : Placed)
         × Opens (S.bytes store) LIMIT s p × IsConvertible converting.entry.version s (records_of_file p) }
-    ensures passed { result.1 ≡ Answer.Passed
-        → Puts (W.put sink.old) (W.put sink.new) (converted_line converting.entry.version) }
-    ensures printed { result.1 ≡ Answer.Device
-        → (W.put sink.new ≡ W.put sink.old) ⊎ Rose (W.failures sink.old) (W.failures sink.new) }
-    ensures calls { IsTrue S.tells_bytes
-        → FewCalls (S.bytes store) LIMIT converting.entry.version (S.calls store) (S.calls result.0) }
-    ensures calls_refused { IsTrue S.tells_bytes → (text : List ℕ)
-        → IsRefusalLine (S.bytes store) LIMIT converting.entry.version text
-        → S.calls result.0 ≤ S.calls store + calls_for (length (S.bytes store)) LIMIT }
+    ensures prints { Prints W.Sink sink.old sink.new S.tells_bytes (S.bytes store)
+        LIMIT converting.entry.version result.1 }
+    ensures calls { IsTrue S.tells_bytes → (checked : ℕ) → ChecksBy (S.bytes store) LIMIT checked
+        → ChecksAndCopies S.Store store result.0 LIMIT converting.entry.version (IsSome (T.named target.old)) checked }
     ensures reach { IsTrue S.tells_bytes
         → S.reach result.0 ≤ max (S.reach store) (max LIMIT (length (S.bytes store))) }
-    ensures refused { IsTrue S.tells_bytes → result.1 ≡ Answer.Refused → (text : List ℕ)
-        × Puts (W.put sink.old) (W.put sink.new) text
-        × IsRefusalLine (S.bytes store) LIMIT converting.entry.version text }
-    ensures memory { IsTrue S.tells_bytes → result.1 ≡ Answer.Memory → (W.put sink.new ≡ W.put sink.old)
-        ⊎ HasRefusalFront (S.bytes store) LIMIT converting.entry.version (W.put sink.old) (W.put sink.new) }
-    ensures halted { IsTrue S.tells_bytes → result.1 ≡ Answer.Device → (W.put sink.new ≡ W.put sink.old)
-        ⊎ HasRefusalFront (S.bytes store) LIMIT converting.entry.version (W.put sink.old) (W.put sink.new)
-        ⊎ HasConvertedFront (S.bytes store) LIMIT converting.entry.version (W.put sink.old) (W.put sink.new) }
     ensures rests { StoreRests S.Store store result.0
         (FailsAny (T.failures target.old) (T.failures target.new) W.Sink sink.old sink.new result.1) }
 {

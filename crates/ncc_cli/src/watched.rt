@@ -31,6 +31,8 @@ impl<W> Watched<W> {
 }
 
 impl<W: Write> Write for Watched<W> {
+    ghost contents = { λ w. W.contents w.inner };
+
     fn write(&mut self, bytes: &[u8]) -> io::Result<usize> {
         match self.inner.write(bytes) {
             Ok(n) => Ok(n),
@@ -53,6 +55,8 @@ impl<W: Write> Write for Watched<W> {
 }
 
 impl<R: Read> Read for Watched<R> {
+    ghost remaining = { λ w. R.remaining w.inner };
+
     fn read(&mut self, bytes: &mut [u8]) -> io::Result<usize> {
         match self.inner.read(bytes) {
             Ok(n) => Ok(n),

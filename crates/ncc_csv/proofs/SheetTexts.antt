@@ -1,5 +1,5 @@
 -- The text of a sheet, or of a refusal.
-use Rattle.std.proofs.Common.{◌≡◌, ℕ, ◌<◌, Bool, true, false, cond, sym, List, [], ◌∷◌, ◌++◌, length, get_or, Option, Some, None, Result, Ok, Err, rules, refl, ap, ◌∙◌, arith}
+use Rattle.std.proofs.Common.{◌≡◌, ℕ, ◌<◌, Bool, true, false, cond, sym, List, [], ◌∷◌, ◌++◌, length, get_or, Option, Some, None, Result, Ok, Err, rules, refl, ap, subst, ◌∙◌, arith}
 use Rattle.std.specs.Prelude.{IsErr, ◌&&◌}
 use Rattle.ncc_values.specs.declared.xtype.XType.{XType}
 use Rattle.ncc_values.specs.declared.xtype.XType.TheVariants.{Byte, Char, Short, Int, Float, Double, UByte, UShort, UInt, Int64, UInt64}
@@ -81,6 +81,11 @@ cause_of cause (faults.ZeroStride k) is not = is
 cause_of cause (faults.Outside k) is not = is
 cause_of cause faults.Device is not = absurd is
 cause_of cause faults.Memory is not = absurd (not refl)
+
+-- where memory was the cause there is no fault
+pub not_memory : (cause : Option SlabFault) (f fault : SlabFault) → IsCause cause f → cause ≡ Some fault → f ≡ faults.Memory → ⊥
+not_memory cause f fault is some memory =
+    let none : cause ≡ None = subst (λ (g : SlabFault). IsCause cause g) memory is in cc (sym none ∙ some)
 
 -- ---- what a failed call says
 

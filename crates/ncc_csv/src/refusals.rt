@@ -1,44 +1,36 @@
 //! The line of a selection that is refused.
 
-ghost use Rattle.std.specs.Prelude.{◌≡◌, ◌++◌, OnOk};
+ghost use Rattle.std.specs.Prelude.{◌≢◌, Err};
+ghost use Rattle.ncc_values.specs.Failures.{Counts};
+ghost use Rattle.ncc_schema.specs.Device.{WritesAll};
 ghost use Rattle.ncc_lines.specs.Sends.{SendsAll, Blames};
-ghost use Rattle.ncc_csv.specs.Refusals.{refused_words, refused_line};
+ghost use Rattle.ncc_csv.specs.Refusals.{refused_line};
 
-use ncc_header::{Sink, write_all};
-use ncc_lines::{Halt, push_numbered};
+use ncc_header::{Failed, Sink, write_all};
+use ncc_lines::{Halt, put_numbered};
 use ncc_slab::SlabFault;
-use std::alloc::{AllocError, Global};
 
-/// Adds the words that name a refusal.
-fn push_refusal(out: &mut Vec<u8>, fault: SlabFault) -> Result<(), AllocError>
-    ensures { OnOk result (out.new.items ≡ out.old.items ++ refused_words fault) }
+/// Puts out the line of a refusal.
+fn put_refusal<W: Sink>(fault: SlabFault, sink: &mut W) -> Result<(), Failed>
+    ensures bytes { WritesAll (W.put sink.old) (W.put sink.new) result (refused_line fault) }
+    ensures count { Counts (W.failures sink.old) (W.failures sink.new) result }
 {
     match fault {
-        SlabFault::NoVariable => out.extend_from_slice(b"NoVariable"),
-        SlabFault::RankMismatch => out.extend_from_slice(b"RankMismatch"),
-        SlabFault::ZeroStride(dim) => push_numbered(out, "ZeroStride ", dim),
-        SlabFault::Outside(dim) => push_numbered(out, "Outside ", dim),
-        SlabFault::Device => out.extend_from_slice(b"Device"),
-        SlabFault::Memory => out.extend_from_slice(b"Memory"),
+        SlabFault::NoVariable => write_all(sink, b"refused NoVariable\n"),
+        SlabFault::RankMismatch => write_all(sink, b"refused RankMismatch\n"),
+        SlabFault::ZeroStride(dim) => put_numbered(b"refused ZeroStride ", dim as u64, sink),
+        SlabFault::Outside(dim) => put_numbered(b"refused Outside ", dim as u64, sink),
+        SlabFault::Device => write_all(sink, b"refused Device\n"),
+        SlabFault::Memory => write_all(sink, b"refused Memory\n"),
     }
 }
 
-/// Adds the line of a refusal.
-fn push_line(out: &mut Vec<u8>, fault: SlabFault) -> Result<(), AllocError>
-    ensures { OnOk result (out.new.items ≡ out.old.items ++ refused_line fault) }
-{
-    out.extend_from_slice(b"refused ")?;
-    push_refusal(out, fault)?;
-    out.extend_from_slice(b"\n")
-}
-
-/// Sends the line of a selection that is refused. After an `Err` a front of it is sent.
-pub fn send_refusal<W: Sink>(alloc: Global, fault: SlabFault, sink: &mut W) -> Result<(), Halt>
+/// Sends the line of a selection that is refused, and takes no memory. After an `Err` a front of it is sent.
+pub fn send_refusal<W: Sink>(fault: SlabFault, sink: &mut W) -> Result<(), Halt>
     ensures sent { SendsAll (W.put sink.old) (W.put sink.new) (refused_line fault) result }
     ensures count { Blames (W.failures sink.old) (W.failures sink.new) result }
+    ensures never { result ≢ Err Halt.Memory }
 {
-    let mut line = Vec::new(alloc);
-    push_line(&mut line, fault)?;
-    write_all(sink, &line)?;
+    put_refusal(fault, sink)?;
     Ok(())
 }

@@ -1,6 +1,6 @@
 //! Sending a selection of an open file.
 
-ghost use Rattle.std.specs.Prelude.{◌≡◌, ℕ, ◌+◌, ◌^◌, ◌<◌, ◌≤◌, List, [], length, get_or, Option, Some, None, is_none, IsTrue, IfOk, true, ◌&&◌};
+ghost use Rattle.std.specs.Prelude.{◌≡◌, ◌≢◌, ℕ, ◌+◌, ◌^◌, ◌<◌, ◌≤◌, List, [], length, get_or, Option, Some, None, is_none, Err, IsTrue, IfOk, true, ◌&&◌};
 ghost use Rattle.ncc_values.specs.XType.{size_of};
 ghost use Rattle.ncc_layout.specs.Elements.{var_at};
 ghost use Rattle.ncc_layout.specs.Placed.{file_length_of, record_size_of_file, vars_of};
@@ -35,17 +35,18 @@ use ncc_store::Store;
 use std::alloc::Global;
 
 /// Sends the line of a selection that is refused, unless memory for it was.
-fn refuse<W: Sink>(alloc: Global, fault: SlabFault, sink: &mut W) -> Result<bool, Halt>
+fn refuse<W: Sink>(fault: SlabFault, sink: &mut W) -> Result<bool, Halt>
     requires { (cause : Option Fault) × IsCause cause fault }
     ensures sent { (cause : Option Fault) (sheet : List ℕ) → IsCause cause fault
         → SendsSheet cause (W.put sink.old) (W.put sink.new) sheet result }
     ensures answer { (cause : Option Fault) → IsCause cause fault → IfOk result (λ b. b ≡ is_none cause) }
     ensures count { BlamesOne (W.failures sink.old) (W.failures sink.new) result }
+    ensures memory { result ≡ Err Halt.Memory → (fault ≡ SlabFault.Memory) × (sink.new ≡ sink.old) }
 {
     match fault {
         SlabFault::Memory => Err(Halt::Memory),
         _ => {
-            send_refusal(alloc, fault, sink)?;
+            send_refusal(fault, sink)?;
             Ok(false)
         }
     }
@@ -201,11 +202,11 @@ pub fn send_sheet<S: Store, W: Sink, P: Progress>(
         (file_length_of (placed_of file.old)) }
     ensures refused { (fault : Fault) → slab_fault (vars_of (placed_of file.old)) var slab.now ≡ Some fault
         → SendsSheet (Some fault) (W.put sink.old) (W.put sink.new) [] result
-        × (store_of file.new ≡ store_of file.old) }
+        × (store_of file.new ≡ store_of file.old) × (result ≢ Err Halt.Memory) }
 {
     let mut parts = match SlabParts::new(alloc, file.placed(), var, slab) {
         Ok(parts) => parts,
-        Err(fault) => return refuse(alloc, fault, sink),
+        Err(fault) => return refuse(fault, sink),
     };
     send_printed(
         alloc, file, var, slab, &mut parts, style, texts, sink, progress,

@@ -1,3 +1,4 @@
+pub mod Checked
 pub mod Sent
 pub mod SentList
 pub mod SentVerdict

@@ -1,5 +1,5 @@
 -- What `csv` sent is the text of the selection of its bytes, or a front of it.
-use Rattle.std.proofs.Common.{◌≡◌, ℕ, ◌<◌, Bool, Option, Some, None, Result, Ok, Err, List, ◌++◌, length, refl, sym, ap, subst, ◌∙◌, ◌⊎◌, inl, inr, arith}
+use Rattle.std.proofs.Common.{◌≡◌, ℕ, ◌<◌, Bool, true, false, Option, Some, None, Result, Ok, Err, List, ◌++◌, length, refl, sym, ap, subst, ◌∙◌, ◌⊎◌, inl, inr, arith}
 use Rattle.std.specs.Prelude.{is_none}
 use Rattle.ncc_schema.specs.declared.schema.Header.{Header}
 use Rattle.ncc_schema.specs.declared.schema.Schema.{Schema}
@@ -97,6 +97,18 @@ pub sent_sheet : (c : Contents) (name : List ℕ) (p : Pick) (style : FloatStyle
 sent_sheet c name p style texts old new n answer result named s is e =
     subst (λ (x : Answer). Gone (IsSelection c name p style texts) old new x) (sym e) (sheet c name p style texts old new n result named s is)
 
+-- ---- a selection that is refused
+
+pub fault_of : (cause : Option SlabFault) → Refused ≡ answer_to cause → (f : SlabFault) × (cause ≡ Some f)
+fault_of None is = cc is
+fault_of (Some f) is = (f, refl)
+
+pub not_memory : (result : Result Bool Halt) → (result ≡ Err halts.Memory → ⊥) → sheet_answer result ≡ Memory → ⊥
+not_memory (Ok true) never is = cc is
+not_memory (Ok false) never is = cc is
+not_memory (Err halts.Device) never is = cc is
+not_memory (Err halts.Memory) never is = never refl
+
 -- ---- of bytes
 
 -- the laws of bytes that pass that make their text one
@@ -182,6 +194,14 @@ sent_opened laws bytes limit name p style texts s placed o old new answer gone =
   writes laws bytes limit name p style texts o.header o.passes answer gone.0
       (subst (λ (c : Contents). Writes (IsSelection c name p style texts) answer gone.0) (opened_contents bytes limit s placed o) gone.2),
 )
+
+-- what is refused of the bytes that were opened is a selection of the open file
+pub refused_in : Laws → (bytes : List ℕ) (limit : ℕ) (name : List ℕ) (p : Pick) (style : FloatStyle) (texts : Bool) (s : Schema) (placed : Placed) → Opens bytes limit s placed → (text : List ℕ) → IsCsvText bytes limit name p style texts Refused text
+    → IsSelection (contents_in bytes s placed) name p style texts Refused text
+refused_in laws bytes limit name p style texts s placed o text (inl x) =
+    subst (λ (c : Contents). IsSelection c name p style texts Refused text) (sym (opened_contents bytes limit s placed o))
+    (of_header laws bytes limit name p style texts o.header o.passes Refused text x)
+refused_in laws bytes limit name p style texts s placed o text (inr y) = absurd (laws.apart bytes limit y.0 (o.header, o.passes) y.1)
 
 pub sent_fault : (bytes : List ℕ) (limit : ℕ) (name : List ℕ) (p : Pick) (style : FloatStyle) (texts : Bool) → OneAnswer (IsCsvText bytes limit name p style texts) → (old new : Option (List ℕ)) (f : FileFault) (answer : Answer) (result : Result (Unit {0}) Halt) → Fails bytes limit f
     → SendsAll old new (file_fault_line f) result → answer ≡ answer_of result Refused → Gone (IsCsvText bytes limit name p style texts) old new answer

@@ -1,7 +1,8 @@
 -- What a command wrote, by its answer.
-use Rattle.std.specs.Prelude.{◌≡◌, ◌⊎◌, ℕ, List, ◌++◌, Result, Ok, Err}
+use Rattle.std.specs.Prelude.{◌≡◌, ◌⊎◌, ℕ, ◌+◌, List, ◌++◌, length, Result, Ok, Err}
 use Rattle.ncc_values.specs.Failures.{Rose}
 use Rattle.ncc_schema.specs.declared.sink.Sink.{Ghosts}
+use Rattle.ncc_check.specs.FromStore.{SettledBy, calls_for}
 use Rattle.ncc_lines.specs.declared.halt.Halt.{Halt}
 use Rattle.ncc_lines.specs.declared.halt.Halt.TheVariants as halts
 use Rattle.ncc_engines.specs.declared.answer.Answer.{Answer}
@@ -39,3 +40,8 @@ pub record Fails {W : Type 0} (g : Ghosts W) (sink sent : W) (answer : Answer) (
   pub quiet : (answer ≡ Device → ⊥) → (after ≡ before) × (g.failures sent ≡ g.failures sink)
   pub device : answer ≡ Device → Rose before after ⊎ Rose (g.failures sink) (g.failures sent)
   pub still : (after ≡ before → ⊥) → g.calls sent ≡ g.calls sink
+
+-- So many calls are enough for a check of these bytes: one for the length, and the reads of what may be the header, or
+-- those that settle whether one is there.
+abbrev pub ChecksBy : (bytes : List ℕ) (limit calls : ℕ) → Type 0
+ChecksBy b limit calls = (calls ≡ calls_for (length b) limit) ⊎ ((reads : ℕ) × SettledBy b limit reads × (calls ≡ 1 + reads))

@@ -1,17 +1,24 @@
 -- What the extend engine writes.
-use Rattle.std.specs.Prelude.{◌≡◌, ◌≢◌, ◌⊎◌, ℕ, ◌+◌, ◌*◌, ◌<◌, ◌≤◌, false, List, [], ◌++◌, Result, Ok, Err}
+use Rattle.std.specs.Prelude.{max, ◌≡◌, ◌≢◌, ◌⊎◌, ℕ, ◌+◌, ◌*◌, ◌<◌, ◌≤◌, false, List, [], ◌++◌, Result, Ok, Err}
+use Rattle.ncc_values.specs.Failures.{Rose}
+use Rattle.ncc_store.specs.Store.{LeavesOnly, Only, Unmoved}
+use Rattle.ncc_store.specs.declared.store.Store.{Ghosts}
+use Rattle.ncc_schema.specs.Schema.{Place}
 use Rattle.ncc_schema.specs.declared.schema.Count.TheVariants.{Known}
 use Rattle.ncc_schema.specs.declared.schema.Schema.{Schema}
 use Rattle.ncc_layout.specs.declared.placed_file.Placed.{Placed}
 use Rattle.ncc_layout.specs.Placed.{records_of_file}
 use Rattle.ncc_check.specs.Checks.{Opens}
+use Rattle.ncc_check.specs.FromStore.{SettledBy}
 use Rattle.ncc_check.specs.Passes.{Passes}
 use Rattle.ncc_check.specs.declared.append_error.AppendError.{AppendError}
 use Rattle.ncc_check.specs.declared.append_error.AppendError.TheVariants as errors
 use Rattle.ncc_lines.specs.Refusals.{append_line}
 use Rattle.ncc_lines.specs.Texts.{records_line}
 use Rattle.ncc_check.specs.AppendLaws.{CanGrow}
-use Rattle.ncc_write.specs.Extends.{ExtendsAs, HasFillsOrNot, IsFullFor, TakesRecords, filled_bytes}
+use Rattle.ncc_build.specs.Dataset.{Dataset, IsDataset}
+use Rattle.ncc_write.specs.Additions.{HoldsAll}
+use Rattle.ncc_write.specs.Extends.{ExtendsAs, HasFillsOrNot, HoldsSome, IsFullFor, TakesRecords, filled_bytes, with_fills}
 use Rattle.ncc_engines.specs.declared.answer.Answer.{Answer}
 use Rattle.ncc_engines.specs.declared.answer.Answer.TheVariants.{Passed, Refused, Device, Memory}
 use Rattle.ncc_engines.specs.Answers.{Texts}
@@ -115,3 +122,48 @@ Tells result n Passed out = TellsText result n Passed out
 Tells result n Refused out = TellsText result n Refused out
 Tells result n Device out = IsFrontOfText (TellsText result n) out
 Tells result n Memory out = IsFrontOfText (TellsText result n) out
+
+-- ---- what a run of the engine leaves of a store
+
+module _ {S : Type 0} (g : Ghosts S) (store after : S) where
+  abbrev pub Stays : Type 0
+  Stays = Unmoved g.bytes g.images g.moment g.images_since store after
+
+  -- its bytes, by the answer, where they are told
+  pub record LeavesBytes (limit more : ℕ) (answer : Answer) : Type 0 where
+    pub bytes : answer ≡ Passed → ∥ IsFilled (g.bytes store) limit more (g.bytes after) ∥₁
+    pub holds : answer ≡ Passed → (places : List Place) (d : Dataset) → IsDataset d
+        → HoldsAll (g.bytes store) limit places d → ∥ HoldsAll (g.bytes after) limit places (with_fills d more) ∥₁
+    pub leaves : Stays ⊎ (∥ IsFilledSome (g.bytes store) limit more (g.bytes after) ∥₁)
+    pub whole : answer ≢ Device → Stays ⊎ (∥ IsFilledWhole (g.bytes store) limit more (g.bytes after) ∥₁)
+    pub unprinted : (Rose (g.failures store) (g.failures after) → ⊥)
+        → Stays ⊎ (∥ IsFilledWhole (g.bytes store) limit more (g.bytes after) ∥₁)
+    pub holds_some : (places : List Place) (d : Dataset) → IsDataset d → HoldsAll (g.bytes store) limit places d
+        → ∥ HoldsSome (g.bytes after) limit places d more ∥₁
+    pub refused : (Passes (g.bytes store) limit → ⊥) → Stays
+
+  -- what a stop at any moment of it might have left, where its bytes are told
+  pub record LeavesAtStop (limit more : ℕ) : Type 0 where
+    pub any_moment : Only (g.bytes store) (g.images store) → (places : List Place) (d : Dataset) → IsDataset d
+        → HoldsAll (g.bytes store) limit places d
+        → LeavesOnly g.moment g.images_since store after (λ c. ∥ HoldsSome c limit places d more ∥₁)
+    pub whatever_was_pending : (places : List Place) (d : Dataset) → IsDataset d
+        → HoldsAll (g.bytes store) limit places d → LeavesOnly g.moment g.images_since store after
+        (λ c. g.images store c ⊎ (∥ HoldsSome c limit places d more ∥₁))
+
+  -- whether anything is pending after it, and when it writes nothing
+  pub record Settles (more : ℕ) (answer : Answer) : Type 0 where
+    pub durable : Only (g.bytes store) (g.images store) → answer ≡ Passed → Only (g.bytes after) (g.images after)
+    pub settled : 0 < more → answer ≡ Passed → Only (g.bytes after) (g.images after)
+    pub rest : answer ≢ Device → Stays ⊎ Only (g.bytes after) (g.images after)
+    pub none : more ≡ 0 → Stays
+    pub memory : answer ≡ Memory → Stays
+
+  -- The calls that it makes and how far they read, where its bytes are told, and so many are enough for a check. Where a
+  -- record was refused for want of room, they are those for the records that were added.
+  pub record ExtendsByFew (limit more : ℕ) (answer : Answer) (checked : ℕ) : Type 0 where
+    pub most : g.calls after ≤ g.calls store + checked + 4 * more + 2
+    pub none : (more ≡ 0) ⊎ TakesNone (g.bytes store) limit → g.calls after ≤ g.calls store + checked
+    pub untouched : answer ≡ Refused → (Stays × TakesNone (g.bytes store) limit)
+        ⊎ (∥ FillsUp (g.bytes store) limit more (g.bytes after) Stays (g.calls store + checked) (g.calls after) ∥₁)
+    pub reach : (reads : ℕ) → SettledBy (g.bytes store) limit reads → g.reach after ≤ max (g.reach store) (reads * 65536)

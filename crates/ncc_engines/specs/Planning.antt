@@ -31,5 +31,4 @@ PlansInto {T = T} v s n old new (Ok b) = (new ≡ old) × RebuildsAs {T = T} v s
 PlansInto v s n old new (Err Passed) = ⊥
 PlansInto v s n old new (Err Refused) = (f : WriteFault) × IsAgainst v s n f × Puts old new (plan_line f)
 PlansInto v s n old new (Err Device) = (f : WriteFault) × IsAgainst v s n f × PutsFront old new (plan_line f)
-PlansInto v s n old new (Err Memory) =
-    (new ≡ old) ⊎ ((f : WriteFault) × IsAgainst v s n f × PutsFront old new (plan_line f))
+PlansInto v s n old new (Err Memory) = new ≡ old

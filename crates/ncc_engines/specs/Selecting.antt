@@ -1,6 +1,7 @@
 -- What the csv engine writes.
-use Rattle.std.specs.Prelude.{◌≡◌, ◌⊎◌, ℕ, Bool, true, false, Option, Some, None, Result, Ok, Err, List, [], length, get_or}
+use Rattle.std.specs.Prelude.{◌≡◌, ◌⊎◌, ◌+◌, ◌*◌, ◌≤◌, max, ℕ, Bool, true, false, Option, Some, None, Result, Ok, Err, List, [], length, get_or}
 use Rattle.ncc_values.specs.XType.{size_of}
+use Rattle.ncc_store.specs.declared.store.Store.{Ghosts}
 use Rattle.ncc_schema.specs.declared.schema.Header.{Header}
 use Rattle.ncc_schema.specs.declared.schema.Schema.{Schema}
 use Rattle.ncc_schema.specs.Schema.{places_of as placement}
@@ -9,7 +10,8 @@ use Rattle.ncc_layout.specs.Placed.{record_size_of_file, vars_of}
 use Rattle.ncc_layout.specs.Sizes.{record_size_of}
 use Rattle.ncc_layout.specs.declared.placed_file.Placed.{Placed}
 use Rattle.ncc_layout.specs.declared.placed_var.PlacedVar.{PlacedVar}
-use Rattle.ncc_check.specs.Passes.{PassesWith}
+use Rattle.ncc_check.specs.FromStore.{SettledBy}
+use Rattle.ncc_check.specs.Passes.{Passes, PassesWith}
 use Rattle.ncc_lines.specs.declared.halt.Halt.{Halt}
 use Rattle.ncc_lines.specs.declared.style.FloatStyle.{FloatStyle}
 use Rattle.ncc_lines.specs.declared.halt.Halt.TheVariants as halts
@@ -101,3 +103,17 @@ IsCsvText b limit name p style texts Memory text = ⊥
 -- what went out, by the answer
 abbrev pub SelectsInto : (bytes : List ℕ) (limit : ℕ) (name : List ℕ) → Pick → FloatStyle → (texts : Bool) → Answer → (out : List ℕ) → Type 0
 SelectsInto b limit name p style texts answer out = Writes (IsCsvText b limit name p style texts) answer out
+
+-- ---- the calls of a store
+
+-- Where the store tells its bytes, and so many calls are enough for a check: a file that passes takes those for the
+-- values of the selection besides, where it isn't refused; any other file none more, and is read no further.
+pub record SelectsByFew {S : Type 0} (g : Ghosts S) (store after : S) (limit : ℕ) (name : List ℕ) (p : Pick) (checked : ℕ) : Type 0 where
+  pub passed : (h : Header) → PassesWith (g.bytes store) limit h → (number : Option ℕ) → IsFirstNamed h.schema.vars name number
+      → g.calls after ≤ g.calls store + checked + value_calls (contents_of (g.bytes store) h) p number
+  pub refused : (h : Header) → PassesWith (g.bytes store) limit h → (number : Option ℕ) → IsFirstNamed h.schema.vars name number
+      → (fault : SlabFault) → refusal (contents_of (g.bytes store) h) p number ≡ Some fault
+      → g.calls after ≤ g.calls store + checked
+  pub stopped : (Passes (g.bytes store) limit → ⊥) → g.calls after ≤ g.calls store + checked
+  pub stopped_at : (Passes (g.bytes store) limit → ⊥) → (reads : ℕ) → SettledBy (g.bytes store) limit reads
+      → g.reach after ≤ max (g.reach store) (reads * 65536)

@@ -6,7 +6,7 @@ ghost use Rattle.ncc_store.specs.Reading.{ReadsOnly};
 ghost use Rattle.ncc_check.specs.FromStore.{calls_for, ReadsFew};
 ghost use Rattle.ncc_check.specs.Passes.{HasOwnElements};
 ghost use Rattle.ncc_engines.specs.Answers.{Fails};
-ghost use Rattle.ncc_engines.specs.Checking.{verdict, ChecksInto};
+ghost use Rattle.ncc_engines.specs.Checking.{verdict, ChecksInto, IsFaultOf};
 
 use crate::answer::{Answer, answered};
 use ncc_check::{Refusal, Report, check, laws};
@@ -36,6 +36,8 @@ pub fn check_engine<S: Store, W: Sink>(
 ) -> Answer
     ensures checks { IsTrue S.tells_bytes → (out : List ℕ) × Puts (W.put sink.old) (W.put sink.new) out
         × ChecksInto (S.bytes store.old) limit strict result out }
+    ensures memory { IsTrue S.tells_bytes → (text : List ℕ) → IsFaultOf (S.bytes store.old) limit text
+        → result ≡ Answer.Memory → sink.new ≡ sink.old }
     ensures own { IsTrue S.tells_bytes → result ≡ Answer.Passed → HasOwnElements (S.bytes store.old) limit }
     ensures store { ReadsOnly S.Store store.old store.new (Fails W.Sink sink.old sink.new result) S.tells_bytes
         (calls_for (length (S.bytes store.old)) limit) limit }
@@ -45,9 +47,7 @@ pub fn check_engine<S: Store, W: Sink>(
     laws::one_report();
     match check(alloc, store, limit) {
         Ok(report) => answered(send_report(alloc, &report, sink), judged(strict, &report)),
-        Err(Refusal::Fault(fault)) => {
-            answered(send_file_fault(alloc, fault, sink), Answer::Refused)
-        }
+        Err(Refusal::Fault(fault)) => answered(send_file_fault(fault, sink), Answer::Refused),
         Err(Refusal::Device) => Answer::Device,
         Err(Refusal::Memory) => Answer::Memory,
     }

@@ -1,6 +1,6 @@
 //! `extend`: records of fill values after those that a file has.
 
-ghost use Rattle.std.specs.Prelude.{◌≡◌, ◌≢◌, ◌⊎◌, ◌+◌, ◌*◌, ◌<◌, ◌≤◌, max, ℕ, List, length, Err, IsTrue, true};
+ghost use Rattle.std.specs.Prelude.{◌≡◌, ◌⊎◌, ◌+◌, ◌<◌, ◌≤◌, max, ℕ, List, Err, IsTrue, true};
 ghost use Rattle.ncc_schema.specs.Device.{Puts};
 ghost use Rattle.ncc_schema.specs.Schema.{Place};
 ghost use Rattle.ncc_schema.specs.declared.schema.Schema.{Schema};
@@ -9,18 +9,16 @@ ghost use Rattle.ncc_layout.specs.Plans.{IsKnown};
 ghost use Rattle.ncc_check.specs.Checks.{Opens};
 ghost use Rattle.ncc_store.specs.Store.{LeavesOnly, Only, Unmoved};
 ghost use Rattle.ncc_values.specs.Failures.{Rose};
-ghost use Rattle.ncc_check.specs.FromStore.{calls_for};
-ghost use Rattle.ncc_check.specs.Passes.{Passes};
 ghost use Rattle.ncc_check.specs.declared.append_error.AppendError.TheVariants as AppendError;
 ghost use Rattle.ncc_build.specs.Dataset.{Dataset, IsDataset};
 ghost use Rattle.ncc_write.specs.Additions.{HoldsAll};
 ghost use Rattle.ncc_write.specs.Extends.{HoldsSome, with_fills};
-ghost use Rattle.ncc_engines.specs.Answers.{Fails};
-ghost use Rattle.ncc_engines.specs.Extending.{ExtendsInto, IsFilled, FillsUp, IsFilledSome, IsFilledWhole, IsFrontOfRefusal, TakesNone, Tells};
+ghost use Rattle.ncc_engines.specs.Answers.{ChecksBy, Fails};
+ghost use Rattle.ncc_engines.specs.Extending.{ExtendsByFew, ExtendsInto, IsFilled, IsFrontOfRefusal, LeavesAtStop, LeavesBytes, Settles, Tells};
 
 use crate::answer::{Answer, answered};
 use ncc_check::laws::appending::opens_as_one;
-use ncc_check::{AppendError, NcFile, Refusal, laws as check_laws, open};
+use ncc_check::{AppendError, Refusal, laws as check_laws, open};
 use ncc_header::Sink;
 use ncc_lines::{send_append_refusal, send_file_fault, send_records};
 use ncc_store::{FileStore, Store, SystemFile};
@@ -37,6 +35,7 @@ fn tell<W: Sink>(extended: Result<(), AppendError>, records: u64, sink: &mut W) 
         → (extended ≡ Err AppendError.Device) ⊎ Rose (W.failures sink.old) (W.failures sink.new) }
     ensures told { extended ≡ Err AppendError.Device → result ≡ Answer.Device }
     ensures memory { result ≡ Answer.Memory → extended ≡ Err AppendError.Memory }
+    ensures untold { result ≡ Answer.Memory → sink.new ≡ sink.old }
 {
     match extended {
         Ok(()) => answered(send_records(records, sink), Answer::Passed),
@@ -70,52 +69,16 @@ pub fn extend_engine<S: Store, W: Sink>(
     ensures counted { IsTrue S.tells_bytes → (out : List ℕ) × Puts (W.put sink.old) (W.put sink.new) out
         × (IsFrontOfRefusal (S.bytes store) limit more out
         ⊎ (∥ IsFilled (S.bytes store) limit more (S.bytes result.0) ∥₁)) }
-    ensures holds { IsTrue S.tells_bytes → result.1 ≡ Answer.Passed → (places : List Place) (d : Dataset)
-        → IsDataset d → HoldsAll (S.bytes store) limit places d
-        → ∥ HoldsAll (S.bytes result.0) limit places (with_fills d more) ∥₁ }
-    ensures bytes { IsTrue S.tells_bytes → result.1 ≡ Answer.Passed
-        → ∥ IsFilled (S.bytes store) limit more (S.bytes result.0) ∥₁ }
-    ensures untouched { IsTrue S.tells_bytes → result.1 ≡ Answer.Refused
-        → (Unmoved S.bytes S.images S.moment S.images_since store result.0 × TakesNone (S.bytes store) limit)
-        ⊎ (∥ FillsUp (S.bytes store) limit more (S.bytes result.0)
-        (Unmoved S.bytes S.images S.moment S.images_since store result.0)
-        (S.calls store + calls_for (length (S.bytes store)) limit) (S.calls result.0) ∥₁) }
-    ensures leaves { IsTrue S.tells_bytes
-        → Unmoved S.bytes S.images S.moment S.images_since store result.0
-        ⊎ (∥ IsFilledSome (S.bytes store) limit more (S.bytes result.0) ∥₁) }
-    ensures whole { IsTrue S.tells_bytes → result.1 ≢ Answer.Device
-        → Unmoved S.bytes S.images S.moment S.images_since store result.0
-        ⊎ (∥ IsFilledWhole (S.bytes store) limit more (S.bytes result.0) ∥₁) }
-    ensures unprinted { IsTrue S.tells_bytes → (Rose (S.failures store) (S.failures result.0) → ⊥)
-        → Unmoved S.bytes S.images S.moment S.images_since store result.0
-        ⊎ (∥ IsFilledWhole (S.bytes store) limit more (S.bytes result.0) ∥₁) }
-    ensures holds_some { IsTrue S.tells_bytes → (places : List Place) (d : Dataset)
-        → IsDataset d → HoldsAll (S.bytes store) limit places d
-        → ∥ HoldsSome (S.bytes result.0) limit places d more ∥₁ }
-    ensures any_moment { IsTrue S.tells_bytes → Only (S.bytes store) (S.images store)
-        → (places : List Place) (d : Dataset) → IsDataset d → HoldsAll (S.bytes store) limit places d
-        → LeavesOnly S.moment S.images_since store result.0 (λ c. ∥ HoldsSome c limit places d more ∥₁) }
-    ensures whatever_was_pending { IsTrue S.tells_bytes
-        → (places : List Place) (d : Dataset) → IsDataset d → HoldsAll (S.bytes store) limit places d
-        → LeavesOnly S.moment S.images_since store result.0
-        (λ c. S.images store c ⊎ (∥ HoldsSome c limit places d more ∥₁)) }
+    ensures bytes { IsTrue S.tells_bytes → LeavesBytes S.Store store result.0 limit more result.1 }
+    ensures stop { IsTrue S.tells_bytes → LeavesAtStop S.Store store result.0 limit more }
+    ensures settles { Settles S.Store store result.0 more result.1 }
     ensures dataset { IsTrue S.tells_bytes → (s : Schema) (p : Placed) → Opens (S.bytes store) limit s p
         → IsKnown s.count → (places : List Place) × (d : Dataset) × IsDataset d
         × HoldsAll (S.bytes store) limit places d }
-    ensures durable { Only (S.bytes store) (S.images store) → result.1 ≡ Answer.Passed
-        → Only (S.bytes result.0) (S.images result.0) }
-    ensures memory { result.1 ≡ Answer.Memory → Unmoved S.bytes S.images S.moment S.images_since store result.0 }
-    ensures settled { 0 < more → result.1 ≡ Answer.Passed → Only (S.bytes result.0) (S.images result.0) }
-    ensures rest { result.1 ≢ Answer.Device → Unmoved S.bytes S.images S.moment S.images_since store result.0
-        ⊎ Only (S.bytes result.0) (S.images result.0) }
-    ensures none { more ≡ 0 → Unmoved S.bytes S.images S.moment S.images_since store result.0 }
-    ensures refused { IsTrue S.tells_bytes → (Passes (S.bytes store) limit → ⊥)
-        → Unmoved S.bytes S.images S.moment S.images_since store result.0 }
     ensures fails { Fails W.Sink sink.old sink.new result.1 (S.failures store) (S.failures result.0) }
-    ensures calls { IsTrue S.tells_bytes
-        → S.calls result.0 ≤ S.calls store + calls_for (length (S.bytes store)) limit + 4 * more + 2 }
-    ensures calls_none { IsTrue S.tells_bytes → (more ≡ 0) ⊎ TakesNone (S.bytes store) limit
-        → S.calls result.0 ≤ S.calls store + calls_for (length (S.bytes store)) limit }
+    ensures calls { IsTrue S.tells_bytes → (checked : ℕ) → ChecksBy (S.bytes store) limit checked
+        → ExtendsByFew S.Store store result.0 limit more result.1 checked }
+    ensures memory { result.1 ≡ Answer.Memory → sink.new ≡ sink.old }
     ensures reach { S.reach result.0 ≤ max (S.reach store) limit }
 {
     check_laws::passing_has_no_fault();
@@ -133,7 +96,7 @@ pub fn extend_engine<S: Store, W: Sink>(
             Refusal::Fault(fault) => {
                 (
                     store,
-                    answered(send_file_fault(alloc, fault, sink), Answer::Refused),
+                    answered(send_file_fault(fault, sink), Answer::Refused),
                 )
             }
             Refusal::Device => (store, Answer::Device),
@@ -179,6 +142,7 @@ pub fn extend_file<F: SystemFile + Drop, W: Sink>(
     ensures none { more ≡ 0 → Unmoved F.bytes F.images F.moment F.images_since file result.0 }
     ensures durable { 0 < more → result.1 ≡ Answer.Passed → Only (F.bytes result.0) (F.images result.0) }
     ensures quiet { (result.1 ≡ Answer.Device → ⊥) → W.failures sink.new ≡ W.failures sink.old }
+    ensures untold { result.1 ≡ Answer.Memory → sink.new ≡ sink.old }
 {
     passing_file_holds_a_dataset();
     let (store, answer) = extend_engine(alloc, FileStore::over(file, more > 0), limit, more, sink);

@@ -1,13 +1,13 @@
 //! `list`: what the header alone says.
 
-ghost use Rattle.std.specs.Prelude.{◌≡◌, ◌+◌, ◌≤◌, ℕ, List, length, IfSome, IsTrue};
+ghost use Rattle.std.specs.Prelude.{◌≡◌, ◌+◌, ◌≤◌, ℕ, List, length, Some, IfSome, IsTrue};
 ghost use Rattle.ncc_schema.specs.Device.{LosesAtMost, Puts};
 ghost use Rattle.ncc_store.specs.Reading.{ReadsOnly};
 ghost use Rattle.ncc_check.specs.FromStore.{calls_for, ReadsFew};
 ghost use Rattle.ncc_schema.specs.declared.schema.Header.{Header as TheHeader};
 ghost use Rattle.ncc_header.specs.Answers.{Begins, IsLeft};
 ghost use Rattle.ncc_engines.specs.Answers.{Fails};
-ghost use Rattle.ncc_engines.specs.Listing.{Lists};
+ghost use Rattle.ncc_engines.specs.Listing.{IsFaultOf, Lists};
 
 use crate::answer::{Answer, answered};
 use ncc_check::{Refusal, header_in};
@@ -28,6 +28,8 @@ pub fn list_engine<R: Source, W: Sink>(
 ) -> Answer
     ensures lists { IfSome (R.left source.old) (λ input. (out : List ℕ)
         × Puts (W.put sink.old) (W.put sink.new) out × Lists input limit style result out) }
+    ensures memory { (input text : List ℕ) → R.left source.old ≡ Some input → IsFaultOf input limit text
+        → result ≡ Answer.Memory → sink.new ≡ sink.old }
     ensures exactly { result ≡ Answer.Passed → IfSome (R.left source.old) (λ input.
         (h : TheHeader) × Begins input limit h × IsLeft (R.left source.new) input h) }
     ensures most { LosesAtMost (R.left source.old) (R.left source.new) limit }
@@ -36,7 +38,7 @@ pub fn list_engine<R: Source, W: Sink>(
     laws::header_or_stop();
     match read_header(alloc, source, limit) {
         Ok(header) => answered(send_header(alloc, &header, style, sink), Answer::Passed),
-        Err(HeaderError::Fault(fault)) => answered(send_fault(alloc, fault, sink), Answer::Refused),
+        Err(HeaderError::Fault(fault)) => answered(send_fault(fault, sink), Answer::Refused),
         Err(HeaderError::Device) => Answer::Device,
         Err(HeaderError::Memory) => Answer::Memory,
     }
@@ -53,6 +55,8 @@ pub fn list_store_engine<S: Store, W: Sink>(
 ) -> Answer
     ensures lists { IsTrue S.tells_bytes → (out : List ℕ) × Puts (W.put sink.old) (W.put sink.new) out
         × Lists (S.bytes store.old) limit style result out }
+    ensures memory { IsTrue S.tells_bytes → (text : List ℕ) → IsFaultOf (S.bytes store.old) limit text
+        → result ≡ Answer.Memory → sink.new ≡ sink.old }
     ensures store { ReadsOnly S.Store store.old store.new (Fails W.Sink sink.old sink.new result) S.tells_bytes
         (calls_for (length (S.bytes store.old)) limit) limit }
     ensures settled { IsTrue S.tells_bytes → ReadsFew S.Store store.old store.new (S.bytes store.old) limit 1 }
@@ -60,9 +64,7 @@ pub fn list_store_engine<S: Store, W: Sink>(
     laws::header_or_stop();
     match header_in(alloc, store, limit) {
         Ok(header) => answered(send_header(alloc, &header, style, sink), Answer::Passed),
-        Err(Refusal::Fault(fault)) => {
-            answered(send_file_fault(alloc, fault, sink), Answer::Refused)
-        }
+        Err(Refusal::Fault(fault)) => answered(send_file_fault(fault, sink), Answer::Refused),
         Err(Refusal::Device) => Answer::Device,
         Err(Refusal::Memory) => Answer::Memory,
     }

@@ -29,6 +29,7 @@ pub fn plan<S: Store, W: Sink>(
     ensures still { IfOk result (λ b. sink.new ≡ sink.old) }
     ensures plans { PlansInto version (schema_of file.now) (records_of_file (placed_of file.now))
         (W.put sink.old) (W.put sink.new) result }
+    ensures memory { result ≡ Err Answer.Memory → sink.new ≡ sink.old }
     ensures quiet { (result ≡ Err Answer.Device → ⊥) → W.failures sink.new ≡ W.failures sink.old }
     ensures device { result ≡ Err Answer.Device → Rose (W.failures sink.old) (W.failures sink.new) }
 {
@@ -39,5 +40,5 @@ pub fn plan<S: Store, W: Sink>(
     if fault == WriteFault::Memory {
         return Err(Answer::Memory);
     }
-    Err(answered(send_plan_refusal(alloc, fault, sink), Answer::Refused))
+    Err(answered(send_plan_refusal(fault, sink), Answer::Refused))
 }

@@ -1,17 +1,16 @@
 //! `csv`: the names and rows of a selection.
 
-ghost use Rattle.std.specs.Prelude.{◌≡◌, ◌+◌, ◌≤◌, ℕ, Bool, Option, List, length, IsTrue};
+ghost use Rattle.std.specs.Prelude.{◌≡◌, ◌+◌, ◌≤◌, ℕ, Bool, Option, Some, List, IsTrue};
 ghost use Rattle.ncc_schema.specs.Device.{Puts};
-ghost use Rattle.ncc_schema.specs.declared.schema.Header.{Header};
 ghost use Rattle.ncc_store.specs.Reading.{Rests};
 ghost use Rattle.ncc_check.specs.Files.{store_of, schema_of, placed_of};
-ghost use Rattle.ncc_check.specs.FromStore.{calls_for};
-ghost use Rattle.ncc_check.specs.Passes.{Passes, PassesWith, HasOwnElements};
+ghost use Rattle.ncc_check.specs.Passes.{HasOwnElements};
 ghost use Rattle.ncc_csv.specs.Named.{IsFirstNamed};
-ghost use Rattle.ncc_engines.specs.Answers.{Blames, Writes};
-ghost use Rattle.ncc_engines.specs.Selecting.{contents_in, contents_of, value_calls, sheet_answer, IsCsvText, IsSelection, SelectsInto};
+ghost use Rattle.ncc_engines.specs.Answers.{Blames, ChecksBy, Writes};
+ghost use Rattle.ncc_engines.specs.Selecting.{contents_in, refusal, value_calls, sheet_answer, IsCsvText, IsSelection, SelectsByFew, SelectsInto};
 ghost use Rattle.ncc_engines.specs.declared.answer.Answer.{Answer as GivenAnswer};
 ghost use Rattle.ncc_csv.specs.declared.pick.Pick.{Pick as GivenPick};
+ghost use Rattle.ncc_slab.specs.declared.fault.SlabFault.{SlabFault as GivenFault};
 ghost use Rattle.ncc_lines.specs.declared.style.FloatStyle.{FloatStyle as GivenStyle};
 
 use crate::answer::{Answer, answered};
@@ -61,19 +60,22 @@ fn select<S: Store, W: Sink, P: Progress>(
         (IsSelection (contents_in (S.bytes (store_of file.old)) (schema_of file.old) (placed_of file.old))
         name.now pick style texts)
         result out }
+    ensures memory { (text : List ℕ) → IsSelection
+        (contents_in (S.bytes (store_of file.old)) (schema_of file.old) (placed_of file.old))
+        name.now pick style texts Answer.Refused text → result ≡ Answer.Memory → sink.new ≡ sink.old }
     ensures rests { Rests S.Store (store_of file.old) (store_of file.new)
         (Blames W.Sink sink.old sink.new result) }
     ensures calls { (number : Option ℕ) → IsFirstNamed (schema_of file.old).vars name.now number
         → S.calls (store_of file.new) ≤ S.calls (store_of file.old) + value_calls
         (contents_in (S.bytes (store_of file.old)) (schema_of file.old) (placed_of file.old)) pick number }
+    ensures refused { (number : Option ℕ) → IsFirstNamed (schema_of file.old).vars name.now number
+        → (fault : GivenFault) → refusal (contents_in (S.bytes (store_of file.old)) (schema_of file.old)
+        (placed_of file.old)) pick number ≡ Some fault → store_of file.new ≡ store_of file.old }
 {
     check_laws::open_file_places_all(file);
     csv_laws::pick_fault_is_shape_fault();
     let Some(var) = var_named(file.schema().vars.as_slice(), name) else {
-        return answered(
-            send_refusal(alloc, SlabFault::NoVariable, sink),
-            Answer::Refused,
-        );
+        return answered(send_refusal(SlabFault::NoVariable, sink), Answer::Refused);
     };
     match pick.slab(alloc, file.placed().shape(var)) {
         Ok(slab) => told(send_sheet(alloc, file, var, &slab, style, texts, sink, progress)),
@@ -81,7 +83,7 @@ fn select<S: Store, W: Sink, P: Progress>(
             if fault == SlabFault::Memory {
                 return Answer::Memory;
             }
-            answered(send_refusal(alloc, fault, sink), Answer::Refused)
+            answered(send_refusal(fault, sink), Answer::Refused)
         }
     }
 }
@@ -102,13 +104,13 @@ pub fn csv_engine<S: Store, W: Sink, P: Progress>(
 ) -> (S, Answer)
     ensures selects { IsTrue S.tells_bytes → (out : List ℕ) × Puts (W.put sink.old) (W.put sink.new) out
         × SelectsInto (S.bytes store) limit name.now pick style texts result.1 out }
+    ensures memory { IsTrue S.tells_bytes → (text : List ℕ)
+        → IsCsvText (S.bytes store) limit name.now pick style texts Answer.Refused text
+        → result.1 ≡ Answer.Memory → sink.new ≡ sink.old }
     ensures own { IsTrue S.tells_bytes → result.1 ≡ Answer.Passed → HasOwnElements (S.bytes store) limit }
     ensures rests { Rests S.Store store result.0 (Blames W.Sink sink.old sink.new result.1) }
-    ensures calls { IsTrue S.tells_bytes → (h : Header) → PassesWith (S.bytes store) limit h
-        → (number : Option ℕ) → IsFirstNamed h.schema.vars name.now number → S.calls result.0 ≤ S.calls store
-        + calls_for (length (S.bytes store)) limit + value_calls (contents_of (S.bytes store) h) pick number }
-    ensures stopped { IsTrue S.tells_bytes → (Passes (S.bytes store) limit → ⊥)
-        → S.calls result.0 ≤ S.calls store + calls_for (length (S.bytes store)) limit }
+    ensures calls { IsTrue S.tells_bytes → (checked : ℕ) → ChecksBy (S.bytes store) limit checked
+        → SelectsByFew S.Store store result.0 limit name.now pick checked }
 {
     check_laws::passing_has_no_fault();
     header_or_stop();
@@ -123,7 +125,7 @@ pub fn csv_engine<S: Store, W: Sink, P: Progress>(
             Refusal::Fault(fault) => {
                 (
                     store,
-                    answered(send_file_fault(alloc, fault, sink), Answer::Refused),
+                    answered(send_file_fault(fault, sink), Answer::Refused),
                 )
             }
             Refusal::Device => (store, Answer::Device),

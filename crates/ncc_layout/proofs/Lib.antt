@@ -11,6 +11,7 @@ mod Sharing
 mod Indexing
 mod TestsOfRules
 pub mod LeastBegins
+mod EitherFault
 mod FirstFaults
 mod Laying
 mod OneFault

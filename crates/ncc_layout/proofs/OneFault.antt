@@ -22,7 +22,7 @@ use Rattle.ncc_layout.proofs.StandardPlaces.{record_sum_first}
 
 -- ---- the first for which a rule fails
 
-fails_not_all : {A : Type 0} (rule : A → Type 0) (items : List A) (n : ℕ) → FailsFirst rule items n → AllByRecursion rule items → ⊥
+pub fails_not_all : {A : Type 0} (rule : A → Type 0) (items : List A) (n : ℕ) → FailsFirst rule items n → AllByRecursion rule items → ⊥
 fails_not_all rule [] n h all = absurd h
 fails_not_all rule (a ∷ items) zero h all = h all.0
 fails_not_all rule (a ∷ items) (suc n) h all = fails_not_all rule items n h.1 all.1
@@ -67,7 +67,7 @@ pub not_before_itself : (x : Extent) → Before x x → ⊥
 not_before_itself x (inl l) = omega (arith, l)
 not_before_itself x (inr l) = omega (arith, l.1)
 
-order : (x y : Extent) → Before x y ⊎ (Before y x ⊎ (x.variable ≡ y.variable))
+pub order : (x y : Extent) → Before x y ⊎ (Before y x ⊎ (x.variable ≡ y.variable))
 order x y = by_begin (cases_lt x.begin y.begin) (cases_lt y.begin x.begin) (cases_lt x.variable y.variable) (cases_lt y.variable x.variable)
   where
     by_begin : (x.begin < y.begin) ⊎ (y.begin ≤ x.begin) → (y.begin < x.begin) ⊎ (x.begin ≤ y.begin) → (x.variable < y.variable) ⊎ (y.variable ≤ x.variable) → (y.variable < x.variable) ⊎ (x.variable ≤ y.variable)

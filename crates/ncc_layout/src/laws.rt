@@ -1,6 +1,6 @@
 //! What the layout rules say of elements and of faults, whatever program judges them.
 
-ghost use Rattle.std.specs.Prelude.{◌≡◌, ℕ, ◌+◌, ◌*◌, ◌<◌, ◌≤◌, ◌↔◌, List, length, true, Contains, IsPermutation, if◌then◌else◌};
+ghost use Rattle.std.specs.Prelude.{◌≡◌, ◌⊎◌, ℕ, ◌+◌, ◌*◌, ◌<◌, ◌≤◌, ◌↔◌, List, length, true, Contains, IsPermutation, if◌then◌else◌};
 ghost use Rattle.std.specs.List.{AllByRecursion};
 ghost use Rattle.ncc_values.specs.XType.{size_of};
 ghost use Rattle.ncc_schema.specs.declared.schema.Count.TheVariants.{Known};
@@ -49,9 +49,11 @@ pub fn placed_elements_are_apart()
         → IsPlaced s places header file → Own header file (record_size_of s) (placed_vars s places file) }
 {}
 
-/// Where all layout rules hold, there is no fault.
+/// All layout rules hold, or one of them fails first, and never both.
 pub fn placed_or_fault()
-    ensures { (s : Schema) (places : List Place) (header file : ℕ) (kind : LayoutFaultKind) (number : ℕ)
+    ensures either { (s : Schema) (places : List Place) (header file : ℕ) → IsPlaced s places header file
+        ⊎ ((kind : LayoutFaultKind) × (number : ℕ) × FirstFault s places header file kind number) }
+    ensures apart { (s : Schema) (places : List Place) (header file : ℕ) (kind : LayoutFaultKind) (number : ℕ)
         → IsPlaced s places header file → FirstFault s places header file kind number → ⊥ }
 {}
 

@@ -1,7 +1,7 @@
 //! The line of a record that isn't added, and that of how many there are. Neither takes memory: by then records may
 //! be there.
 
-ghost use Rattle.std.specs.Prelude.{◌≡◌, ◌≢◌, ◌++◌, codes, decimal, Err, OnOk};
+ghost use Rattle.std.specs.Prelude.{◌≢◌, Err};
 ghost use Rattle.ncc_values.specs.Failures.{Counts};
 ghost use Rattle.ncc_schema.specs.Device.{WritesAll};
 ghost use Rattle.ncc_lines.specs.Refusals.{IsLineOf, append_line};
@@ -10,38 +10,9 @@ ghost use Rattle.ncc_lines.specs.Texts.{records_line};
 ghost use Rattle.ncc_schema.specs.declared.schema.Count.TheVariants.{Known};
 
 use crate::halt::Halt;
-use crate::texts::push_decimal;
-use itoa::Buffer;
+use crate::putting::put_numbered;
 use ncc_check::AppendError;
 use ncc_header::{Failed, Sink, write_all};
-use std::alloc::AllocError;
-
-/// Adds a word, which ends with a space, and a number.
-pub fn push_numbered(out: &mut Vec<u8>, word: &str, number: usize) -> Result<(), AllocError>
-    ensures { OnOk result (out.new.items ≡ out.old.items ++ (word.now ++ decimal number)) }
-{
-    out.extend_from_slice(word.as_bytes())?;
-    push_decimal(out, number as u64)
-}
-
-/// Puts out a number and a line feed.
-fn put_number<W: Sink>(number: u64, sink: &mut W) -> Result<(), Failed>
-    ensures bytes { WritesAll (W.put sink.old) (W.put sink.new) result (decimal number ++ codes "\n") }
-    ensures count { Counts (W.failures sink.old) (W.failures sink.new) result }
-{
-    let mut buffer = Buffer::new();
-    write_all(sink, buffer.format(number).as_bytes())?;
-    write_all(sink, b"\n")
-}
-
-/// Puts out a word, a number and a line feed.
-fn put_numbered<W: Sink>(word: &[u8], number: u64, sink: &mut W) -> Result<(), Failed>
-    ensures bytes { WritesAll (W.put sink.old) (W.put sink.new) result (word.now ++ (decimal number ++ codes "\n")) }
-    ensures count { Counts (W.failures sink.old) (W.failures sink.new) result }
-{
-    write_all(sink, word)?;
-    put_number(number, sink)
-}
 
 /// The line of a refusal; of `WrongValues` what stands before its number.
 fn line_of(error: AppendError) -> &'static [u8]

@@ -1,5 +1,6 @@
 //! Sending the lines of a command whole.
 
+ghost use Rattle.std.specs.Prelude.{◌≢◌, Err};
 ghost use Rattle.ncc_lines.specs.Texts.{list_text, fault_line};
 ghost use Rattle.ncc_lines.specs.Verdicts.{report_text, file_fault_line};
 ghost use Rattle.ncc_lines.specs.Sends.{SendsAll, Blames};
@@ -8,10 +9,10 @@ use crate::halt::Halt;
 use crate::page::send_page;
 use crate::sections::send_list;
 use crate::style::FloatStyle;
-use crate::texts::push_fault;
-use crate::verdict::{push_file_fault, send_verdict};
+use crate::texts::put_fault;
+use crate::verdict::{put_file_fault, send_verdict};
 use ncc_check::{FileFault, Report};
-use ncc_header::{Fault, Header, Sink, write_all};
+use ncc_header::{Fault, Header, Sink};
 use std::alloc::Global;
 
 /// Sends all lines of a header, with its floats in this style, by one page that is used again. After an `Err` a front
@@ -30,14 +31,13 @@ pub fn send_header<W: Sink>(
     send_page(&mut page, sink)
 }
 
-/// Sends the line of a header's fault. After an `Err` a front of it is sent.
-pub fn send_fault<W: Sink>(alloc: Global, fault: Fault, sink: &mut W) -> Result<(), Halt>
+/// Sends the line of a header's fault, and takes no memory. After an `Err` a front of it is sent.
+pub fn send_fault<W: Sink>(fault: Fault, sink: &mut W) -> Result<(), Halt>
     ensures sent { SendsAll (W.put sink.old) (W.put sink.new) (fault_line fault) result }
     ensures count { Blames (W.failures sink.old) (W.failures sink.new) result }
+    ensures never { result ≢ Err Halt.Memory }
 {
-    let mut line = Vec::new(alloc);
-    push_fault(&mut line, fault)?;
-    write_all(sink, &line)?;
+    put_fault(fault, sink)?;
     Ok(())
 }
 
@@ -51,13 +51,12 @@ pub fn send_report<W: Sink>(alloc: Global, report: &Report, sink: &mut W) -> Res
     send_page(&mut page, sink)
 }
 
-/// Sends the line of a file's fault. After an `Err` a front of it is sent.
-pub fn send_file_fault<W: Sink>(alloc: Global, fault: FileFault, sink: &mut W) -> Result<(), Halt>
+/// Sends the line of a file's fault, and takes no memory. After an `Err` a front of it is sent.
+pub fn send_file_fault<W: Sink>(fault: FileFault, sink: &mut W) -> Result<(), Halt>
     ensures sent { SendsAll (W.put sink.old) (W.put sink.new) (file_fault_line fault) result }
     ensures count { Blames (W.failures sink.old) (W.failures sink.new) result }
+    ensures never { result ≢ Err Halt.Memory }
 {
-    let mut line = Vec::new(alloc);
-    push_file_fault(&mut line, fault)?;
-    write_all(sink, &line)?;
+    put_file_fault(fault, sink)?;
     Ok(())
 }

@@ -1,10 +1,13 @@
 //! The lines that are printed.
 
 ghost use Rattle.std.specs.Prelude.{◌≡◌, ◌++◌, decimal, OnOk};
+ghost use Rattle.ncc_values.specs.Failures.{Counts};
+ghost use Rattle.ncc_schema.specs.Device.{WritesAll};
 ghost use Rattle.ncc_lines.specs.Texts.{version_text, format_line, records_line, head_lines, length_text, dim_start, dim_end, fault_word, at_line, fault_line};
 
+use crate::putting::put_at;
 use itoa::Buffer;
-use ncc_header::{Count, Fault, FaultKind, Schema, Version};
+use ncc_header::{Count, Failed, Fault, FaultKind, Schema, Sink, Version};
 use std::alloc::AllocError;
 
 pub fn push_decimal(out: &mut Vec<u8>, n: u64) -> Result<(), AllocError>
@@ -128,9 +131,10 @@ pub fn push_at(out: &mut Vec<u8>, head: &[u8], word: &str, offset: u64) -> Resul
     Ok(())
 }
 
-/// Adds the line of a fault.
-pub fn push_fault(out: &mut Vec<u8>, fault: Fault) -> Result<(), AllocError>
-    ensures { OnOk result (out.new.items ≡ out.old.items ++ fault_line fault) }
+/// Puts out the line of a fault.
+pub fn put_fault<W: Sink>(fault: Fault, sink: &mut W) -> Result<(), Failed>
+    ensures bytes { WritesAll (W.put sink.old) (W.put sink.new) result (fault_line fault) }
+    ensures count { Counts (W.failures sink.old) (W.failures sink.new) result }
 {
-    push_at(out, b"fault ", kind_word(fault.kind), fault.offset)
+    put_at(b"fault ", kind_word(fault.kind), fault.offset, sink)
 }

@@ -2,14 +2,17 @@
 
 ghost use Rattle.std.specs.Prelude.{◌≡◌, ◌++◌, OnOk};
 ghost use Rattle.std.specs.List.{flat_map};
+ghost use Rattle.ncc_values.specs.Failures.{Counts};
+ghost use Rattle.ncc_schema.specs.Device.{WritesAll};
 ghost use Rattle.ncc_lines.specs.Verdicts.{ok_line, note_word, note_line, layout_word, report_text, file_fault_line};
 ghost use Rattle.ncc_lines.specs.Sends.{Sends, Blames};
 
 use crate::halt::Halt;
 use crate::page::turn_page;
-use crate::texts::{push_at, push_decimal, push_fault, version_word};
+use crate::putting::put_at;
+use crate::texts::{push_at, push_decimal, put_fault, version_word};
 use ncc_check::{FileFault, Note, NoteKind, Report};
-use ncc_header::Sink;
+use ncc_header::{Failed, Sink};
 use ncc_layout::LayoutFaultKind;
 use std::alloc::AllocError;
 
@@ -100,12 +103,13 @@ pub fn send_verdict<W: Sink>(report: &Report, page: &mut Vec<u8>, sink: &mut W) 
     send_notes(report.notes.as_slice(), page, sink)
 }
 
-/// Adds the line of a file's fault.
-pub fn push_file_fault(out: &mut Vec<u8>, fault: FileFault) -> Result<(), AllocError>
-    ensures { OnOk result (out.new.items ≡ out.old.items ++ file_fault_line fault) }
+/// Puts out the line of a file's fault.
+pub fn put_file_fault<W: Sink>(fault: FileFault, sink: &mut W) -> Result<(), Failed>
+    ensures bytes { WritesAll (W.put sink.old) (W.put sink.new) result (file_fault_line fault) }
+    ensures count { Counts (W.failures sink.old) (W.failures sink.new) result }
 {
     match fault {
-        FileFault::Header(fault) => push_fault(out, fault),
-        FileFault::Layout(fault) => push_at(out, b"fault ", layout_name(fault.kind), fault.offset),
+        FileFault::Header(fault) => put_fault(fault, sink),
+        FileFault::Layout(fault) => put_at(b"fault ", layout_name(fault.kind), fault.offset, sink),
     }
 }

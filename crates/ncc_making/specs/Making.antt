@@ -6,7 +6,6 @@ use Rattle.ncc_schema.specs.declared.sink.Sink.{Ghosts}
 use Rattle.ncc_schema.specs.declared.schema.Schema.{Schema}
 use Rattle.ncc_layout.specs.declared.placed_file.Placed.{Placed}
 use Rattle.ncc_check.specs.Checks.{Opens}
-use Rattle.ncc_check.specs.FromStore.{calls_for}
 use Rattle.ncc_build.specs.Dataset.{Dataset, IsDataset, slabs_of, with_version}
 use Rattle.ncc_build.specs.File.{file_of, header_of}
 use Rattle.ncc_write.specs.Planned.{found_schema}
@@ -42,10 +41,9 @@ IsConverted told b limit v made = (s : Schema) × (p : Placed) × Opens b limit 
     × IsFileOf told b p (in_version v s p) made × (IsTrue told → ∥ HasDataset b p (in_version v s p) made ∥₁)
 
 -- the calls of a check, and for a file that passes one for each piece of its slabs
-abbrev pub FewCalls : (bytes : List ℕ) → (limit : ℕ) → Version → (old new : ℕ) → Type 0
-FewCalls b limit v old new = (new ≤ old + calls_for (length b) limit)
-    ⊎ ((s : Schema) × (p : Placed) × Opens b limit s p × (new ≤ old + calls_for (length b) limit
-    + pieces_of (in_version v s p) (slabs_of (in_version v s p))))
+abbrev pub FewCalls : (bytes : List ℕ) → (limit : ℕ) → Version → (checked : ℕ) → (old new : ℕ) → Type 0
+FewCalls b limit v checked old new = (new ≤ old + checked) ⊎ ((s : Schema) × (p : Placed) × Opens b limit s p
+    × (new ≤ old + checked + pieces_of (in_version v s p) (slabs_of (in_version v s p))))
 
 -- which failures an answer tells, of a target and a store with these counts: Device only where one of them rose, and
 -- else none changed

@@ -1,6 +1,6 @@
 //! Converting an open file, or a store, into a new file.
 
-ghost use Rattle.std.specs.Prelude.{◌≡◌, ◌≢◌, ◌⊎◌, ◌+◌, ◌≤◌, max, ℕ, List, Option, None, length, true, IsTrue, IsSome};
+ghost use Rattle.std.specs.Prelude.{◌≡◌, ◌≢◌, ◌⊎◌, ◌+◌, ◌≤◌, max, ℕ, List, Option, length, true, IsTrue, IsSome};
 ghost use Rattle.ncc_values.specs.Failures.{Rose};
 ghost use Rattle.ncc_schema.specs.Device.{Puts};
 ghost use Rattle.ncc_schema.specs.declared.schema.Schema.{Schema};
@@ -8,21 +8,19 @@ ghost use Rattle.ncc_layout.specs.declared.placed_file.Placed.{Placed};
 ghost use Rattle.ncc_store.specs.Reading.{ReadsOnly, Rests as StoreRests};
 ghost use Rattle.ncc_layout.specs.Placed.{file_length_of, records_of_file};
 ghost use Rattle.ncc_check.specs.Checks.{Opens};
-ghost use Rattle.ncc_check.specs.FromStore.{calls_for};
 ghost use Rattle.ncc_check.specs.declared.fault.FileFault.{FileFault};
 ghost use Rattle.ncc_lines.specs.Verdicts.{file_fault_line};
-ghost use Rattle.ncc_build.specs.declared.fault.WriteFault.{WriteFault};
 ghost use Rattle.ncc_build.specs.Builds.{schema_of as planned_schema};
 ghost use Rattle.ncc_build.specs.Dataset.{slabs_of};
 ghost use Rattle.ncc_convert.specs.Copying.{pieces_of};
 ghost use Rattle.ncc_check.specs.Files.{store_of, schema_of, placed_of};
 ghost use Rattle.ncc_write.specs.Planned.{IsPlanned};
-ghost use Rattle.ncc_convert.specs.Lines.{converted_line, plan_line};
-ghost use Rattle.ncc_engines.specs.Converting.{IsRefusalLine, HasConvertedFront, HasRefusalFront};
 ghost use Rattle.ncc_lines.specs.Sends.{PutsFront};
-ghost use Rattle.ncc_engines.specs.Planning.{IsAgainst, IsConvertible, HaltsLine};
-ghost use Rattle.ncc_making.specs.Making.{in_version, IsFileOf, IsConverted, FailsAny, FailsInto, FewCalls};
-ghost use Rattle.ncc_making.specs.Names.{NameElapses, Rests, MayLeave, IsUnnamed, IsNoneOrWhole, IsPublished};
+ghost use Rattle.ncc_engines.specs.Answers.{ChecksBy};
+ghost use Rattle.ncc_engines.specs.Planning.{IsConvertible};
+ghost use Rattle.ncc_making.specs.Making.{in_version, IsFileOf, IsConverted, FailsAny, FailsInto};
+ghost use Rattle.ncc_making.specs.Conversions.{ChecksAndCopies, HasAgainst, IsRefused, Lasts, Leaves, Names, Prints, PrintsPlan, Stops};
+ghost use Rattle.ncc_making.specs.Names.{NameElapses, Rests, MayLeave, IsUnnamed, IsPublished};
 
 use crate::closing::{close, make};
 use crate::entries::Entry;
@@ -95,55 +93,27 @@ fn convert_file<S: Store, T: Target, W: Sink, P: Progress>(
     sink: &mut W,
     progress: &mut P,
 ) -> Answer
-    ensures made { IsTrue T.tells_bytes → result ≡ Answer.Passed
-        → IsFileOf S.tells_bytes (S.bytes (store_of file.old)) (placed_of file.old)
-        (in_version version (schema_of file.old) (placed_of file.old)) (T.named target.new) }
-    ensures durable { result ≡ Answer.Passed
-        → (c : Option (List ℕ)) → T.names target.new c → c ≡ T.named target.new }
-    ensures settled { result ≡ Answer.Passed → IsPublished (T.entries target.new) }
-    ensures unnamed { IsTrue T.tells_bytes → result ≢ Answer.Passed
-        → IsUnnamed (T.named target.old) (T.named target.new) (IsFileOf S.tells_bytes (S.bytes (store_of file.old))
-        (placed_of file.old) (in_version version (schema_of file.old) (placed_of file.old))) (T.entries target.new)
-        ⊎ (Rose (W.failures sink.old) (W.failures sink.new) × IsFileOf S.tells_bytes (S.bytes (store_of file.old))
-        (placed_of file.old) (in_version version (schema_of file.old) (placed_of file.old)) (T.named target.new)) }
-    ensures unprinted { IsTrue T.tells_bytes → result ≡ Answer.Device → ((f : WriteFault)
-        → IsAgainst version (schema_of file.old) (records_of_file (placed_of file.old)) f → ⊥)
-        → (Rose (S.failures (store_of file.old)) (S.failures (store_of file.new)) → ⊥)
-        → (Rose (T.failures target.old) (T.failures target.new) → ⊥)
-        → IsFileOf S.tells_bytes (S.bytes (store_of file.old)) (placed_of file.old)
-        (in_version version (schema_of file.old) (placed_of file.old)) (T.named target.new) }
-    ensures published { result ≡ Answer.Device → ((f : WriteFault)
-        → IsAgainst version (schema_of file.old) (records_of_file (placed_of file.old)) f → ⊥)
-        → (Rose (S.failures (store_of file.old)) (S.failures (store_of file.new)) → ⊥)
-        → (Rose (T.failures target.old) (T.failures target.new) → ⊥) → IsPublished (T.entries target.new)
-        × ((c : Option (List ℕ)) → T.names target.new c → c ≡ T.named target.new) }
+    ensures named { IsTrue T.tells_bytes → Names T.Target target.old target.new
+        (IsFileOf S.tells_bytes (S.bytes (store_of file.old)) (placed_of file.old)
+        (in_version version (schema_of file.old) (placed_of file.old)))
+        (HasAgainst version (schema_of file.old) (records_of_file (placed_of file.old)))
+        (Rose (S.failures (store_of file.old)) (S.failures (store_of file.new)))
+        (Rose (W.failures sink.old) (W.failures sink.new)) result }
+    ensures lasts { Lasts T.Target target.old target.new true
+        (HasAgainst version (schema_of file.old) (records_of_file (placed_of file.old)))
+        (Rose (S.failures (store_of file.old)) (S.failures (store_of file.new))) result }
     ensures names { IsTrue T.tells_bytes → NameElapses T.names T.moment T.names_since target.old target.new
         (MayLeave (T.names target.old) (IsFileOf S.tells_bytes (S.bytes (store_of file.old)) (placed_of file.old)
         (in_version version (schema_of file.old) (placed_of file.old))) (T.entries target.new)) }
-    ensures no_part { (T.entries target.old).part ≢ Entry.Made → (T.entries target.new).part ≢ Entry.Made }
-    ensures no_name { result ≢ Answer.Passed → (T.entries target.old).name ≢ Entry.Made
-        → ((T.entries target.new).name ≢ Entry.Made) ⊎ Rose (W.failures sink.old) (W.failures sink.new) }
+    ensures leaves { Leaves T.Target target.old target.new (Rose (W.failures sink.old) (W.failures sink.new)) result }
     ensures occupied { IsSome (T.named target.old) → (result ≢ Answer.Passed) × (file.new ≡ file.old)
         × Rests T.named T.names T.moment T.names_since T.entries T.makes target.old target.new }
-    ensures unmade { (f : WriteFault) → IsAgainst version (schema_of file.old) (records_of_file (placed_of file.old)) f
+    ensures unmade { HasAgainst version (schema_of file.old) (records_of_file (placed_of file.old))
         → (target.new ≡ target.old) × (file.new ≡ file.old) }
-    ensures spared { result ≡ Answer.Memory → T.named target.new ≡ T.named target.old }
-    ensures once { T.makes target.new ≤ T.makes target.old + 1 }
     ensures convertible { result ≡ Answer.Passed
         → IsConvertible version (schema_of file.old) (records_of_file (placed_of file.old)) }
-    ensures passed { result ≡ Answer.Passed → Puts (W.put sink.old) (W.put sink.new) (converted_line version) }
-    ensures refused { result ≡ Answer.Refused → (f : WriteFault)
-        × IsAgainst version (schema_of file.old) (records_of_file (placed_of file.old)) f
-        × Puts (W.put sink.old) (W.put sink.new) (plan_line f) }
-    ensures order { (f : WriteFault) → IsAgainst version (schema_of file.old) (records_of_file (placed_of file.old)) f
-        → result ≡ Answer.Device → Rose (W.failures sink.old) (W.failures sink.new) }
-    ensures memory { result ≡ Answer.Memory → (W.put sink.new ≡ W.put sink.old) ⊎ ((f : WriteFault)
-        × IsAgainst version (schema_of file.old) (records_of_file (placed_of file.old)) f
-        × PutsFront (W.put sink.old) (W.put sink.new) (plan_line f)) }
-    ensures halted { result ≡ Answer.Device → (W.put sink.new ≡ W.put sink.old) ⊎ HaltsLine version
-        (schema_of file.old) (records_of_file (placed_of file.old)) (W.put sink.old) (W.put sink.new) }
-    ensures printed { result ≡ Answer.Device
-        → (W.put sink.new ≡ W.put sink.old) ⊎ Rose (W.failures sink.old) (W.failures sink.new) }
+    ensures prints { PrintsPlan W.Sink sink.old sink.new version (schema_of file.old)
+        (records_of_file (placed_of file.old)) result }
     ensures store { ReadsOnly S.Store (store_of file.old) (store_of file.new)
         (FailsAny (T.failures target.old) (T.failures target.new) W.Sink sink.old sink.new result) true
         (pieces_of (in_version version (schema_of file.old) (placed_of file.old))
@@ -163,13 +133,14 @@ fn convert_file<S: Store, T: Target, W: Sink, P: Progress>(
 }
 
 /// The line of a file that can't be opened, and what that comes to.
-fn refused<W: Sink>(alloc: Global, refusal: Refusal, sink: &mut W) -> Answer
+fn refused<W: Sink>(refusal: Refusal, sink: &mut W) -> Answer
     ensures passed { result ≢ Answer.Passed }
     ensures quiet { result ≢ Answer.Device → W.failures sink.new ≡ W.failures sink.old }
     ensures device { result ≡ Answer.Device
         → (refusal ≡ Refusal.Device) ⊎ Rose (W.failures sink.old) (W.failures sink.new) }
     ensures store { refusal ≡ Refusal.Device → (result ≡ Answer.Device) × (sink.new ≡ sink.old) }
     ensures memory { refusal ≡ Refusal.Memory → (result ≡ Answer.Memory) × (sink.new ≡ sink.old) }
+    ensures still { result ≡ Answer.Memory → sink.new ≡ sink.old }
     ensures told { result ≡ Answer.Refused → (f : FileFault) × (refusal ≡ Refusal.Fault f)
         × Puts (W.put sink.old) (W.put sink.new) (file_fault_line f) }
     ensures halted { result ≢ Answer.Refused → (W.put sink.new ≡ W.put sink.old) ⊎ ((f : FileFault)
@@ -178,7 +149,7 @@ fn refused<W: Sink>(alloc: Global, refusal: Refusal, sink: &mut W) -> Answer
         → Rose (W.failures sink.old) (W.failures sink.new) }
 {
     match refusal {
-        Refusal::Fault(fault) => answered(send_file_fault(alloc, fault, sink), Answer::Refused),
+        Refusal::Fault(fault) => answered(send_file_fault(fault, sink), Answer::Refused),
         Refusal::Device => Answer::Device,
         Refusal::Memory => Answer::Memory,
     }
@@ -195,61 +166,26 @@ pub fn convert_store<S: Store + Drop, T: Target, W: Sink, P: Progress>(
     sink: &mut W,
     progress: &mut P,
 ) -> (S, Answer)
-    ensures made { IsTrue S.tells_bytes → IsTrue T.tells_bytes → result.1 ≡ Answer.Passed
-        → IsConverted S.tells_bytes (S.bytes store) limit version (T.named target.new) }
-    ensures durable { result.1 ≡ Answer.Passed
-        → (c : Option (List ℕ)) → T.names target.new c → c ≡ T.named target.new }
-    ensures settled { result.1 ≡ Answer.Passed → IsPublished (T.entries target.new) }
-    ensures any_moment { IsTrue S.tells_bytes → IsTrue T.tells_bytes
-        → ((c : Option (List ℕ)) → T.names target.old c → c ≡ None)
-        → (c : Option (List ℕ)) → T.names_since target.new (T.moment target.old) c
-        → IsNoneOrWhole (IsConverted S.tells_bytes (S.bytes store) limit version) (T.entries target.new) c }
-    ensures whatever_was_pending { IsTrue S.tells_bytes → IsTrue T.tells_bytes
-        → (c : Option (List ℕ)) → T.names_since target.new (T.moment target.old) c → MayLeave (T.names target.old)
-        (IsConverted S.tells_bytes (S.bytes store) limit version) (T.entries target.new) c }
-    ensures unnamed { IsTrue S.tells_bytes → IsTrue T.tells_bytes → result.1 ≢ Answer.Passed
-        → IsUnnamed (T.named target.old) (T.named target.new)
-        (IsConverted S.tells_bytes (S.bytes store) limit version) (T.entries target.new)
-        ⊎ (Rose (W.failures sink.old) (W.failures sink.new)
-        × IsConverted S.tells_bytes (S.bytes store) limit version (T.named target.new)) }
-    ensures unprinted { IsTrue S.tells_bytes → IsTrue T.tells_bytes → result.1 ≡ Answer.Device
-        → ((text : List ℕ) → IsRefusalLine (S.bytes store) limit version text → ⊥)
-        → (Rose (S.failures store) (S.failures result.0) → ⊥) → (Rose (T.failures target.old) (T.failures target.new) → ⊥)
-        → IsConverted S.tells_bytes (S.bytes store) limit version (T.named target.new) }
-    ensures published { IsTrue S.tells_bytes → result.1 ≡ Answer.Device
-        → ((text : List ℕ) → IsRefusalLine (S.bytes store) limit version text → ⊥)
-        → (Rose (S.failures store) (S.failures result.0) → ⊥) → (Rose (T.failures target.old) (T.failures target.new) → ⊥)
-        → IsPublished (T.entries target.new)
-        × ((c : Option (List ℕ)) → T.names target.new c → c ≡ T.named target.new) }
-    ensures no_part { (T.entries target.old).part ≢ Entry.Made → (T.entries target.new).part ≢ Entry.Made }
-    ensures no_name { result.1 ≢ Answer.Passed → (T.entries target.old).name ≢ Entry.Made
-        → ((T.entries target.new).name ≢ Entry.Made) ⊎ Rose (W.failures sink.old) (W.failures sink.new) }
+    ensures named { IsTrue S.tells_bytes → IsTrue T.tells_bytes → Names T.Target target.old target.new
+        (IsConverted S.tells_bytes (S.bytes store) limit version) (IsRefused (S.bytes store) limit version)
+        (Rose (S.failures store) (S.failures result.0)) (Rose (W.failures sink.old) (W.failures sink.new)) result.1 }
+    ensures lasts { Lasts T.Target target.old target.new S.tells_bytes (IsRefused (S.bytes store) limit version)
+        (Rose (S.failures store) (S.failures result.0)) result.1 }
+    ensures stops { IsTrue S.tells_bytes → IsTrue T.tells_bytes → Stops T.Target target.old target.new
+        (IsConverted S.tells_bytes (S.bytes store) limit version) }
+    ensures leaves { Leaves T.Target target.old target.new (Rose (W.failures sink.old) (W.failures sink.new)) result.1 }
     ensures occupied { IsSome (T.named target.old) → (result.1 ≢ Answer.Passed)
         × Rests T.named T.names T.moment T.names_since T.entries T.makes target.old target.new }
-    ensures occupied_calls { IsTrue S.tells_bytes → IsSome (T.named target.old)
-        → S.calls result.0 ≤ S.calls store + calls_for (length (S.bytes store)) limit }
     ensures unmade { result.1 ≡ Answer.Refused → target.new ≡ target.old }
-    ensures unmade_where_refused { IsTrue S.tells_bytes → (text : List ℕ)
-        → IsRefusalLine (S.bytes store) limit version text → target.new ≡ target.old }
-    ensures spared { result.1 ≡ Answer.Memory → T.named target.new ≡ T.named target.old }
-    ensures once { T.makes target.new ≤ T.makes target.old + 1 }
+    ensures unmade_where_refused { IsTrue S.tells_bytes → IsRefused (S.bytes store) limit version
+        → target.new ≡ target.old }
     ensures convertible { IsTrue S.tells_bytes → result.1 ≡ Answer.Passed → (s : Schema) × (p : Placed)
         × Opens (S.bytes store) limit s p × IsConvertible version s (records_of_file p) }
-    ensures passed { result.1 ≡ Answer.Passed → Puts (W.put sink.old) (W.put sink.new) (converted_line version) }
-    ensures printed { result.1 ≡ Answer.Device
-        → (W.put sink.new ≡ W.put sink.old) ⊎ Rose (W.failures sink.old) (W.failures sink.new) }
-    ensures calls { IsTrue S.tells_bytes → FewCalls (S.bytes store) limit version (S.calls store) (S.calls result.0) }
-    ensures calls_refused { IsTrue S.tells_bytes → (text : List ℕ) → IsRefusalLine (S.bytes store) limit version text
-        → S.calls result.0 ≤ S.calls store + calls_for (length (S.bytes store)) limit }
+    ensures prints { Prints W.Sink sink.old sink.new S.tells_bytes (S.bytes store) limit version result.1 }
+    ensures calls { IsTrue S.tells_bytes → (checked : ℕ) → ChecksBy (S.bytes store) limit checked
+        → ChecksAndCopies S.Store store result.0 limit version (IsSome (T.named target.old)) checked }
     ensures reach { IsTrue S.tells_bytes
         → S.reach result.0 ≤ max (S.reach store) (max limit (length (S.bytes store))) }
-    ensures refused { IsTrue S.tells_bytes → result.1 ≡ Answer.Refused → (text : List ℕ)
-        × Puts (W.put sink.old) (W.put sink.new) text × IsRefusalLine (S.bytes store) limit version text }
-    ensures memory { IsTrue S.tells_bytes → result.1 ≡ Answer.Memory → (W.put sink.new ≡ W.put sink.old)
-        ⊎ HasRefusalFront (S.bytes store) limit version (W.put sink.old) (W.put sink.new) }
-    ensures halted { IsTrue S.tells_bytes → result.1 ≡ Answer.Device → (W.put sink.new ≡ W.put sink.old)
-        ⊎ HasRefusalFront (S.bytes store) limit version (W.put sink.old) (W.put sink.new)
-        ⊎ HasConvertedFront (S.bytes store) limit version (W.put sink.old) (W.put sink.new) }
     ensures rests { StoreRests S.Store store result.0
         (FailsAny (T.failures target.old) (T.failures target.new) W.Sink sink.old sink.new result.1) }
 {
@@ -263,7 +199,7 @@ pub fn convert_store<S: Store + Drop, T: Target, W: Sink, P: Progress>(
             (file.into_store(), answer)
         }
         Err((store, refusal)) => {
-            let answer = refused(alloc, refusal, sink);
+            let answer = refused(refusal, sink);
             (store, answer)
         }
     }

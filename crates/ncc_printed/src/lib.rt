@@ -16,6 +16,8 @@ mod helpers;
 #[cfg(test)]
 mod lists;
 #[cfg(test)]
+mod pages;
+#[cfg(test)]
 mod selections;
 #[cfg(test)]
 mod values;

@@ -13,3 +13,4 @@ pub mod Additions
 pub mod Extends
 pub mod Planned
 pub mod Trips
+pub mod Filled

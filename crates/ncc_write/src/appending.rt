@@ -1,11 +1,8 @@
 //! Adds a record to an open file.
 
-ghost use Rattle.std.specs.Prelude.{◌≡◌, ◌≢◌, ◌+◌, ◌≤◌, true, false, IsTrue, IfErr, IfOk, OnOk, OnErr};
-ghost use Rattle.ncc_store.specs.Store.{LeavesOnly, Only};
-ghost use Rattle.ncc_layout.specs.Placed.{file_length_of};
-ghost use Rattle.ncc_check.specs.Appending.{CountsDevice, HasRecord, HasRecordOrNot, next_record_at, with_record};
-ghost use Rattle.ncc_check.specs.declared.append_error.AppendError.TheVariants as AppendError;
-ghost use Rattle.ncc_check.specs.Files.{store_of, schema_of, placed_of, must_reopen};
+ghost use Rattle.std.specs.Prelude.{◌≡◌, IfErr, IfOk, OnOk};
+ghost use Rattle.ncc_check.specs.Files.{schema_of, placed_of, must_reopen};
+ghost use Rattle.ncc_check.specs.Writes.{AddsRecord, CallsForRecord};
 ghost use Rattle.ncc_write.specs.Appends.{AppendsAs, RefusesImage};
 ghost use Rattle.ncc_write.specs.Records.{HasSizes, IsRecord, bytes_of_record};
 
@@ -50,27 +47,8 @@ pub fn append<S: Store>(
     slabs: &[Values],
 ) -> Result<(), AppendError>
     ensures answer { AppendsAs (must_reopen file.old) (schema_of file.old) (placed_of file.old) slabs.now result }
-    ensures unchanged { IfErr result (λ e. e ≢ AppendError.Device → file.new ≡ file.old) }
-    ensures added { OnOk result (HasRecord (schema_of file.old) (placed_of file.old)
-        (schema_of file.new) (placed_of file.new) × (must_reopen file.new ≡ false)) }
-    ensures bytes { IsTrue S.tells_bytes → OnOk result (S.bytes (store_of file.new)
-        ≡ with_record (S.bytes (store_of file.old)) (schema_of file.old) (placed_of file.old)
-        (bytes_of_record (schema_of file.old) slabs.now)) }
-    ensures durable { OnOk result (Only (S.bytes (store_of file.new)) (S.images (store_of file.new))) }
-    ensures err { OnErr result ((schema_of file.new ≡ schema_of file.old) × (placed_of file.new ≡ placed_of file.old)) }
-    ensures reopen { IfErr result (λ e. e ≡ AppendError.Device → must_reopen file.new ≡ true) }
-    ensures front { IsTrue S.tells_bytes → OnErr result (HasRecordOrNot (S.bytes (store_of file.old))
-        (schema_of file.old) (placed_of file.old) (bytes_of_record (schema_of file.old) slabs.now)
-        (S.bytes (store_of file.new))) }
-    ensures any_moment { IsTrue S.tells_bytes → Only (S.bytes (store_of file.old)) (S.images (store_of file.old))
-        → LeavesOnly S.moment S.images_since (store_of file.old) (store_of file.new)
-        (HasRecordOrNot (S.bytes (store_of file.old)) (schema_of file.old) (placed_of file.old)
-        (bytes_of_record (schema_of file.old) slabs.now)) }
-    ensures count { CountsDevice (S.failures (store_of file.old)) (S.failures (store_of file.new)) result }
-    ensures calls { S.calls (store_of file.new) ≤ S.calls (store_of file.old) + 5 }
-    ensures calls_whole { next_record_at (placed_of file.old) ≤ file_length_of (placed_of file.old)
-        → S.calls (store_of file.new) ≤ S.calls (store_of file.old) + 4 }
-    ensures reach { S.reach (store_of file.new) ≤ S.reach (store_of file.old) }
+    ensures adds { AddsRecord file.old file.new result (bytes_of_record (schema_of file.old) slabs.now) }
+    ensures calls { CallsForRecord file.old file.new result }
 {
     open_file_has_sizes(file);
     file.appendable()?;

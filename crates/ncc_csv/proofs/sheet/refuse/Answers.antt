@@ -13,4 +13,5 @@ returns-in_err-send_refusal-in_default g c = record {
       (sym (cause_of cause c.args.fault is c.in_default.not-Memory)) c.in_err-send_refusal-in_default.ensures.sent);
   answer = λ cause is. search rules;
   count = search rules;
+  memory = search rules;
 }

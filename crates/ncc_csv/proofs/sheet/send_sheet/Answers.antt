@@ -6,7 +6,7 @@ use Rattle.ncc_lines.specs.Sends.{PutsFront}
 use Rattle.ncc_slab.specs.Refusals.{slab_fault}
 use Rattle.ncc_slab.specs.declared.fault.SlabFault.{SlabFault}
 use Rattle.ncc_csv.specs.Sheets.{IsCause, SendsSheet, sheet_text, sheet_or_line}
-use Rattle.ncc_csv.proofs.SheetTexts.{fails_sheet}
+use Rattle.ncc_csv.proofs.SheetTexts.{fails_sheet, not_memory}
 use Rattle.ncc_csv.proofs.sheet.send_sheet.Goals as goal
 
 pub returns-in-Err-clause-sent : goal.returns-in-Err-clause-sent
@@ -34,4 +34,5 @@ returns-in-Err-clause-refused g c = λ fault is.
     subst (λ (p : Placed). IsCause (slab_fault (vars_of p) c.args.var c.args.slab.now) c.in-Err.fault) c.placed.ensures c.in-Err.ensures in (
       subst (λ (o : Option SlabFault). SendsSheet o (g.W.Sink.put c.args.sink.now) (g.W.Sink.put c.refuse.new.sink) [] c.refuse.result) is (c.refuse.ensures.sent found [] cause),
       refl,
+      λ is_memory. not_memory found c.in-Err.fault fault cause is (c.refuse.ensures.memory is_memory).0,
     )

@@ -27,11 +27,11 @@ unmoved_below {S = S} {F = F} below bytes images moment images_since old new a b
 
 pub returns-clause-memory : goal.returns-clause-memory
 returns-clause-memory g c is =
-    unmoved_below _ _ _ _ _ _ _ _ _ c.over.ensures.file c.into_file.ensures (c.extend_engine-store.ensures.memory is)
+    unmoved_below _ _ _ _ _ _ _ _ _ c.over.ensures.file c.into_file.ensures (c.extend_engine-store.ensures.settles.memory is)
 
 pub returns-clause-none : goal.returns-clause-none
 returns-clause-none g c is =
-    unmoved_below _ _ _ _ _ _ _ _ _ c.over.ensures.file c.into_file.ensures (c.extend_engine-store.ensures.none is)
+    unmoved_below _ _ _ _ _ _ _ _ _ c.over.ensures.file c.into_file.ensures (c.extend_engine-store.ensures.settles.none is)
 
 pub returns-clause-dataset : goal.returns-clause-dataset
 returns-clause-dataset g c = λ told s p o counted.
@@ -59,7 +59,7 @@ pub returns-clause-any_moment : goal.returns-clause-any_moment
 returns-clause-any_moment g c told only places d is holds =
     let same = sym c.over.ensures.file in
     moved _ _ _ _ _ _ _ _ c.over.ensures.file c.into_file.ensures
-    (c.extend_engine-store.ensures.any_moment told
+    ((c.extend_engine-store.ensures.stop told).any_moment
     (subst (λ (f : g.row.F.Denot). Only (g.F.SystemFile.bytes f) (g.F.SystemFile.images f)) same only)
     places d is
     (subst (λ (f : g.row.F.Denot). HoldsAll (g.F.SystemFile.bytes f) c.args.limit places d) same holds))
@@ -70,11 +70,11 @@ returns-clause-whatever_was_pending g c told places d is holds =
     subst (λ (f : g.row.F.Denot). LeavesOnly g.F.SystemFile.moment g.F.SystemFile.images_since c.args.file c.into_file.result
     (λ i. g.F.SystemFile.images f i ⊎ (∥ HoldsSome i c.args.limit places d c.args.more ∥₁))) c.over.ensures.file
     (moved _ _ _ _ _ _ _ _ c.over.ensures.file c.into_file.ensures
-    (c.extend_engine-store.ensures.whatever_was_pending told places d is
+    ((c.extend_engine-store.ensures.stop told).whatever_was_pending places d is
     (subst (λ (f : g.row.F.Denot). HoldsAll (g.F.SystemFile.bytes f) c.args.limit places d) same holds)))
 
 pub returns-clause-holds : goal.returns-clause-holds
 returns-clause-holds g c = λ told passed places d is holds.
     subst (λ (n : g.row.F.Denot). ∥ HoldsAll (g.F.SystemFile.bytes n) c.args.limit places (with_fills d c.args.more) ∥₁) (sym c.into_file.ensures)
-    (c.extend_engine-store.ensures.holds told passed places d is
+    ((c.extend_engine-store.ensures.bytes told).holds passed places d is
     (subst (λ (f : g.row.F.Denot). HoldsAll (g.F.SystemFile.bytes f) c.args.limit places d) (sym c.over.ensures.file) holds))

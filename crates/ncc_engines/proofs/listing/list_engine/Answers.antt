@@ -1,4 +1,6 @@
-use Rattle.std.proofs.Common.{rules}
+use Rattle.std.proofs.Common.{List, ℕ, Option, Ok, rules, subst}
+use Rattle.std.specs.Prelude.{IfSome}
+use Rattle.ncc_header.specs.Answers.{AnswersOf}
 use Rattle.ncc_lines.specs.Sends.{SendsAll}
 use Rattle.ncc_lines.specs.Texts.{fault_line}
 use Rattle.ncc_engines.proofs.SentList.{Laws, sent_list, sent_fault}
@@ -16,3 +18,8 @@ returns-in-Err-Fault-clause-lists g c =
     let sent : SendsAll (g.W.Sink.put c.args.sink.now) (g.W.Sink.put c.send_fault.new.sink) (fault_line c.in-Err-Fault.fault) c.send_fault.result = search rules in
     sent_fault laws c.args.style (g.R.Source.left c.args.source.now) c.args.limit (g.W.Sink.put c.args.sink.now) (g.W.Sink.put c.send_fault.new.sink) c.in-Err-Fault.fault c.in-Err-Fault.field-0 c.send_fault.result c.answered-in-Err-Fault.result
     c.in-Err-Fault.field-0-is c.in-Err-Fault.ensures.answers sent c.answered-in-Err-Fault.ensures
+
+pub returns-in-Ok-clause-memory : goal.returns-in-Ok-clause-memory
+returns-in-Ok-clause-memory g c = λ input text left is memory.
+    let begins = subst (λ (o : Option (List ℕ)). IfSome o (λ b. AnswersOf b c.args.limit (Ok c.in-Ok.header))) left c.in-Ok.ensures.answers in
+    absurd (c.header_or_stop.ensures.apart input c.args.limit c.in-Ok.header is.0 begins is.1)

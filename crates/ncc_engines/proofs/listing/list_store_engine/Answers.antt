@@ -21,3 +21,7 @@ returns-in-Err-Fault-clause-lists g c = λ told.
     let sent : SendsAll (g.W.Sink.put c.args.sink.now) (g.W.Sink.put c.send_file_fault.new.sink) (file_fault_line fault) c.send_file_fault.result = search rules in
     sent_store_fault laws c.args.style bytes c.args.limit (g.W.Sink.put c.args.sink.now) (g.W.Sink.put c.send_file_fault.new.sink) fault c.send_file_fault.result c.answered-in-Err-Fault.result
     stops sent c.answered-in-Err-Fault.ensures
+
+pub returns-in-Ok-clause-memory : goal.returns-in-Ok-clause-memory
+returns-in-Ok-clause-memory g c = λ told text is memory.
+    absurd (c.header_or_stop.ensures.apart (g.S.Store.bytes c.args.store.now) c.args.limit c.in-Ok.header is.0 (c.in-Ok.ensures.reads told) is.1)

@@ -1,4 +1,4 @@
-use Rattle.std.proofs.Common.{◌≡◌, ℕ, ◌<◌, ◌≤◌, ◌+◌, List, Bool, Option, Some, Result, Ok, Err, IfOk, length, refl, ap, subst, ◌∙◌, arith, rules}
+use Rattle.std.proofs.Common.{◌≡◌, ℕ, ◌<◌, ◌≤◌, ◌+◌, List, Bool, Option, Some, Result, Ok, Err, IfOk, length, refl, ap, subst, sym, ◌∙◌, arith, rules}
 use Rattle.std.specs.Prelude.{is_none}
 use Rattle.ncc_schema.specs.declared.schema.Schema.{Schema}
 use Rattle.ncc_schema.specs.declared.schema.Var.{Var}
@@ -15,10 +15,10 @@ use Rattle.ncc_slab.specs.declared.slab.Slab.{Slab}
 use Rattle.ncc_csv.specs.Named.{IsFirstNamed}
 use Rattle.ncc_csv.specs.Picks.{picked, PicksAs}
 use Rattle.ncc_csv.specs.Sheets.{SendsSheet, sheet_text}
-use Rattle.ncc_engines.specs.Selecting.{contents_in, value_calls, IsSelection}
+use Rattle.ncc_engines.specs.Selecting.{contents_in, refusal, value_calls, IsSelection}
 use Rattle.ncc_engines.proofs.Picked.{pick_refused}
 use Rattle.ncc_engines.proofs.Sent.{nothing}
-use Rattle.ncc_engines.proofs.SentTable.{one_number, sent_refusal, sent_sheet}
+use Rattle.ncc_engines.proofs.SentTable.{fault_of, not_memory, one_number, sent_refusal, sent_sheet}
 use Rattle.ncc_engines.proofs.selecting.select.Goals as goal
 
 pub shape-requires : goal.shape-requires
@@ -82,3 +82,36 @@ returns-in-Ok-clause-calls g c = λ number is.
     let slab : c.in-Ok.slab ≡ picked x.shape c.args.pick = c.in-Ok.ensures.1 ∙ ap (λ (l : List ℕ). picked l c.args.pick) shape in
     let calls = subst (λ (s : Slab). new ≤ old + all_stretches (size_of x.xtype) (places_of (record_size_of_file (placed_of f)) x s)) slab (c.send_sheet.ensures.file.reads.calls refl) in
     subst (λ (n : Option ℕ). new ≤ old + value_calls contents c.args.pick n) (one_number (schema_of f).vars c.args.name.now (Some var) number named is) calls
+
+pub returns-in-Ok-clause-memory : goal.returns-in-Ok-clause-memory
+returns-in-Ok-clause-memory g c = λ text is memory.
+    let f = c.args.file.now in
+    let vars = vars_of (placed_of f) in
+    let var = c.in-Some.var in
+    let contents = contents_in (g.S.Store.bytes (store_of f)) (schema_of f) (placed_of f) in
+    let named : IsFirstNamed (schema_of f).vars c.args.name.now (Some var) =
+    subst (λ (l : List Var). IsFirstNamed l c.args.name.now (Some var)) (c.as_slice.ensures ∙ ap (λ (s : Schema). s.vars) c.schema.ensures) c.in-Some.ensures in
+    let shape : c.shape.result.now ≡ (var_at vars var).shape = c.shape.ensures ∙ ap (λ (p : Placed). (var_at (vars_of p) var).shape) c.placed.ensures in
+    let slab : c.in-Ok.slab ≡ picked (var_at vars var).shape c.args.pick = c.in-Ok.ensures.1 ∙ ap (λ (l : List ℕ). picked l c.args.pick) shape in
+    let cause = fault_of (refusal contents c.args.pick is.number) is.answer_is in
+    let number = one_number (schema_of f).vars c.args.name.now is.number (Some var) is.named named in
+    let refused = subst (λ (n : Option ℕ). refusal contents c.args.pick n ≡ Some cause.0) number cause.1 in
+    let picked_so = subst (λ (s : Slab). slab_fault vars var s ≡ Some cause.0) (sym slab) refused in
+    absurd (not_memory c.send_sheet.result (c.send_sheet.ensures.refused cause.0 picked_so).2 (sym c.told.ensures ∙ memory))
+
+pub returns-in-Ok-clause-refused : goal.returns-in-Ok-clause-refused
+returns-in-Ok-clause-refused g c = λ number is fault refused.
+    let f = c.args.file.now in
+    let vars = vars_of (placed_of f) in
+    let var = c.in-Some.var in
+    let contents = contents_in (g.S.Store.bytes (store_of f)) (schema_of f) (placed_of f) in
+    let named : IsFirstNamed (schema_of f).vars c.args.name.now (Some var) =
+    subst (λ (l : List Var). IsFirstNamed l c.args.name.now (Some var)) (c.as_slice.ensures ∙ ap (λ (s : Schema). s.vars) c.schema.ensures) c.in-Some.ensures in
+    let shape : c.shape.result.now ≡ (var_at vars var).shape = c.shape.ensures ∙ ap (λ (p : Placed). (var_at (vars_of p) var).shape) c.placed.ensures in
+    let slab : c.in-Ok.slab ≡ picked (var_at vars var).shape c.args.pick = c.in-Ok.ensures.1 ∙ ap (λ (l : List ℕ). picked l c.args.pick) shape in
+    let here : slab_fault vars var (picked (var_at vars var).shape c.args.pick) ≡ Some fault =
+    subst (λ (n : Option ℕ). refusal contents c.args.pick n ≡ Some fault)
+    (sym (one_number (schema_of f).vars c.args.name.now (Some var) number named is)) refused in
+    let there : slab_fault vars var c.in-Ok.slab ≡ Some fault =
+    subst (λ (s : Slab). slab_fault vars var s ≡ Some fault) (sym slab) here in
+    (c.send_sheet.ensures.refused fault there).1

@@ -1,11 +1,13 @@
-use Rattle.std.proofs.Common.{◌≡◌, ◌≤◌, ◌+◌, ℕ, Bool, List, length, take, drop, ◌++◌, replicate, ap, ap₂, sym, subst, ◌∙◌, length-take, arith}
+use Rattle.std.proofs.Common.{◌≡◌, ◌≤◌, ◌+◌, ℕ, Bool, List, length, take, drop, ◌++◌, replicate, refl, ap, ap₂, sym, subst, ◌∙◌, length-take, arith}
 use Rattle.std.proofs.Math.Logic.{∥∥₁_elim, ∥∥₁_map}
 use Rattle.std.proofs.Props.{props}
 use Rattle.std.proofs.lemmas.List.{take_at}
 use Rattle.std.specs.Prelude.{IsTrue}
-use Rattle.ncc_check.specs.Appending.{appended, count_field, with_record}
+use Rattle.ncc_store.specs.Store.{LeavesOnly}
+use Rattle.ncc_schema.specs.Schema.{with_count}
+use Rattle.ncc_check.specs.Appending.{IsBeforeOrAfter, appended, count_field, with_record}
 use Rattle.ncc_check.specs.Checks.{StandsIn}
-use Rattle.ncc_layout.specs.Placed.{file_length_of, records_of_file}
+use Rattle.ncc_layout.specs.Placed.{HasOneMore, file_length_of, records_of_file}
 use Rattle.ncc_check.proofs.Appended.{field_long, no_shorter}
 use Rattle.ncc_check.proofs.Growing.{Laws, long_enough, stands_with, told_by}
 use Rattle.ncc_values.specs.Version.{count_width_of}
@@ -84,3 +86,64 @@ add_image-requires-clause-size g c = λ yes.
     let back : IsTrue told = subst (λ (b : Bool). IsTrue (tells_header g.S.Store.tells_bytes b)) (sym c.if-self.false) yes in
     let same : file_length_of x.placed ≡ length old = ∥∥₁_elim x.stands (hlevel props) (λ (st : StandsIn told old x.schema x.placed). st.length_is back) in
     c.file_length-size.ensures ∙ same
+
+-- what is told of a place and a count, told of those of the next record
+moved : (P : ℕ → List ℕ → Type 0) (a b : ℕ) (c d : List ℕ) → a ≡ b → c ≡ d → P a c → P b d
+moved P a b c d place count h = subst (λ (l : List ℕ). P b l) count (subst (λ (at : ℕ). P at c) place h)
+
+pub returns-in-Ok-clause-adds : goal.returns-in-Ok-clause-adds
+returns-in-Ok-clause-adds g c =
+    let x = c.args.self.now in
+    let s = x.schema in
+    let p = x.placed in
+    let old = g.S.Store.bytes x.store in
+    let image = c.args.image.now in
+    let next = c.in-Some.next in
+    let wide : length c.put_count.new.out ≡ c.count_width-width.result = ap length c.put_count.ensures ∙ field_long s.version next.count ∙ sym c.count_width-width.ensures in
+    let field : take c.count_width-width.result (c.put_count.new.out ++ drop {A = ℕ} c.count_width-width.result (replicate 8 0)) ≡ count_field s.version (records_of_file p + 1) =
+    take_at c.put_count.new.out (drop {A = ℕ} c.count_width-width.result (replicate 8 0)) c.count_width-width.result wide
+    ∙ c.put_count.ensures ∙ ap (count_field s.version) c.in-Some.ensures.count_is in
+    record {
+      unchanged = tt;
+      added = (
+        record {
+          schema = ap (with_count s) c.in-Some.ensures.count_is;
+          placed = subst (λ (n : ℕ). HasOneMore p n c.one_more.new.self) c.in-Some.ensures.length_is c.one_more.ensures;
+        },
+        c.if-self.false,
+      );
+      bytes = λ told. c.in-Ok.ensures.ok told ∙ ap₂ (λ (at : ℕ) (l : List ℕ). appended old at image 4 l) c.in-Some.ensures.place_is field;
+      durable = c.in-Ok.ensures.durable;
+      err = tt;
+      reopen = tt;
+      front = λ told. tt;
+      any_moment = λ told only.
+          moved (λ at l. LeavesOnly g.S.Store.moment g.S.Store.images_since x.store c.add_image.new.store (λ i. IsBeforeOrAfter old at image 4 l i))
+          _ _ _ _ c.in-Some.ensures.place_is field (c.add_image.ensures.any_moment told only);
+    }
+
+pub returns-in-Err-clause-adds : goal.returns-in-Err-clause-adds
+returns-in-Err-clause-adds g c =
+    let x = c.args.self.now in
+    let s = x.schema in
+    let p = x.placed in
+    let old = g.S.Store.bytes x.store in
+    let new = g.S.Store.bytes c.add_image.new.store in
+    let image = c.args.image.now in
+    let next = c.in-Some.next in
+    let wide : length c.put_count.new.out ≡ c.count_width-width.result = ap length c.put_count.ensures ∙ field_long s.version next.count ∙ sym c.count_width-width.ensures in
+    let field : take c.count_width-width.result (c.put_count.new.out ++ drop {A = ℕ} c.count_width-width.result (replicate 8 0)) ≡ count_field s.version (records_of_file p + 1) =
+    take_at c.put_count.new.out (drop {A = ℕ} c.count_width-width.result (replicate 8 0)) c.count_width-width.result wide
+    ∙ c.put_count.ensures ∙ ap (count_field s.version) c.in-Some.ensures.count_is in
+    record {
+      unchanged = λ other. absurd (other refl);
+      added = tt;
+      bytes = λ told. tt;
+      durable = tt;
+      err = (refl, refl);
+      reopen = λ device. refl;
+      front = λ told. moved (λ at l. IsBeforeOrAfter old at image 4 l new) _ _ _ _ c.in-Some.ensures.place_is field (c.in-Err.ensures.err told);
+      any_moment = λ told only.
+          moved (λ at l. LeavesOnly g.S.Store.moment g.S.Store.images_since x.store c.add_image.new.store (λ i. IsBeforeOrAfter old at image 4 l i))
+          _ _ _ _ c.in-Some.ensures.place_is field (c.add_image.ensures.any_moment told only);
+    }

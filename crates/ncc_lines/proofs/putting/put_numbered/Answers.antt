@@ -1,6 +1,6 @@
 use Rattle.std.proofs.Common.{◌∷◌, [], ◌++◌, decimal}
 use Rattle.ncc_schema.proofs.Writing.{writes_both, fails_at}
-use Rattle.ncc_lines.proofs.refusals.put_numbered.Goals as goal
+use Rattle.ncc_lines.proofs.putting.put_numbered.Goals as goal
 
 pub returns-in_err-write_all-clause-bytes : goal.returns-in_err-write_all-clause-bytes
 returns-in_err-write_all-clause-bytes g c =

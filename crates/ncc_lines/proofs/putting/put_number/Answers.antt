@@ -1,6 +1,6 @@
 use Rattle.std.proofs.Common.{rules, ◌≡◌, ◌∷◌, [], decimal}
 use Rattle.ncc_schema.proofs.Writing.{writes_both}
-use Rattle.ncc_lines.proofs.refusals.put_number.Goals as goal
+use Rattle.ncc_lines.proofs.putting.put_number.Goals as goal
 
 pub returns-clause-bytes : goal.returns-clause-bytes
 returns-clause-bytes g c =
