@@ -1,6 +1,6 @@
 #!/usr/bin/env bash
-# Refuses each allocation, one in each run, of a run of each command, of `ncc check` over a file with a note of each
-# kind. Each run must write the whole text with status 0, and leave the files of a run with memory; or less than the text
+# Refuses each allocation, one in each run, of a run of each command and of the help, of `ncc check` over a file with a
+# note of each kind. Each run must write the whole text with status 0, and leave the files of a run with memory; or less than the text
 # and `error memory` with status 3, and leave the files as they were. Then each sync: what wants one must write nothing and `error device` with status 3.
 # The program is the first word, or the one that scripts/test.sh left. It needs a C compiler.
 set -uo pipefail
@@ -61,5 +61,6 @@ refuse "$(cat "$top/examples/noted.checked")" check noted.nc
 refuse "$(printf 'dim,vx\n1,1\n3,1')" csv tiny.nc vx --start 1 --stride 2
 refuse "records 3" extend ocean.nc 1
 refuse "ok CDF-2" convert --to 2 tiny.nc out.nc
+refuse "$("$ncc" --help)" --help
 unsynced extend ocean.nc 1
 unsynced convert --to 2 tiny.nc out.nc

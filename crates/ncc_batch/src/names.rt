@@ -1,6 +1,6 @@
 //! Lists of the names of files.
 
-ghost use Rattle.std.specs.Prelude.{◌≡◌, ◌<◌, ◌≤◌, ◌+◌, ◌∷◌, length, take, drop, IfOk};
+ghost use Rattle.std.specs.Prelude.{◌≡◌, ◌<◌, ◌≤◌, ◌+◌, [], ◌∷◌, length, take, drop, IsOk, IfOk};
 ghost use Rattle.ncc_batch.specs.Names.{AreNames, IsName};
 
 use ncc_values::Seq;
@@ -31,7 +31,8 @@ fn name_length(list: &[u8]) -> usize
 
 /// The names of a list in which each has a NUL byte after it.
 pub fn names_in(alloc: Global, list: &[u8]) -> Result<FileNames, AllocError>
-    ensures { IfOk result (λ n. AreNames list.now n.names n.is_cut) }
+    ensures names { IfOk result (λ n. AreNames list.now n.names n.is_cut) }
+    ensures none { list.now ≡ [] → IsOk result }
 {
     let mut names = Vec::new(alloc);
     let mut rest = list;

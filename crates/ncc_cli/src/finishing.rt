@@ -1,7 +1,8 @@
 //! What a run leaves: its status, and what is still to be written.
 
-ghost use Rattle.std.specs.Prelude.{◌≡◌, ◌≢◌, [], Some};
-ghost use Rattle.std.specs.Io.Buffered.{writer_buffer};
+ghost use Rattle.std.specs.Prelude.{◌≡◌, ◌↔◌, ◌≢◌, [], true, false, Some, Ok, IfOk, OnErr};
+ghost use Rattle.std.specs.Io.Buffered.{writer_buffer, writer_contents};
+ghost use Rattle.std.specs.Io.KnownBytes.{Keeps};
 ghost use Rattle.clap.specs.Values.{kind_of};
 ghost use Rattle.ncc_batch.specs.Shown.{status_of};
 ghost use Rattle.ncc_cli.specs.Status.{Explains, Flushes};
@@ -12,6 +13,7 @@ use clap::Error;
 use clap::error::ErrorKind;
 use ncc_batch::status;
 use ncc_engines::Answer;
+use ncc_header::Failed;
 use std::alloc::Global;
 use std::io::{BufWriter, Write};
 
@@ -79,6 +81,7 @@ fn tell_why<E: Write>(trouble: Option<Trouble<'_>>, output: Option<Reason>, err:
 /// The answer, once what is left in a buffer went out.
 pub fn flushed<W: Write + Drop>(writer: &mut BufWriter<W>, answer: Answer) -> Answer
     ensures answer { Flushes answer result }
+    ensures same { Keeps (writer_contents W.contents writer.old) (writer_contents W.contents writer.new) }
     ensures empty { result ≢ Answer.Device → result ≢ Answer.Memory → writer_buffer writer.new ≡ [] }
 {
     if writer.flush().is_ok() {
@@ -88,6 +91,25 @@ pub fn flushed<W: Write + Drop>(writer: &mut BufWriter<W>, answer: Answer) -> An
         Answer::Memory => Answer::Memory,
         _ => Answer::Device,
     }
+}
+
+/// What several files came to, once the rest of their lines went out, and whether all that failed was told there.
+pub fn all_told<W: Write + Drop>(
+    answered: Result<Answer, Failed>,
+    writer: &mut BufWriter<W>,
+) -> (Answer, bool)
+    ensures answer { IfOk answered (λ answer. Flushes answer result.0) }
+    ensures failed { OnErr answered (result ≡ (Answer.Device, false)) }
+    ensures still { OnErr answered (writer.new ≡ writer.old) }
+    ensures told { (result.1 ≡ true) ↔ (answered ≡ Ok result.0) }
+    ensures same { Keeps (writer_contents W.contents writer.old) (writer_contents W.contents writer.new) }
+    ensures empty { result.0 ≢ Answer.Device → result.0 ≢ Answer.Memory → writer_buffer writer.new ≡ [] }
+{
+    let Ok(answer) = answered else {
+        return (Answer::Device, false);
+    };
+    let left = flushed(writer, answer);
+    (left, left == answer)
 }
 
 /// Writes a text whole.

@@ -1,7 +1,8 @@
 //! Files of the system, one after the other, and what is told of those that fail.
 
 ghost use Rattle.std.specs.Prelude.{◌≡◌, ◌≤◌, false, None, [], IfOk};
-ghost use Rattle.ncc_store.specs.File.{file_failures};
+ghost use Rattle.ncc_store.specs.DiskFile.{is_writable};
+ghost use Rattle.ncc_store.specs.File.{file_failures, file_of};
 ghost use Rattle.ncc_values.specs.Failures.{last_count};
 
 use crate::finishing::finish;
@@ -70,6 +71,7 @@ impl<'a, R: Files<File = File> + Clock, E: Write> Folder<'a, R, E> {
     /// The next file, or why it isn't there.
     fn next(&mut self, path: &[u8]) -> Result<FileStore, Reason>
         ensures fresh { IfOk result (λ f. file_failures f ≡ 0) }
+        ensures reads { IfOk result (λ f. is_writable (file_of f) ≡ false) }
         ensures count { self.new.failures ≡ self.old.failures }
     {
         let number = self.opened;

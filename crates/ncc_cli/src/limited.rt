@@ -2,7 +2,7 @@
 
 ghost use Rattle.std.specs.Prelude.{◌≡◌, ◌≢◌, ◌⊎◌, ◌+◌, ◌<◌, ◌≤◌, max, List, ℕ, Some, length, true, IsTrue, IsSome, IfSome};
 ghost use Rattle.ncc_values.specs.Failures.{Rose};
-ghost use Rattle.ncc_schema.specs.Device.{LosesAtMost, Puts};
+ghost use Rattle.ncc_schema.specs.Device.{AsksFew, LosesAtMost, Puts};
 ghost use Rattle.ncc_schema.specs.Schema.{Place};
 ghost use Rattle.ncc_schema.specs.declared.schema.Header.{Header};
 ghost use Rattle.ncc_schema.specs.declared.schema.Schema.{Schema};
@@ -51,6 +51,7 @@ pub fn listed<R: Source, W: Sink>(
     ensures exactly { result ≡ Answer.Passed → IfSome (R.left source.old) (λ input.
         (h : Header) × Begins input LIMIT h × IsLeft (R.left source.new) input h) }
     ensures most { LosesAtMost (R.left source.old) (R.left source.new) LIMIT }
+    ensures calls { AsksFew (R.left source.old) (R.left source.new) (R.calls source.old) (R.calls source.new) }
     ensures fails { Fails W.Sink sink.old sink.new result (R.failures source.old) (R.failures source.new) }
 {
     list_engine(alloc, source, LIMIT, style, sink)

@@ -1,6 +1,6 @@
 //! One file, or several in one call.
 
-use crate::finishing::flushed;
+use crate::finishing::all_told;
 use crate::folder::{Folder, Telling};
 use crate::paths::open_file;
 use crate::progress::{ProgressLine, Shown};
@@ -130,11 +130,5 @@ pub fn answer_many<R: Files<File = File> + Clock + AllocGlobal, O: Write, E: Wri
     );
     folder.end();
     let mut writer = sink.into_inner();
-    match answered {
-        Ok(answer) => {
-            let whole = flushed(&mut writer, answer);
-            (whole, whole == answer)
-        }
-        Err(_) => (Answer::Device, false),
-    }
+    all_told(answered, &mut writer)
 }

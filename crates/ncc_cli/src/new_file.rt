@@ -189,6 +189,7 @@ impl<'a, R: Files<File = File>> Target for NewFile<'a, R> {
         match link_file(self.files, &self.part, self.name) {
             Ok(true) => {
                 self.entries.name = Entry::Made;
+                self.entries.unlinked = false;
                 Linked::Done
             }
             Ok(false) => {

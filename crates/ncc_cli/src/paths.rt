@@ -6,7 +6,7 @@ ghost use Rattle.ncc_store.specs.File.{file_of, file_ready, file_failures};
 ghost use Rattle.ncc_store.specs.DiskFile.{is_writable};
 
 use crate::reasons::{Reason, reason_of};
-use ncc_store::FileStore;
+use ncc_store::{FileStore, file_options};
 use std::fs::{File, OpenOptions, TryLockError};
 use std::io::ErrorKind;
 use std::rt::Files;
@@ -32,7 +32,7 @@ fn expect_file<R: Files<File = File>>(rt: &R, path: &str) -> Result<(), Reason> 
 
 /// Why a file can't be opened as a store.
 fn refusal<R: Files<File = File>>(rt: &R, path: &str, write: bool) -> Reason {
-    match OpenOptions::new().read(true).write(write).open(rt, path) {
+    match file_options(write).open(rt, path) {
         Ok(file) if write => match file.try_lock() {
             Err(TryLockError::WouldBlock) => Reason::Locked,
             _ => Reason::Other,

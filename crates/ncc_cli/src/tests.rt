@@ -28,10 +28,11 @@ fn line_of(alloc: Global, line: &str) -> Result<Words, AllocError> {
     Ok(words)
 }
 
-/// A writer that takes bytes and gives none on, or takes none at all.
+/// A writer that takes bytes and gives none on, or takes none at all. It counts how often it was flushed.
 #[derive(Drop)]
 struct Stuck {
     takes: bool,
+    flushes: u32,
 }
 
 impl Write for Stuck {
@@ -43,28 +44,32 @@ impl Write for Stuck {
     }
 
     fn flush(&mut self) -> io::Result<()> {
+        self.flushes = self.flushes.saturating_add(1);
         Err(Error::from(ErrorKind::Other))
     }
 }
 
-/// Where the output takes nothing, or is not flushed, each command ends with `error device`.
+/// Where the output takes nothing, or is not flushed, each command ends with `error device`. It is flushed once, where
+/// all was taken, and not again where that fails.
 fn expect_stuck<R: Abort + Files<File = File> + Clock + AllocGlobal>(
     rt: &R,
     line: &str,
 ) -> Result<(), AllocError> {
     for takes in [false, true] {
         let mut err = Vec::new(rt.alloc());
+        let mut out = Stuck { takes, flushes: 0 };
         let words = line_of(rt.alloc(), line)?;
         let status = run(
             rt,
             &words,
             &mut io::empty(),
-            &mut Stuck { takes },
+            &mut out,
             &mut err,
             NO_TERMINALS,
         );
         assert_eq!(rt; status, 3, "{line}");
         assert!(rt; err.as_slice() == b"error device\n".as_slice(), "{line}");
+        assert_eq!(rt; out.flushes, if takes { 1 } else { 0 }, "{line}");
     }
     Ok(())
 }
@@ -115,7 +120,10 @@ fn error_output_that_takes_nothing(rt: HostRuntime) -> Result<(), Fail> {
                 &words,
                 &mut io::empty(),
                 &mut out,
-                &mut Stuck { takes: false },
+                &mut Stuck {
+                    takes: false,
+                    flushes: 0
+                },
                 NO_TERMINALS
             ),
             status

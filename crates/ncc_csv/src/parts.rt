@@ -1,6 +1,6 @@
 //! Sending the rows of a selection, part by part from the file.
 
-ghost use Rattle.std.specs.Prelude.{◌≡◌, ℕ, ◌+◌, ◌^◌, ◌<◌, ◌≤◌, true, length, take, drop, IsTrue, IfOk};
+ghost use Rattle.std.specs.Prelude.{◌≡◌, ℕ, ◌+◌, ◌^◌, ◌<◌, ◌≤◌, [], true, length, take, drop, IsTrue, IsOk, IfOk};
 ghost use Rattle.ncc_values.specs.XType.{size_of};
 ghost use Rattle.ncc_values.specs.Values.{type_of, count_of, no_values};
 ghost use Rattle.ncc_layout.specs.Elements.{var_at};
@@ -114,6 +114,7 @@ pub fn send_rows<S: Store, W: Sink, P: Progress>(
         → SendsAll (W.put sink.old) (W.put sink.new) (rows_text style (S.bytes (store_of file.old))
         (record_size_of_file (placed_of file.old)) (var_at (vars_of (placed_of file.old)) number)
         (indices_of slab.now)) result }
+    ensures none { parts_left parts.old ≡ [] → IsOk result }
     ensures file { ReadsFile file.old file.new
         (λ a b. BlamesEither a b (W.failures sink.old) (W.failures sink.new) result) true
         (all_stretches (size_of (parts_type parts.old)) (parts_left parts.old))

@@ -1,6 +1,6 @@
 //! Sending the rows of texts, part by part from the file.
 
-ghost use Rattle.std.specs.Prelude.{◌≡◌, ℕ, ◌+◌, ◌^◌, ◌<◌, ◌≤◌, true, ◌++◌, length, take, drop, map, IsTrue, IfOk, OnOk};
+ghost use Rattle.std.specs.Prelude.{◌≡◌, ℕ, ◌+◌, ◌^◌, ◌<◌, ◌≤◌, true, [], ◌++◌, length, take, drop, map, IsTrue, IsOk, IfOk, OnOk};
 ghost use Rattle.ncc_values.specs.XType.{size_of};
 ghost use Rattle.ncc_values.specs.Values.{type_of, count_of};
 ghost use Rattle.ncc_values.specs.declared.xtype.XType.TheVariants as types;
@@ -126,6 +126,7 @@ fn send_some_texts<S: Store, W: Sink, P: Progress>(
     ensures sent { IsTrue S.tells_bytes → (number : ℕ) → BeginsParts (placed_of file.old) number slab.now parts.old
         → SendsAll (W.put sink.old) (W.put sink.new) (texts_text (S.bytes (store_of file.old))
         (record_size_of_file (placed_of file.old)) (var_at (vars_of (placed_of file.old)) number) slab.now) result }
+    ensures none { parts_left parts.old ≡ [] → IsOk result }
     ensures file { ReadsFile file.old file.new
         (λ a b. BlamesEither a b (W.failures sink.old) (W.failures sink.new) result) true
         (all_stretches (size_of (parts_type parts.old)) (parts_left parts.old))

@@ -128,12 +128,11 @@ pub fn extend_file<F: SystemFile + Drop, W: Sink>(
     ensures holds_some { IsTrue F.tells_bytes → (places : List Place) (d : Dataset)
         → IsDataset d → HoldsAll (F.bytes file) limit places d
         → ∥ HoldsSome (F.bytes result.0) limit places d more ∥₁ }
-    ensures any_moment { IsTrue F.tells_bytes → Only (F.bytes file) (F.images file)
+    ensures stop { IsTrue F.tells_bytes
         → (places : List Place) (d : Dataset) → IsDataset d → HoldsAll (F.bytes file) limit places d
-        → LeavesOnly F.moment F.images_since file result.0 (λ c. ∥ HoldsSome c limit places d more ∥₁) }
-    ensures whatever_was_pending { IsTrue F.tells_bytes
-        → (places : List Place) (d : Dataset) → IsDataset d → HoldsAll (F.bytes file) limit places d
-        → LeavesOnly F.moment F.images_since file result.0
+        → (Only (F.bytes file) (F.images file)
+        → LeavesOnly F.moment F.images_since file result.0 (λ c. ∥ HoldsSome c limit places d more ∥₁))
+        × LeavesOnly F.moment F.images_since file result.0
         (λ c. F.images file c ⊎ (∥ HoldsSome c limit places d more ∥₁)) }
     ensures dataset { IsTrue F.tells_bytes → (s : Schema) (p : Placed) → Opens (F.bytes file) limit s p
         → IsKnown s.count → (places : List Place) × (d : Dataset) × IsDataset d

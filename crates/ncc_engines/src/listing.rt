@@ -1,7 +1,7 @@
 //! `list`: what the header alone says.
 
 ghost use Rattle.std.specs.Prelude.{◌≡◌, ◌+◌, ◌≤◌, ℕ, List, length, Some, IfSome, IsTrue};
-ghost use Rattle.ncc_schema.specs.Device.{LosesAtMost, Puts};
+ghost use Rattle.ncc_schema.specs.Device.{AsksFew, LosesAtMost, Puts};
 ghost use Rattle.ncc_store.specs.Reading.{ReadsOnly};
 ghost use Rattle.ncc_check.specs.FromStore.{calls_for, ReadsFew};
 ghost use Rattle.ncc_schema.specs.declared.schema.Header.{Header as TheHeader};
@@ -18,7 +18,7 @@ use std::alloc::Global;
 
 /// Writes the lines of the header at the front of the source, of at most `limit` bytes, with its floats
 /// in this style; or the line of its fault. Of a source that tells its bytes exactly the header is read
-/// where it passed, and no byte past the limit otherwise.
+/// where it passed, and no byte past the limit otherwise; and it is called at most once more than bytes are read.
 pub fn list_engine<R: Source, W: Sink>(
     alloc: Global,
     source: &mut R,
@@ -33,6 +33,7 @@ pub fn list_engine<R: Source, W: Sink>(
     ensures exactly { result ≡ Answer.Passed → IfSome (R.left source.old) (λ input.
         (h : TheHeader) × Begins input limit h × IsLeft (R.left source.new) input h) }
     ensures most { LosesAtMost (R.left source.old) (R.left source.new) limit }
+    ensures calls { AsksFew (R.left source.old) (R.left source.new) (R.calls source.old) (R.calls source.new) }
     ensures fails { Fails W.Sink sink.old sink.new result (R.failures source.old) (R.failures source.new) }
 {
     laws::header_or_stop();

@@ -1,11 +1,14 @@
 //! `csv`: the names and rows of a selection.
 
-ghost use Rattle.std.specs.Prelude.{◌≡◌, ◌+◌, ◌≤◌, ℕ, Bool, Option, Some, List, IsTrue};
+ghost use Rattle.std.specs.Prelude.{◌≡◌, ◌≢◌, ◌+◌, ◌≤◌, ℕ, Bool, List, length, Option, None, Some, IsTrue};
 ghost use Rattle.ncc_schema.specs.Device.{Puts};
 ghost use Rattle.ncc_store.specs.Reading.{Rests};
 ghost use Rattle.ncc_check.specs.Files.{store_of, schema_of, placed_of};
 ghost use Rattle.ncc_check.specs.Passes.{HasOwnElements};
 ghost use Rattle.ncc_csv.specs.Named.{IsFirstNamed};
+ghost use Rattle.ncc_csv.specs.Picks.{pick_fault};
+ghost use Rattle.ncc_layout.specs.Elements.{var_at};
+ghost use Rattle.ncc_layout.specs.Placed.{vars_of};
 ghost use Rattle.ncc_engines.specs.Answers.{Blames, ChecksBy, Writes};
 ghost use Rattle.ncc_engines.specs.Selecting.{contents_in, refusal, value_calls, sheet_answer, IsCsvText, IsSelection, SelectsByFew, SelectsInto};
 ghost use Rattle.ncc_engines.specs.declared.answer.Answer.{Answer as GivenAnswer};
@@ -63,6 +66,10 @@ fn select<S: Store, W: Sink, P: Progress>(
     ensures memory { (text : List ℕ) → IsSelection
         (contents_in (S.bytes (store_of file.old)) (schema_of file.old) (placed_of file.old))
         name.now pick style texts Answer.Refused text → result ≡ Answer.Memory → sink.new ≡ sink.old }
+    ensures absent { IsFirstNamed (schema_of file.old).vars name.now None → result ≢ Answer.Memory }
+    ensures unfit { (number : ℕ) → IsFirstNamed (schema_of file.old).vars name.now (Some number)
+        → (fault : GivenFault) → pick_fault (length (var_at (vars_of (placed_of file.old)) number).shape) pick ≡ Some fault
+        → result ≢ Answer.Memory }
     ensures rests { Rests S.Store (store_of file.old) (store_of file.new)
         (Blames W.Sink sink.old sink.new result) }
     ensures calls { (number : Option ℕ) → IsFirstNamed (schema_of file.old).vars name.now number

@@ -11,7 +11,7 @@ use Rattle.ncc_header.specs.declared.fault.HeaderError.TheVariants as errors
 use Rattle.ncc_schema.specs.declared.schema.Header.{Header}
 use Rattle.ncc_header.specs.declared.standing.Fed.{Fed}
 use Rattle.ncc_header.specs.declared.standing.Fed.TheVariants.{More, Done}
-use Rattle.ncc_schema.specs.Device.{Loses, LosesAtMost}
+use Rattle.ncc_schema.specs.Device.{AsksFew, Loses, LosesAtMost}
 use Rattle.ncc_header.specs.Answers.{Answers, AnswersOf, CountsAs, IsLeft}
 use Rattle.ncc_header.specs.Decoder.{Took, limit_of}
 use Rattle.ncc_header.specs.FromSource.{HasFed, FailsFeeding, HasRead, IsOver}
@@ -91,6 +91,16 @@ failed_most old mid new d limit taken room e r (inl is) few =
     (r.bytes ++ [], loses_both old mid new r.bytes [] r.lost is.1, omega (arith, length-append {A = ℕ} r.bytes [], r.long, few))
 failed_most old mid new d limit taken room e r (inr f) few =
     (r.bytes ++ f.piece, loses_both old mid new r.bytes f.piece r.lost f.lost, omega (arith, length-append r.bytes f.piece, r.long, f.few, few))
+
+-- each call took a byte, but the last
+pub read_few : (old now : Option (List ℕ)) (d : Decoder) (limit taken before after : ℕ) → HasRead old now d limit taken → after ≤ before + taken + 1 → AsksFew old now before after
+read_few old now d limit taken before after r few = (r.bytes, r.lost, omega (arith, r.long, few))
+
+pub failed_few : (old mid new : Option (List ℕ)) (d : Decoder) (limit taken room : ℕ) (e : HeaderError) (before after : ℕ) → HasRead old mid d limit taken → FailsFeeding mid new d room e → after ≤ before + taken + 1 → AsksFew old new before after
+failed_few old mid new d limit taken room e before after r (inl is) few =
+    (r.bytes ++ [], loses_both old mid new r.bytes [] r.lost is.1, omega (arith, length-append {A = ℕ} r.bytes [], r.long, few))
+failed_few old mid new d limit taken room e before after r (inr f) few =
+    (r.bytes ++ f.piece, loses_both old mid new r.bytes f.piece r.lost f.lost, omega (arith, length-append r.bytes f.piece, r.long, few))
 
 -- eight bytes need no memory
 pub failed_memory : (old mid new : Option (List ℕ)) (d : Decoder) (limit taken room : ℕ) (e : HeaderError) → HasRead old mid d limit taken → FailsFeeding mid new d room e → e ≡ errors.Memory → IfSome old (λ input. 8 < length input)

@@ -1,7 +1,7 @@
 //! Reading a header from a source.
 
-ghost use Rattle.std.specs.Prelude.{◌≡◌, ◌≤◌, ◌<◌, ℕ, List, [], length, Err, IfSome, IfOk, IfErr, OnOk};
-ghost use Rattle.ncc_schema.specs.Device.{LosesAtMost};
+ghost use Rattle.std.specs.Prelude.{◌≡◌, ◌+◌, ◌≤◌, ◌<◌, ℕ, List, [], length, Err, IfSome, IfOk, IfErr, OnOk};
+ghost use Rattle.ncc_schema.specs.Device.{AsksFew, LosesAtMost};
 ghost use Rattle.ncc_header.specs.Answers.{Begins, AnswersOf, CountsAs, IsLeft};
 ghost use Rattle.ncc_header.specs.Decoder.{Took, HasFailed, limit_of};
 ghost use Rattle.ncc_header.specs.FromSource.{HasFed, FailsFeeding, HasRead, IsOver};
@@ -26,6 +26,7 @@ fn read_piece<R: Source>(
         HasFed (R.left source.old) (R.left source.new) decoder.old decoder.new (length room.old) n) }
     ensures err { IfErr result (FailsFeeding (R.left source.old) (R.left source.new) decoder.old (length room.old)) }
     ensures count { CountsAs (R.failures source.old) (R.failures source.new) result }
+    ensures calls { R.calls source.new ≤ R.calls source.old + 1 }
 {
     let n = source.read(room)?;
     let (front, _unused) = room.split_at(n);
@@ -52,6 +53,7 @@ fn read_wanted<R: Source>(
     ensures memory { result ≡ Err HeaderError.Memory → IfSome (R.left source.old) (λ input. 8 < length input) }
     ensures most { LosesAtMost (R.left source.old) (R.left source.new) limit }
     ensures count { CountsAs (R.failures source.old) (R.failures source.new) result }
+    ensures calls { AsksFew (R.left source.old) (R.left source.new) (R.calls source.old) (R.calls source.new) }
 {
     let mut piece = [0; PIECE as usize];
     let mut taken = 0;
@@ -67,7 +69,8 @@ fn read_wanted<R: Source>(
 
 /// Reads the header at the front of a source, of at most `limit` bytes. Where there is one, exactly
 /// its bytes are read: a source is asked for as many bytes as are surely still to come, 4,096 at most. Of a
-/// source that tells its bytes no byte past the limit is read, whatever the answer.
+/// source that tells its bytes no byte past the limit is read, whatever the answer, and it is called at most once more
+/// than bytes are read.
 pub fn read_header<R: Source>(
     alloc: Global,
     source: &mut R,
@@ -79,6 +82,7 @@ pub fn read_header<R: Source>(
     ensures most { LosesAtMost (R.left source.old) (R.left source.new) limit }
     ensures few { IfSome (R.left source.old) (λ input. length input ≤ 8 → result ≡ Err HeaderError.Memory → ⊥) }
     ensures count { CountsAs (R.failures source.old) (R.failures source.new) result }
+    ensures calls { AsksFew (R.left source.old) (R.left source.new) (R.calls source.old) (R.calls source.new) }
 {
     let mut decoder = Decoder::new(alloc, limit);
     match read_wanted(source, &mut decoder, limit) {

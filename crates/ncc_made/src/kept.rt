@@ -235,6 +235,7 @@ impl Target for Kept {
         match self.note(Step::Gives(file), true) {
             Ok(()) => {
                 self.entries.name = Entry::Made;
+                self.entries.unlinked = false;
                 Linked::Done
             }
             Err(Device) => Linked::Failed,

@@ -22,7 +22,7 @@ new_part = record { part = Made; name = Absent; settled = false; unlinked = fals
 
 -- and once the part was given the name
 abbrev pub after_link : Entries → Linked → Entries
-after_link e Done = record e { name = Made }
+after_link e Done = record e { name = Made; unlinked = false }
 after_link e Failed = e
 after_link e Refused = record e { unlinked = true }
 

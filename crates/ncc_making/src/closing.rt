@@ -94,6 +94,7 @@ fn without_name<T: Target>(target: &mut T) -> Result<(), Device>
 
 /// Removes the part, where it is there.
 fn without_part<T: Target>(target: &mut T) -> Result<(), Device>
+    requires order { (T.entries target.old).unlinked ≡ true → (T.entries target.old).name ≡ Entry.Made → ⊥ }
     ensures gone { (T.entries target.new).part ≢ Entry.Made }
     ensures name { (T.entries target.new).name ≡ (T.entries target.old).name }
     ensures unlinked { (T.entries target.new).unlinked ≡ (T.entries target.old).unlinked }

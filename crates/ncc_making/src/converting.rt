@@ -156,7 +156,8 @@ fn refused<W: Sink>(refusal: Refusal, sink: &mut W) -> Answer
 }
 
 /// Opens a store and converts its file; or writes the line of the file's fault. Whatever stops it, no file has the name,
-/// or the whole one. `Device` comes where the store, the target or the sink failed, also where a file has the name.
+/// or the whole one, or where the system gives no second names an empty one. `Device` comes where the store, the target
+/// or the sink failed, also where a file has the name.
 pub fn convert_store<S: Store + Drop, T: Target, W: Sink, P: Progress>(
     alloc: Global,
     store: S,

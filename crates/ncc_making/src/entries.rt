@@ -18,7 +18,7 @@ pub struct Entries {
     pub name: Entry,
     /// The bytes of the part are on the disk.
     pub settled: bool,
-    /// The system took no second name for the part.
+    /// The system took no second name for the part when it was last asked.
     pub unlinked: bool,
 }
 

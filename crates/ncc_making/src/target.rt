@@ -135,9 +135,11 @@ pub trait Target {
         ensures count { Counts (failures self.old) (failures self.new) result }
         ensures makes { makes self.new ≡ makes self.old };
 
-    /// Removes the part's own name.
+    /// Removes the part's own name. It is tried first to remove a name that was claimed for it: if the program is killed
+    /// between the two, the part is left, and not a file without a byte under the name.
     fn remove_part(&mut self) -> Result<(), Device>
-        requires { (entries self.old).part ≡ Entry.Made }
+        requires part { (entries self.old).part ≡ Entry.Made }
+        requires order { (entries self.old).unlinked ≡ true → (entries self.old).name ≡ Entry.Made → ⊥ }
         ensures part { part self.new ≡ part self.old }
         ensures named { named self.new ≡ named self.old }
         ensures names { NameElapses names moment names_since self.old self.new (names self.old) }

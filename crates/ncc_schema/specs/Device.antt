@@ -1,5 +1,5 @@
 -- What reads and writes do to the bytes that are told.
-use Rattle.std.specs.Prelude.{◌≡◌, ℕ, ◌<◌, ◌≤◌, List, [], ◌++◌, length, take, Option, Some, None, Result, Ok, Err}
+use Rattle.std.specs.Prelude.{◌≡◌, ℕ, ◌+◌, ◌<◌, ◌≤◌, List, [], ◌++◌, length, take, Option, Some, None, Result, Ok, Err}
 use Rattle.std.specs.Io.KnownBytes.{IsAtEnd}
 use Rattle.ncc_schema.specs.declared.failed.Failed.{Failed}
 
@@ -11,6 +11,10 @@ Loses (Some xs) new bytes = (rest : List ℕ) × (new ≡ Some rest) × (xs ≡ 
 -- told bytes are still told, and so many of them were taken at most
 abbrev pub LosesAtMost : (old new : Option (List ℕ)) → (most : ℕ) → Type 0
 LosesAtMost old new most = (bytes : List ℕ) × Loses old new bytes × (length bytes ≤ most)
+
+-- told bytes are still told, and between these two counts there is at most one call more than bytes were taken
+abbrev pub AsksFew : (old new : Option (List ℕ)) → (before after : ℕ) → Type 0
+AsksFew old new before after = (bytes : List ℕ) × Loses old new bytes × (after ≤ before + length bytes + 1)
 
 -- told bytes are still told, and end with these
 abbrev pub Puts : (old new : Option (List ℕ)) → (bytes : List ℕ) → Type 0

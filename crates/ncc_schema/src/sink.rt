@@ -1,6 +1,6 @@
 //! Sinks of bytes.
 
-ghost use Rattle.std.specs.Prelude.{◌≡◌, ◌+◌, ◌≤◌, ℕ, List, Option};
+ghost use Rattle.std.specs.Prelude.{◌≡◌, ◌+◌, ◌≤◌, ℕ, List, length, Option};
 ghost use Rattle.ncc_values.specs.Failures.{last_count, Counts};
 ghost use Rattle.ncc_schema.specs.Device.{Writes, WritesAll};
 
@@ -81,10 +81,11 @@ impl<W: Write> Sink for WriteSink<W> {
     }
 }
 
-/// Puts out all of the bytes, by as many writes as it takes.
+/// Puts out all of the bytes, by as many writes as it takes: at most one for each byte.
 pub fn write_all<W: Sink>(sink: &mut W, bytes: &[u8]) -> Result<(), Failed>
     ensures bytes { WritesAll (W.put sink.old) (W.put sink.new) result bytes.now }
     ensures count { Counts (W.failures sink.old) (W.failures sink.new) result }
+    ensures calls { W.calls sink.new ≤ W.calls sink.old + length bytes.now }
 {
     let mut rest = bytes;
     while !rest.is_empty() {

@@ -1,5 +1,5 @@
 -- A store that reads ahead.
-use Rattle.std.specs.Prelude.{ℕ, ◌+◌, ◌≤◌, Option, None, Some}
+use Rattle.std.specs.Prelude.{ℕ, ◌+◌, ◌<◌, ◌≤◌, Option, None, Some}
 use Rattle.ncc_store.specs.declared.ahead.AheadStore.{AheadStore}
 use Rattle.ncc_store.specs.declared.store.Store.{Ghosts}
 
@@ -29,8 +29,9 @@ module _ {S : Type 0} {ghosts : Ghosts S} where
   abbrev pub IsHeld : AheadStore S ghosts → (place count : ℕ) → Type 0
   IsHeld f place count = (f.start ≤ place) × (place + count ≤ f.start + f.held)
 
-  -- a short read inside the store, near the end of the last one
+  -- a short read of a byte or more inside the store, near the end of the last one
   pub record IsNear (f : AheadStore S ghosts) (place count : ℕ) : Type 0 where
+    pub some : 0 < count
     pub after : IsAfter (ahead_next f) place
     pub short : count ≤ 4096
     pub inside : place + count ≤ ahead_size f

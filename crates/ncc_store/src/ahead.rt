@@ -144,8 +144,9 @@ impl<S: Store> AheadStore<S> {
         ensures page { result ≤ 65536 }
         ensures inside { 0 < result → (count ≤ result) × (place + result ≤ self.now.size) }
         ensures near { IsNear self.now place count → result ≡ min (ahead_page self.now) (self.now.size - place) }
+        ensures far { (IsNear self.now place count → ⊥) → result ≡ 0 }
     {
-        if !self.is_near(place) || count > SHORT {
+        if count == 0 || count > SHORT || !self.is_near(place) {
             return 0;
         }
         if place > self.size || count as u64 > self.size - place {
@@ -181,7 +182,7 @@ impl<S: Store> AheadStore<S> {
         ensures told { IsTrue S.tells_bytes
             → OnOk result (out.new ≡ take (length out.old) (drop place (S.bytes (ahead_inner self.old)))) }
         ensures size { self.new.size ≡ self.old.size }
-        ensures turned { 0 < length out.old → IsNear self.old place (length out.old) → OnOk result (IsHeld self.new
+        ensures turned { IsNear self.old place (length out.old) → OnOk result (IsHeld self.new
             place (min (ahead_page self.old) (ahead_size self.old - place))) }
         ensures unmoved { Unmoved S.bytes S.images S.moment S.images_since (ahead_inner self.old) (ahead_inner self.new) }
         ensures kept { KeepsImages (S.images (ahead_inner self.old)) (S.images (ahead_inner self.new)) }
@@ -189,6 +190,8 @@ impl<S: Store> AheadStore<S> {
         ensures calls { S.calls (ahead_inner self.new) ≤ S.calls (ahead_inner self.old) + 1 }
         ensures reach { S.reach (ahead_inner self.new)
             ≤ max (S.reach (ahead_inner self.old)) (max (place + length out.old) self.old.size) }
+        ensures far { (IsNear self.old place (length out.old) → ⊥)
+            → S.reach (ahead_inner self.new) ≤ max (S.reach (ahead_inner self.old)) (place + length out.old) }
     {
         let count = self.ahead_of(place, out.len());
         if count == 0 {
@@ -256,7 +259,7 @@ impl<S: Store> Store for AheadStore<S> {
         ensures next { length out.old ≤ 4096 → place + length out.old < 2 ^ 64
             → OnOk result (ahead_next self.new ≡ Some (place + length out.old)) }
         ensures alone { 4096 < length out.old → OnOk result (ahead_next self.new ≡ None) }
-        ensures turned { 0 < length out.old → IsNear self.old place (length out.old)
+        ensures turned { IsNear self.old place (length out.old)
             → (IsHeld self.old place (length out.old) → ⊥) → OnOk result
             (IsHeld self.new place (min (ahead_page self.old) (ahead_size self.old - place))) }
         ensures unmoved { Unmoved S.bytes S.images S.moment S.images_since (ahead_inner self.old) (ahead_inner self.new) }
@@ -266,6 +269,8 @@ impl<S: Store> Store for AheadStore<S> {
         ensures none { IsHeld self.old place (length out.old) → ahead_inner self.new ≡ ahead_inner self.old }
         ensures reach { S.reach (ahead_inner self.new)
             ≤ max (S.reach (ahead_inner self.old)) (max (place + length out.old) (ahead_size self.old)) }
+        ensures far { (IsNear self.old place (length out.old) → ⊥)
+            → S.reach (ahead_inner self.new) ≤ max (S.reach (ahead_inner self.old)) (place + length out.old) }
     {
         match self.held_at(place, out.len()) {
             Some(at) => copy_from(&self.page, at, out),

@@ -27,6 +27,7 @@ pub use log::{Call, LogStore};
 pub use log_file::LogFile;
 pub use long::LongStore;
 pub use memory::MemStore;
+pub use opening::file_options;
 pub use store::Store;
 pub use system_file::SystemFile;
 

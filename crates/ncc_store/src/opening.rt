@@ -11,7 +11,7 @@ use std::fs::{File, OpenOptions};
 use std::rt::Files;
 
 /// How a file is opened: for reading, and where `write` says so for writing. None is made, and none is cut.
-fn options(write: bool) -> OpenOptions
+pub fn file_options(write: bool) -> OpenOptions
     ensures { result ≡ with_write (with_read new_options true) write }
 {
     let mut options = OpenOptions::new();
@@ -31,7 +31,7 @@ pub(crate) fn open<R: Files<File = File>>(
     if !fs::metadata(rt, path).is_ok_and(|about| about.is_file()) {
         return Err(Device);
     }
-    match options(write).open(rt, path) {
+    match file_options(write).open(rt, path) {
         Ok(file) if file.metadata().is_ok_and(|about| about.is_file()) => take(file, write),
         _ => Err(Device),
     }

@@ -97,10 +97,11 @@ impl<W: Sink> Outlet<W> {
         self.hold(end)
     }
 
-    /// How many values of this size end at most one past a page.
+    /// How many values of this size fill a page: the last one ends with it, or is the only one that ends past it.
     fn room_for(&self, size: usize) -> usize
         requires { 0 < size }
         ensures some { 0 < result }
+        ensures whole { self.now.full ≤ self.now.filled + result * size }
         ensures near { self.now.filled + result * size < self.now.full + size }
     {
         (self.full - self.filled - 1) / size + 1

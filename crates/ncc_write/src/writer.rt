@@ -64,6 +64,8 @@ impl<W: Sink> FileWriter<W> {
         ensures untouched { IfErr result (λ e. e.1 ≡ Memory → e.0 ≡ sink) }
         ensures refused { IfErr result (λ e. StartFails (W.put sink) (W.put e.0) (W.failures sink) (W.failures e.0)
             (header_of (schema_of built)) e.1) }
+        ensures calls { IfOk result (λ x. W.calls (sink_in x) ≤ W.calls sink + length (header_of (schema_of built))) }
+        ensures asked { IfErr result (λ e. W.calls e.0 ≤ W.calls sink + length (header_of (schema_of built))) }
     {
         built_is_writable(&built);
         let Parts {

@@ -65,6 +65,16 @@ fn errors_are_answered(rt: HostRuntime) {
     }
 }
 
+/// What is there is read by one call, and what is taken is written by one.
+#[test]
+fn one_call_takes_all(rt: HostRuntime) {
+    let mut room = [0; 4];
+    let mut source = ReadSource::new(b"abc".as_slice());
+    assert!(rt; source.read(&mut room) == Ok(3));
+    let mut sink = WriteSink::new(Vec::new(rt.alloc()));
+    assert!(rt; sink.write(b"abc") == Ok(3));
+}
+
 /// The length of the header from a source that passes so many calls of at most `most` bytes.
 fn length_after(alloc: Global, input: &[u8], calls: u64, most: u64) -> Result<u64, HeaderError> {
     let mut source = FuseSource::new(ReadSource::new(input), calls, most.max(1));

@@ -55,23 +55,17 @@ returns-clause-counted g c = λ told.
     ⊎ (∥ IsFilled (g.F.SystemFile.bytes f) c.args.limit c.args.more (g.F.SystemFile.bytes (file_of c.extend_engine-store.result.0)) ∥₁)))
     c.over.ensures.file (c.extend_engine-store.ensures.counted told))
 
-pub returns-clause-any_moment : goal.returns-clause-any_moment
-returns-clause-any_moment g c told only places d is holds =
+pub returns-clause-stop : goal.returns-clause-stop
+returns-clause-stop g c told places d is holds =
     let same = sym c.over.ensures.file in
-    moved _ _ _ _ _ _ _ _ c.over.ensures.file c.into_file.ensures
-    ((c.extend_engine-store.ensures.stop told).any_moment
-    (subst (λ (f : g.row.F.Denot). Only (g.F.SystemFile.bytes f) (g.F.SystemFile.images f)) same only)
-    places d is
-    (subst (λ (f : g.row.F.Denot). HoldsAll (g.F.SystemFile.bytes f) c.args.limit places d) same holds))
-
-pub returns-clause-whatever_was_pending : goal.returns-clause-whatever_was_pending
-returns-clause-whatever_was_pending g c told places d is holds =
-    let same = sym c.over.ensures.file in
-    subst (λ (f : g.row.F.Denot). LeavesOnly g.F.SystemFile.moment g.F.SystemFile.images_since c.args.file c.into_file.result
-    (λ i. g.F.SystemFile.images f i ⊎ (∥ HoldsSome i c.args.limit places d c.args.more ∥₁))) c.over.ensures.file
-    (moved _ _ _ _ _ _ _ _ c.over.ensures.file c.into_file.ensures
-    ((c.extend_engine-store.ensures.stop told).whatever_was_pending places d is
-    (subst (λ (f : g.row.F.Denot). HoldsAll (g.F.SystemFile.bytes f) c.args.limit places d) same holds)))
+    let held = subst (λ (f : g.row.F.Denot). HoldsAll (g.F.SystemFile.bytes f) c.args.limit places d) same holds in
+    let left = c.extend_engine-store.ensures.stop told in (
+      λ only. moved _ _ _ _ _ _ _ _ c.over.ensures.file c.into_file.ensures
+          (left.any_moment (subst (λ (f : g.row.F.Denot). Only (g.F.SystemFile.bytes f) (g.F.SystemFile.images f)) same only) places d is held),
+      subst (λ (f : g.row.F.Denot). LeavesOnly g.F.SystemFile.moment g.F.SystemFile.images_since c.args.file c.into_file.result
+          (λ i. g.F.SystemFile.images f i ⊎ (∥ HoldsSome i c.args.limit places d c.args.more ∥₁))) c.over.ensures.file
+          (moved _ _ _ _ _ _ _ _ c.over.ensures.file c.into_file.ensures (left.whatever_was_pending places d is held)),
+    )
 
 pub returns-clause-holds : goal.returns-clause-holds
 returns-clause-holds g c = λ told passed places d is holds.

@@ -4,7 +4,7 @@ use Rattle.std.proofs.lemmas.Result.{err_from_is_err_and}
 use Rattle.ncc_header.specs.declared.fault.HeaderError.TheVariants as errors
 use Rattle.ncc_header.specs.FromSource.{HasRead}
 use Rattle.ncc_header.specs.Standing.{IsSettled}
-use Rattle.ncc_header.proofs.FromSource.{has_read_none, has_read_more, failed_source, read_most, failed_most, failed_memory, wanted_within}
+use Rattle.ncc_header.proofs.FromSource.{has_read_none, has_read_more, failed_source, read_most, read_few, failed_most, failed_few, failed_memory, wanted_within}
 use Rattle.ncc_header.proofs.from_source.read_wanted.Goals as goal
 
 pub loop-wanted-init : goal.loop-wanted-init
@@ -20,6 +20,8 @@ loop-wanted-init g c =
       most = omega arith;
       over = λ none. inr (λ bytes took. subst (IsSettled bytes) c.requires.limit (c.expects-wanted.ensures.settled bytes took c.requires.fresh none));
       count = refl;
+      called = omega arith;
+      each = λ some. omega arith;
     }
 
 pub returns-in_err-n-clause-err : goal.returns-in_err-n-clause-err
@@ -48,6 +50,8 @@ loop-wanted-preserved-then-n-gt0 g c =
       most = omega (arith, f.few, length-take c.min.result c.loop-wanted.piece, c.min.ensures, c.loop-wanted.invariant.within c.loop-wanted-test.true);
       over = λ none. inr (λ bytes took. subst (IsSettled bytes) read.limit_is (expects.ensures.settled bytes took f.fresh none));
       count = c.in_ok-n.ensures.count ∙ c.loop-wanted.invariant.count;
+      called = omega (arith, c.read_piece.ensures.calls, c.loop-wanted.invariant.each c.loop-wanted-test.true);
+      each = λ some. omega (arith, c.read_piece.ensures.calls, c.loop-wanted.invariant.each c.loop-wanted-test.true, c.if-n-gt0.true);
     }
 
 pub loop-wanted-preserved : goal.loop-wanted-preserved
@@ -63,6 +67,8 @@ loop-wanted-preserved g c =
       most = omega (arith, f.few, length-take c.min.result c.loop-wanted.piece, c.min.ensures, c.loop-wanted.invariant.within c.loop-wanted-test.true);
       over = λ none. inl (f.end (omega (arith, c.if-n-gt0.false)) (omega (arith, length-take c.min.result c.loop-wanted.piece, c.min.ensures, c.min.array_long, c.loop-wanted-test.true)));
       count = c.in_ok-n.ensures.count ∙ c.loop-wanted.invariant.count;
+      called = omega (arith, c.read_piece.ensures.calls, c.loop-wanted.invariant.each c.loop-wanted-test.true);
+      each = λ some. absurd (omega (arith, some));
     }
 
 pub returns-in_err-n-clause-memory : goal.returns-in_err-n-clause-memory
@@ -82,3 +88,14 @@ pub returns-clause-most : goal.returns-clause-most
 returns-clause-most g c =
     let left = g.R.Source.left in
     read_most (left c.args.source.now) (left c.loop-wanted.source) c.loop-wanted.decoder c.args.limit c.loop-wanted.taken c.loop-wanted.invariant.read c.loop-wanted.invariant.most
+
+pub returns-in_err-n-clause-calls : goal.returns-in_err-n-clause-calls
+returns-in_err-n-clause-calls g c =
+    let left = g.R.Source.left in
+    failed_few (left c.args.source.now) (left c.loop-wanted.source) (left c.read_piece.new.source) c.loop-wanted.decoder c.args.limit c.loop-wanted.taken _ c.in_err-n.field-0.0 (g.R.Source.calls c.args.source.now) (g.R.Source.calls c.read_piece.new.source) c.loop-wanted.invariant.read c.in_err-n.ensures.err
+    (omega (arith, c.read_piece.ensures.calls, c.loop-wanted.invariant.each c.loop-wanted-test.true))
+
+pub returns-clause-calls : goal.returns-clause-calls
+returns-clause-calls g c =
+    let left = g.R.Source.left in
+    read_few (left c.args.source.now) (left c.loop-wanted.source) c.loop-wanted.decoder c.args.limit c.loop-wanted.taken (g.R.Source.calls c.args.source.now) (g.R.Source.calls c.loop-wanted.source) c.loop-wanted.invariant.read c.loop-wanted.invariant.called

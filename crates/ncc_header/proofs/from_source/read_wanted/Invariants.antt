@@ -15,6 +15,8 @@ invariant-loop-wanted g l = record {
   most : l.taken ≤ l.limit;
   over : l.wanted ≡ 0 → IsOver (g.R.Source.left l.source) l.decoder l.limit;
   count : g.R.Source.failures l.source ≡ g.R.Source.failures l.fn.source;
+  called : g.R.Source.calls l.source ≤ g.R.Source.calls l.fn.source + l.taken + 1;
+  each : 0 < l.wanted → g.R.Source.calls l.source ≤ g.R.Source.calls l.fn.source + l.taken;
 }
 
 abbrev pub decreases-loop-wanted : goal.decreases-loop-wanted

@@ -1,5 +1,5 @@
-use Rattle.std.proofs.Common.{◌≡◌, ◌++◌, take, sym, ap, ◌∙◌}
-use Rattle.std.proofs.lemmas.List.{take-append-drop}
+use Rattle.std.proofs.Common.{◌≡◌, ◌++◌, length, take, sym, ap, ◌∙◌, arith, rules}
+use Rattle.std.proofs.lemmas.List.{length-drop, take-append-drop}
 use Rattle.ncc_schema.proofs.Writing.{so_far_more}
 use Rattle.ncc_schema.proofs.sink.write_all.Goals as goal
 
@@ -11,4 +11,13 @@ loop-rest-preserved g c =
     record {
       so_far = so_far_more _ (g.W.Sink.put c.loop-rest.sink) _ c.args.bytes.now rest (take n rest) _ c.loop-rest.invariant.so_far parts c.in_ok-n.ensures.bytes.2;
       counts = c.in_ok-n.ensures.count ∙ c.loop-rest.invariant.counts;
+      called = omega (
+        arith,
+        c.write.ensures.calls,
+        c.loop-rest.invariant.called,
+        c.in_ok-n.ensures.bytes.0,
+        c.in_ok-n.ensures.bytes.1 (search rules),
+        ap length c.split_at.ensures.back,
+        length-drop n rest,
+      );
     }
