@@ -1,5 +1,6 @@
 mod Anew
 mod Builders
+pub mod BuiltFacts
 mod Lists
 mod NewItems
 mod NewNames

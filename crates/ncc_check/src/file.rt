@@ -7,7 +7,7 @@ ghost use Rattle.ncc_check.specs.Checks.{StandsIn};
 ghost use Rattle.ncc_check.specs.Told.{tells_header};
 
 use crate::append_error::AppendError;
-use crate::next_record::{next_record, put_count};
+use crate::next_place::{next_record, place_of_next, put_count};
 use crate::staging::add_image;
 use ncc_header::laws::rewritten_count_is_begun;
 use ncc_header::{Count, Schema};
@@ -94,18 +94,9 @@ impl<S: Store> NcFile<S> {
         if self.must_reopen {
             return Err(AppendError::Reopen);
         }
-        if self.placed.records_begin().is_none() {
-            return Err(AppendError::NoRecordVariable);
-        }
-        if !self.placed.is_packed() {
-            return Err(AppendError::NotPacked);
-        }
-        if let Count::Streaming = self.schema.count {
-            return Err(AppendError::Streaming);
-        }
-        match next_record(self.schema.version, &self.placed) {
-            Some(_) => Ok(()),
-            None => Err(AppendError::CountFull),
+        match place_of_next(&self.schema, &self.placed) {
+            Ok(_) => Ok(()),
+            Err(refused) => Err(refused),
         }
     }
 

@@ -26,11 +26,7 @@ use std::alloc::{AllocError, Global};
 
 /// Exactly the notes that are due of a header with variables of these sizes, by offset, then in the
 /// order of the kinds.
-pub(crate) fn notes_of(
-    alloc: Global,
-    header: &Header,
-    sizes: &Sizes,
-) -> Result<Vec<Note>, AllocError>
+pub fn notes_of(alloc: Global, header: &Header, sizes: &Sizes) -> Result<Vec<Note>, AllocError>
     requires begun { (input : List ℕ) × (limit : ℕ) × Begins input limit header.now }
     requires sizes { AreSizes header.now.schema sizes.now }
     ensures { IfOk result (λ notes. AreNotes header.now notes.items) }

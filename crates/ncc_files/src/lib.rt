@@ -86,19 +86,6 @@ pub const TABLE: [u32; 24] = [
     1, 0, 0, 3, 12, 96,
 ];
 
-/// The variable byte a(t) without records and the scalar byte s, with their begins at words 19 and
-/// 27, at offsets 76 and 108.
-pub const RECORD_AND_SCALAR: [u32; 28] = [
-    0x43444601, 0, 0x0a, 1, 1, 0x74000000, 0, 0, 0, 0x0b, 2, 1, 0x61000000, 1, 0, 0, 0, 1, 4, 112,
-    1, 0x73000000, 0, 0, 0, 1, 4, 113,
-];
-
-/// The scalars byte a and byte b, which stand in the other order.
-pub const TWO_SCALARS: [u32; 24] = [
-    0x43444601, 0, 0, 0, 0, 0, 0x0b, 2, 1, 0x61000000, 0, 0, 0, 1, 4, 100, 1, 0x62000000, 0, 0, 0,
-    1, 4, 96,
-];
-
 /// The scalar byte s and the variables byte a(t) and short b(t) without records, with their begins at
 /// words 18, 27 and 36, at offsets 72, 108 and 144.
 pub const SCALAR_AND_RECORDS: [u32; 37] = [
@@ -112,18 +99,6 @@ pub const TWO_OF_EACH_KIND: [u32; 45] = [
     0x43444601, 0, 0x0a, 1, 1, 0x74000000, 0, 0, 0, 0x0b, 4, 1, 0x61000000, 1, 0, 0, 0, 1, 4, 184,
     1, 0x62000000, 1, 0, 0, 0, 3, 4, 186, 1, 0x73000000, 0, 0, 0, 1, 4, 180, 1, 0x75000000, 0, 0,
     0, 1, 4, 181,
-];
-
-/// The variable double v(x, y), with x of length 2^31 and y of length 2^30, in CDF-2.
-pub const TOO_LARGE: [u32; 25] = [
-    0x43444602, 0, 0x0a, 2, 1, 0x78000000, 0x80000000, 1, 0x79000000, 0x40000000, 0, 0, 0x0b, 1, 1,
-    0x76000000, 2, 0, 1, 0, 0, 6, 0, 0, 100,
-];
-
-/// The variable double v(x, y), with x of length 2^62 and y of length 4, in CDF-5.
-pub const TOO_LARGE_IN_CDF_5: [u32; 39] = [
-    0x43444605, 0, 0, 0x0a, 0, 2, 0, 1, 0x78000000, 0x40000000, 0, 0, 1, 0x79000000, 0, 4, 0, 0, 0,
-    0x0b, 0, 1, 0, 1, 0x76000000, 0, 2, 0, 0, 0, 1, 0, 0, 0, 6, 0, 0, 0, 156,
 ];
 
 /// The bytes of words.

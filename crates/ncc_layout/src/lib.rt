@@ -26,7 +26,7 @@ pub use placed_file::Placed;
 pub use placed_var::PlacedVar;
 pub use placing::{fault_at, placed};
 pub use plan_fault::PlanFault;
-pub use planning::standard;
+pub use planning::{records_begin, standard};
 pub use records::next_count;
 pub use size_list::Sizes;
 pub use sizing::sizes;

@@ -12,7 +12,8 @@ mod fitting;
 use crate::plan_fault::PlanFault;
 use crate::sizing::sizes;
 use crate::vsize::vsize_word;
-use fitting::{fits_version, offsets_fit, records_begin};
+pub use fitting::records_begin;
+use fitting::{fits_version, offsets_fit};
 use ncc_schema::{
     Count, Dim, Schema, Var, VarPlace, header_length, is_record_var, var_size, vars_start,
 };

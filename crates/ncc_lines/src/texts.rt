@@ -100,7 +100,7 @@ pub fn push_head(out: &mut Vec<u8>, schema: &Schema) -> Result<(), AllocError>
 }
 
 /// The word that names a fault.
-fn kind_word(kind: FaultKind) -> &'static str
+pub fn fault_name(kind: FaultKind) -> &'static str
     ensures { result.now ≡ fault_word kind }
 {
     match kind {
@@ -136,5 +136,5 @@ pub fn put_fault<W: Sink>(fault: Fault, sink: &mut W) -> Result<(), Failed>
     ensures bytes { WritesAll (W.put sink.old) (W.put sink.new) result (fault_line fault) }
     ensures count { Counts (W.failures sink.old) (W.failures sink.new) result }
 {
-    put_at(b"fault ", kind_word(fault.kind), fault.offset, sink)
+    put_at(b"fault ", fault_name(fault.kind), fault.offset, sink)
 }

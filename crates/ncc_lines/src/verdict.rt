@@ -42,7 +42,7 @@ fn send_ok<W: Sink>(report: &Report, page: &mut Vec<u8>, sink: &mut W) -> Result
 }
 
 /// The word that names a note.
-fn note_name(kind: NoteKind) -> &'static str
+pub fn note_name(kind: NoteKind) -> &'static str
     ensures { result.now ≡ note_word kind }
 {
     match kind {
@@ -58,7 +58,7 @@ fn note_name(kind: NoteKind) -> &'static str
 }
 
 /// The word that names a fault of the layout.
-fn layout_name(kind: LayoutFaultKind) -> &'static str
+pub fn layout_name(kind: LayoutFaultKind) -> &'static str
     ensures { result.now ≡ layout_word kind }
 {
     match kind {

@@ -1,8 +1,8 @@
-//! Files that are converted: what is against it, and what goes out where a store or a sink fails.
+//! Files that are converted: what goes out where a store or a sink fails.
 
 use ncc_check::{NcFile, open};
 use ncc_engines::{Answer, convert_engine, plan};
-use ncc_files::{FIXED, FIXED_IN_CDF_2, LIMIT, bytes_of, with_byte};
+use ncc_files::{FIXED, FIXED_IN_CDF_2, LIMIT, bytes_of};
 use ncc_header::{FuseSink, WriteSink};
 use ncc_lines::Unshown;
 use ncc_store::{FuseStore, MemStore};
@@ -19,36 +19,6 @@ fn file_of(
     match open(alloc, FuseStore::new(MemStore::new(bytes), calls), LIMIT) {
         Ok(file) => Ok(file),
         Err(_) => Err(AllocError),
-    }
-}
-
-/// Short v(x), with this byte at this place.
-const CHANGED: [(usize, u8, Version, &str); 3] = [
-    (20, b'/', Version::V2, "refused BadName\n"),
-    (20, b' ', Version::V5, "refused BadName\n"),
-    (20, b'y', Version::V1, ""),
-];
-
-/// The text that planning prints.
-fn printed(alloc: Global, at: usize, byte: u8, version: Version) -> Option<Vec<u8>> {
-    let file = file_of(alloc, with_byte(alloc, &FIXED, at, byte).ok()?, 2).ok()?;
-    let mut sink = WriteSink::new(Vec::new(alloc));
-    let answer = plan(alloc, &file, version, &mut sink).err();
-    let text = sink.into_inner();
-    if answer == Some(Answer::Refused) || (answer.is_none() && text.is_empty()) {
-        Some(text)
-    } else {
-        None
-    }
-}
-
-#[test]
-fn what_is_against_a_version(rt: HostRuntime) {
-    for (at, byte, version, text) in CHANGED {
-        match printed(rt.alloc(), at, byte, version) {
-            Some(out) => assert!(rt; out.as_slice() == text.as_bytes(), "{text}"),
-            None => assert!(rt; false, "{text}"),
-        }
     }
 }
 

@@ -1,4 +1,4 @@
-//! Files that are extended: what is printed, and what they are then.
+//! Files that are extended, where an output or a store fails.
 
 use ncc_engines::{Answer, extend_engine, extend_file};
 use ncc_files::{FIXED, LIMIT, RECORDS, RECORDS_DATA, TWO_RECORD_VARIABLES, bytes_of, with_byte};
@@ -7,13 +7,11 @@ use ncc_store::{Call, FuseStore, LogFile, LogStore, MemStore};
 use std::alloc::{AllocError, Global};
 use std::test::*;
 
-/// A file, how many records are added, what that comes to and prints, and what the file is then.
+/// A file, how many records are added, and what the file is then.
 #[derive(Drop)]
 struct Row {
     bytes: Vec<u8>,
     more: u64,
-    answer: Answer,
-    text: &'static str,
     after: Vec<u8>,
 }
 
@@ -54,101 +52,38 @@ fn streaming(alloc: Global) -> Result<Vec<u8>, AllocError> {
     Ok(bytes)
 }
 
-/// The file is refused by this line, and stays.
-fn refused(
-    alloc: Global,
-    bytes: Vec<u8>,
-    more: u64,
-    text: &'static str,
-) -> Result<Row, AllocError> {
+/// The file is refused, and stays.
+fn refused(alloc: Global, bytes: Vec<u8>, more: u64) -> Result<Row, AllocError> {
     let after = bytes.to_vec(alloc)?;
-    Ok(Row {
-        bytes,
-        more,
-        answer: Answer::Refused,
-        text,
-        after,
-    })
+    Ok(Row { bytes, more, after })
 }
 
 /// The file has these bytes then.
-fn extended(bytes: Vec<u8>, more: u64, text: &'static str, after: Vec<u8>) -> Row {
-    Row {
-        bytes,
-        more,
-        answer: Answer::Passed,
-        text,
-        after,
-    }
+fn extended(bytes: Vec<u8>, more: u64, after: Vec<u8>) -> Row {
+    Row { bytes, more, after }
 }
 
 fn rows(alloc: Global) -> Result<Vec<Row>, AllocError> {
     let three = [0x80, 1, 0x80, 1, 0x80, 1];
     let both = [0, 0, 0x81, 0x81, 0x81, 0x81, 0x80, 1, 0x80, 1];
     let mut rows = Vec::new(alloc);
-    rows.push(extended(
-        records(alloc, 3, &[])?,
-        1,
-        "records 4\n",
-        records(alloc, 4, &three[..2])?,
-    ))?;
-    rows.push(extended(
-        records(alloc, 3, &[])?,
-        3,
-        "records 6\n",
-        records(alloc, 6, &three)?,
-    ))?;
-    rows.push(extended(
-        records(alloc, 3, &[])?,
-        0,
-        "records 3\n",
-        records(alloc, 3, &[])?,
-    ))?;
+    rows.push(extended(records(alloc, 3, &[])?, 1, records(alloc, 4, &three[..2])?))?;
+    rows.push(extended(records(alloc, 3, &[])?, 3, records(alloc, 6, &three)?))?;
+    rows.push(extended(records(alloc, 3, &[])?, 0, records(alloc, 3, &[])?))?;
     rows.push(extended(
         two_variables(alloc, 2, &[])?,
         1,
-        "records 3\n",
         two_variables(alloc, 3, &both)?,
     ))?;
-    rows.push(extended(
-        bytes_of(alloc, &FIXED)?,
-        0,
-        "records 0\n",
-        bytes_of(alloc, &FIXED)?,
-    ))?;
-    rows.push(extended(streaming(alloc)?, 0, "records 3\n", streaming(alloc)?))?;
-    rows.push(refused(
-        alloc,
-        bytes_of(alloc, &FIXED)?,
-        1,
-        "refused NoRecordVariable\n",
-    )?)?;
-    rows.push(refused(alloc, streaming(alloc)?, 2, "refused Streaming\n")?)?;
-    rows.push(refused(alloc, with_gap(alloc)?, 1, "refused NotPacked\n")?)?;
-    rows.push(extended(with_gap(alloc)?, 0, "records 2\n", with_gap(alloc)?))?;
-    rows.push(refused(alloc, Vec::new(alloc), 0, "fault EndsEarly at 0\n")?)?;
-    rows.push(refused(alloc, records_cut(alloc)?, 1, "fault Truncated at 76\n")?)?;
+    rows.push(extended(bytes_of(alloc, &FIXED)?, 0, bytes_of(alloc, &FIXED)?))?;
+    rows.push(extended(streaming(alloc)?, 0, streaming(alloc)?))?;
+    rows.push(refused(alloc, bytes_of(alloc, &FIXED)?, 1)?)?;
+    rows.push(refused(alloc, streaming(alloc)?, 2)?)?;
+    rows.push(refused(alloc, with_gap(alloc)?, 1)?)?;
+    rows.push(extended(with_gap(alloc)?, 0, with_gap(alloc)?))?;
+    rows.push(refused(alloc, Vec::new(alloc), 0)?)?;
+    rows.push(refused(alloc, records_cut(alloc)?, 1)?)?;
     Ok(rows)
-}
-
-#[test]
-fn files_that_are_extended(rt: HostRuntime) -> Result<(), Fail> {
-    let alloc = rt.alloc();
-    for row in rows(alloc)? {
-        let Row {
-            bytes,
-            more,
-            answer,
-            text,
-            after,
-        } = row;
-        let mut sink = WriteSink::new(Vec::new(alloc));
-        let (store, found) = extend_engine(alloc, MemStore::new(bytes), LIMIT, more, &mut sink);
-        assert!(rt; found == answer);
-        assert!(rt; sink.into_inner().as_slice() == text.as_bytes(), "{text}");
-        assert!(rt; store.into_bytes().as_slice() == after.as_slice());
-    }
-    Ok(())
 }
 
 /// The line is one call of the output: where it fails the file is the same as where it doesn't.
@@ -156,13 +91,7 @@ fn files_that_are_extended(rt: HostRuntime) -> Result<(), Fail> {
 fn outputs_that_fail(rt: HostRuntime) -> Result<(), Fail> {
     let alloc = rt.alloc();
     for row in rows(alloc)? {
-        let Row {
-            bytes,
-            more,
-            answer: _,
-            text: _,
-            after,
-        } = row;
+        let Row { bytes, more, after } = row;
         let mut sink = FuseSink::new(WriteSink::new(Vec::new(alloc)), 0, 65_536);
         let (store, found) = extend_engine(alloc, MemStore::new(bytes), LIMIT, more, &mut sink);
         assert!(rt; found == Answer::Device);

@@ -1,11 +1,9 @@
 //! What `list` and `check` say of a file.
 
 use ncc_csv::{Pick, parse_list};
-use ncc_engines::{Answer, check_engine, csv_engine, list_engine};
-use ncc_files::LIMIT;
+use ncc_engines::{Answer, list_engine};
 use ncc_header::{ReadSource, Seq, WriteSink};
-use ncc_lines::{FloatStyle, Unshown};
-use ncc_store::MemStore;
+use ncc_lines::FloatStyle;
 use std::alloc::{AllocError, Global};
 use std::process::Abort;
 
@@ -55,39 +53,6 @@ pub fn expect_within<R: Abort + AllocGlobal>(
     assert!(rt; written.as_slice() == text.as_bytes());
 }
 
-/// The input passes, and its lines are these.
-pub fn expect_list<R: Abort + AllocGlobal>(rt: &R, input: &[u8], text: &str) {
-    expect_within(rt, input, LIMIT, Answer::Passed, text);
-}
-
-/// The input is refused, by this line.
-pub fn expect_fault<R: Abort + AllocGlobal>(rt: &R, input: &[u8], line: &str) {
-    expect_within(rt, input, LIMIT, Answer::Refused, line);
-}
-
-/// `check` of these bytes has this answer and text, by whether notes are faults.
-pub fn expect_verdict<R: Abort + AllocGlobal>(
-    rt: &R,
-    bytes: &[u8],
-    strict: bool,
-    answer: Answer,
-    text: &str,
-) -> Result<(), AllocError> {
-    let alloc = rt.alloc();
-    let mut store = MemStore::new(bytes.to_vec(alloc)?);
-    let mut sink = WriteSink::new(Vec::new(alloc));
-    assert!(rt; check_engine(alloc, &mut store, LIMIT, strict, &mut sink) == answer);
-    let written = sink.into_inner();
-    assert!(rt; written.as_slice() == text.as_bytes());
-    assert!(rt; store.into_bytes().as_slice() == bytes);
-    Ok(())
-}
-
-/// The first so many bytes, or all of them.
-pub fn front(bytes: &[u8], size: usize) -> &[u8] {
-    bytes.split_at(size.min(bytes.len())).0
-}
-
 /// The numbers of a list that is given, or none where it is empty.
 fn numbers(alloc: Global, list: &str) -> Result<Option<Seq<u64>>, AllocError> {
     if list.is_empty() {
@@ -103,34 +68,4 @@ pub fn pick_of(alloc: Global, start: &str, count: &str, stride: &str) -> Result<
         count: numbers(alloc, count)?,
         stride: numbers(alloc, stride)?,
     })
-}
-
-/// What `csv` prints of what is picked of a variable in a file of these bytes has this answer and text.
-pub fn expect_rows<R: Abort + AllocGlobal>(
-    rt: &R,
-    bytes: &[u8],
-    name: &str,
-    pick: Pick,
-    answer: Answer,
-    text: &str,
-) -> Result<(), AllocError> {
-    let alloc = rt.alloc();
-    let store = MemStore::new(bytes.to_vec(alloc)?);
-    let mut sink = WriteSink::new(Vec::new(alloc));
-    let name = name.as_bytes();
-    let (_, found) = csv_engine(
-        alloc,
-        store,
-        LIMIT,
-        name,
-        pick,
-        FloatStyle::Bits,
-        false,
-        &mut sink,
-        &mut Unshown,
-    );
-    assert!(rt; found == answer);
-    let written = sink.into_inner();
-    assert!(rt; written.as_slice() == text.as_bytes(), "{text}");
-    Ok(())
 }

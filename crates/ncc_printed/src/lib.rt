@@ -1,4 +1,5 @@
-//! Tests of what the commands print: lines, faults, values, verdicts, and failing sources, stores and sinks.
+//! Tests of what the commands print where a source, a store or a sink fails, and by how many calls. What the program shows
+//! stands in `tests/*.rows`.
 #![tactic(auto)]
 
 #[cfg(test)]
@@ -10,16 +11,8 @@ mod extends;
 #[cfg(test)]
 mod failures;
 #[cfg(test)]
-mod faults;
-#[cfg(test)]
 mod helpers;
 #[cfg(test)]
-mod lists;
+mod limits;
 #[cfg(test)]
 mod pages;
-#[cfg(test)]
-mod selections;
-#[cfg(test)]
-mod values;
-#[cfg(test)]
-mod verdicts;

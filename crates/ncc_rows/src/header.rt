@@ -2,7 +2,7 @@
 //! or changed, what is written, and decoding where memory is refused.
 
 mod answers;
-pub mod cuts;
+mod cuts;
 mod encoding;
 mod feeding;
 pub mod helpers;

@@ -19,42 +19,42 @@ use Rattle.ncc_schema.specs.Header as spelled
 use Rattle.ncc_schema.specs.Header.{Language, ◌⨾◌, IsHeader, nc_dimension, nc_variable, nc_attribute, zeros, canon_name, canon_head, canon_list, canon_dim, canon_attr, canon_dimids, canon_var, canon}
 
 -- each spelling is as long as this one
-abbrev AsLong : Language → List ℕ → Type 0
+abbrev pub AsLong : Language → List ℕ → Type 0
 AsLong p c = (b : List ℕ) → p b → length b ≡ length c
 
-both : (p q : Language) (x y : List ℕ) → AsLong p x → AsLong q y → AsLong (p ⨾ q) (x ++ y)
+pub both : (p q : Language) (x y : List ℕ) → AsLong p x → AsLong q y → AsLong (p ⨾ q) (x ++ y)
 both p q x y p_long q_long b s =
     omega (arith, ap length s.2, length-append s.0 s.1, length-append x y, p_long s.0 s.3, q_long s.1 s.4)
 
-exact : (c : List ℕ) → AsLong (spelled.exactly c) c
+pub exact : (c : List ℕ) → AsLong (spelled.exactly c) c
 exact c b e = ap length e
 
-pads : (n : ℕ) → AsLong (spelled.padding n) (zeros (padding_of n))
+pub pads : (n : ℕ) → AsLong (spelled.padding n) (zeros (padding_of n))
 pads n b s = s.0 ∙ sym (length-replicate {A = ℕ} (padding_of n) 0)
 
-each_long : {A : Type 0} (item : A → Language) (canonical : A → List ℕ) → ((a : A) → AsLong (item a) (canonical a)) → (items : List A) → AsLong (spelled.each item items) (flat_map canonical items)
+pub each_long : {A : Type 0} (item : A → Language) (canonical : A → List ℕ) → ((a : A) → AsLong (item a) (canonical a)) → (items : List A) → AsLong (spelled.each item items) (flat_map canonical items)
 each_long item canonical long [] = exact []
 each_long item canonical long (a ∷ items) = both (item a) (spelled.each item items) (canonical a) (flat_map canonical items) (long a) (each_long item canonical long items)
 
 -- a tag has four bytes, whichever it is
-tag_long : (tag n other : ℕ) → AsLong (spelled.list_tag tag n) (big_endian 4 other)
+pub tag_long : (tag n other : ℕ) → AsLong (spelled.list_tag tag n) (big_endian 4 other)
 tag_long tag n other b (inl own) = ap length own ∙ length-big_endian 4 tag ∙ sym (length-big_endian 4 other)
 tag_long tag n other b (inr none) = ap length none.1 ∙ length-big_endian 4 0 ∙ sym (length-big_endian 4 other)
 
-head_long : (v : Version) (tag n : ℕ) → AsLong (spelled.list_head v tag n) (canon_head v tag n)
+pub head_long : (v : Version) (tag n : ℕ) → AsLong (spelled.list_head v tag n) (canon_head v tag n)
 head_long v tag zero = both (spelled.list_tag tag 0) (spelled.non_neg v 0) (big_endian 4 0) (big_endian (count_width_of v) 0) (tag_long tag 0 0) (exact (big_endian (count_width_of v) 0))
 head_long v tag (suc n) = both (spelled.list_tag tag (suc n)) (spelled.non_neg v (suc n)) (big_endian 4 tag) (big_endian (count_width_of v) (suc n)) (tag_long tag (suc n) tag) (exact (big_endian (count_width_of v) (suc n)))
 
-list_long : {A : Type 0} (v : Version) (tag : ℕ) (item : A → Language) (canonical : A → List ℕ) → ((a : A) → AsLong (item a) (canonical a)) → (items : List A) → AsLong (spelled.list v tag item items) (canon_list v tag canonical items)
+pub list_long : {A : Type 0} (v : Version) (tag : ℕ) (item : A → Language) (canonical : A → List ℕ) → ((a : A) → AsLong (item a) (canonical a)) → (items : List A) → AsLong (spelled.list v tag item items) (canon_list v tag canonical items)
 list_long v tag item canonical long items = both _ _ _ _ (head_long v tag (length items)) (each_long item canonical long items)
 
-name_long : (v : Version) (name : List ℕ) → AsLong (spelled.name v name) (canon_name v name)
+pub name_long : (v : Version) (name : List ℕ) → AsLong (spelled.name v name) (canon_name v name)
 name_long v name = both _ _ _ _ (exact _) (both _ _ _ _ (exact name) (pads (length name)))
 
-dim_long : (v : Version) (d : Dim) → AsLong (spelled.dim v d) (canon_dim v d)
+pub dim_long : (v : Version) (d : Dim) → AsLong (spelled.dim v d) (canon_dim v d)
 dim_long v d = both _ _ _ _ (name_long v d.name) (exact _)
 
-attr_long : (v : Version) (a : Attr) → AsLong (spelled.attr v a) (canon_attr v a)
+pub attr_long : (v : Version) (a : Attr) → AsLong (spelled.attr v a) (canon_attr v a)
 attr_long v a =
     let n = count_of a.values * size_of (type_of a.values) in
     let code = big_endian 4 (code_of (type_of a.values)) in
@@ -70,16 +70,16 @@ attr_long v a =
     (both of_number (of_bytes ⨾ of_pad) number (bytes ++ zero_pad) (exact number)
     (both of_bytes of_pad bytes zero_pad (exact bytes) (pads n))))
 
-numbers_long : (v : Version) (ids : List ℕ) → AsLong (spelled.each (spelled.non_neg v) ids) (flat_map (big_endian (count_width_of v)) ids)
+pub numbers_long : (v : Version) (ids : List ℕ) → AsLong (spelled.each (spelled.non_neg v) ids) (flat_map (big_endian (count_width_of v)) ids)
 numbers_long v ids = each_long (spelled.non_neg v) (big_endian (count_width_of v)) (λ n. exact (big_endian (count_width_of v) n)) ids
 
-dimids_long : (v : Version) (ids : List ℕ) → AsLong (spelled.dimids v ids) (canon_dimids v ids)
+pub dimids_long : (v : Version) (ids : List ℕ) → AsLong (spelled.dimids v ids) (canon_dimids v ids)
 dimids_long v ids = both _ _ _ _ (exact _) (numbers_long v ids)
 
-attrs_long : (v : Version) (attrs : List Attr) → AsLong (spelled.list v nc_attribute (spelled.attr v) attrs) (canon_list v nc_attribute (canon_attr v) attrs)
+pub attrs_long : (v : Version) (attrs : List Attr) → AsLong (spelled.list v nc_attribute (spelled.attr v) attrs) (canon_list v nc_attribute (canon_attr v) attrs)
 attrs_long v attrs = list_long v nc_attribute (spelled.attr v) (canon_attr v) (attr_long v) attrs
 
-var_long : (v : Version) (x : Var × Place) → AsLong (spelled.var v x) (canon_var v x)
+pub var_long : (v : Version) (x : Var × Place) → AsLong (spelled.var v x) (canon_var v x)
 var_long v x =
     let code = big_endian 4 (code_of x.0.xtype) in
     let vsize = big_endian (count_width_of v) x.1.vsize in
@@ -98,7 +98,7 @@ var_long v x =
     (both of_vsize of_begin vsize begin (exact vsize) (exact begin)))))
 
 -- the lists of a header
-lists_long : (s : Schema) (places : List Place) → AsLong (spelled.list s.version nc_dimension (spelled.dim s.version) s.dims ⨾ spelled.list s.version nc_attribute (spelled.attr s.version) s.gatts ⨾ spelled.list s.version nc_variable (spelled.var s.version) (zip s.vars places)) (canon_list s.version nc_dimension (canon_dim s.version) s.dims ++ (canon_list s.version nc_attribute (canon_attr s.version) s.gatts ++ canon_list s.version nc_variable (canon_var s.version) (zip s.vars places)))
+pub lists_long : (s : Schema) (places : List Place) → AsLong (spelled.list s.version nc_dimension (spelled.dim s.version) s.dims ⨾ spelled.list s.version nc_attribute (spelled.attr s.version) s.gatts ⨾ spelled.list s.version nc_variable (spelled.var s.version) (zip s.vars places)) (canon_list s.version nc_dimension (canon_dim s.version) s.dims ++ (canon_list s.version nc_attribute (canon_attr s.version) s.gatts ++ canon_list s.version nc_variable (canon_var s.version) (zip s.vars places)))
 lists_long s places =
     let v = s.version in
     let of_dims = spelled.list v nc_dimension (spelled.dim v) s.dims in

@@ -1,5 +1,5 @@
-//! Selections of files that are given by their bytes: values that were worked by hand, refusals, parts, calls of
-//! the store, stores that fail, whole slabs, and a sweep over selections of all kinds.
+//! Selections of files that are given by their bytes: values that were worked by hand, parts, calls of the
+//! store, stores that fail, whole slabs, and a sweep over selections of all kinds.
 
 mod failing;
 mod files;
@@ -10,7 +10,6 @@ mod parts;
 mod plans;
 mod readers;
 mod records;
-mod refusals;
 mod rows;
 mod slabs;
 mod sweep;

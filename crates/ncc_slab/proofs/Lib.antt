@@ -1,17 +1,17 @@
-mod Lists
-mod Searches
-mod Factors
-mod Ranges
-mod Offsets
-mod OneAxis
-mod InFile
+pub mod Lists
+pub mod Searches
+pub mod Factors
+pub mod Ranges
+pub mod Offsets
+pub mod OneAxis
+pub mod InFile
 mod Gridded
 mod Stretches
 mod Joined
 mod Answering
-mod Fitting
+pub mod Fitting
 mod ValueParts
-mod Counts
+pub mod Counts
 mod Numbers
 mod Whole
 mod SlabEnds

@@ -21,7 +21,7 @@ use ncc_values::Values;
 
 /// How many elements from the n-th on, at most so many, lie one after another, where those of this run do, and the run
 /// after them, where they are fewer.
-fn stretch(
+pub fn stretch(
     grid: &Grid,
     dense: Option<usize>,
     step: u64,

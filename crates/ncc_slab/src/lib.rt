@@ -16,11 +16,16 @@ mod refusing;
 mod slab;
 mod whole_slab;
 
+pub use axis::Axis;
 pub use fault::SlabFault;
+pub use fetching::stretch;
+pub use grid::{Grid, Run};
+pub use gridding::grid_of;
 pub use locating::slab_place;
 pub use parts::SlabParts;
 pub use places::Places;
 pub use reader::SlabReader;
 pub use reading::read_slab;
+pub use refusing::shape_fault;
 pub use slab::Slab;
 pub use whole_slab::slab_of;

@@ -42,7 +42,7 @@ fn first_outside(lengths: &[u64], start: &[u64], count: &[u64], stride: &[u64]) 
 }
 
 /// Why a selection in a shape is refused, if it is.
-fn shape_fault(lengths: &[u64], slab: &Slab) -> Option<SlabFault>
+pub fn shape_fault(lengths: &[u64], slab: &Slab) -> Option<SlabFault>
     ensures { result ≡ shape_fault lengths.now slab.now }
 {
     let start = slab.start.as_slice();

@@ -10,7 +10,6 @@ mod Going
 pub mod Refusing
 mod AllFills
 mod Ends
-mod BuiltFacts
 mod ReadBack
 mod Laying
 mod Telling

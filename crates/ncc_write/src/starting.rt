@@ -8,23 +8,11 @@ ghost use Rattle.ncc_write.specs.Turns.{IsCourse};
 
 use crate::course::Course;
 use crate::outlet::BUFFER;
-use ncc_build::Built;
 use ncc_build::laws::built_is_writable;
+use ncc_build::{Built, header_bytes};
 use ncc_layout::{SizeError, sizes};
-use ncc_schema::{Count, WriteSink, encode};
+use ncc_schema::Count;
 use std::alloc::{AllocError, Global};
-
-/// The bytes of the header.
-pub(crate) fn header_bytes(alloc: Global, built: &Built) -> Result<Vec<u8>, AllocError>
-    ensures { IfOk result (λ bytes. bytes.items ≡ header_of (schema_of built.now)) }
-{
-    built_is_writable(built);
-    let mut sink = WriteSink::new(Vec::new(alloc));
-    match encode(built.schema(), built.places(), &mut sink) {
-        Ok(()) => Ok(sink.into_inner()),
-        Err(_) => Err(AllocError),
-    }
-}
 
 /// The number of records.
 pub(crate) fn records_of(count: Count) -> u64

@@ -3,13 +3,13 @@
 ghost use Rattle.ncc_build.specs.Builds.{schema_of};
 ghost use Rattle.ncc_write.specs.Trips.{TripsAs};
 
-use crate::starting::{course_of, header_bytes};
+use crate::starting::course_of;
 use crate::trip_checking::{due_by, passes};
 use crate::trip_fault::TripFault;
 use crate::trip_putting::written;
 use crate::trip_reading::all_same;
 use crate::whole::headline;
-use ncc_build::Built;
+use ncc_build::{Built, header_bytes};
 use ncc_check::{Refusal, open};
 use ncc_header::laws::header_or_stop;
 use ncc_layout::laws::placed_file_keeps_all_rules;

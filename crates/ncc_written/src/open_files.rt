@@ -97,14 +97,6 @@ pub const FILLED_BY_7: File = File {
     length: 108,
 };
 
-/// The same, but the attribute is an int.
-pub const FILLED_BY_INT: File = File {
-    words: &FILLED,
-    changes: &[(21, 4), (23, 7)],
-    data: &[],
-    length: 108,
-};
-
 /// The words as they are changed.
 fn changed(alloc: Global, file: &File) -> Result<Vec<u32>, AllocError> {
     let mut words = file.words.to_vec(alloc)?;

@@ -36,7 +36,8 @@ fn words_fit(version: Version, sizes: &[u64]) -> bool
     true
 }
 
-/// Where the records begin: after the header and the fixed variables.
+/// Where the records begin in a standard placement: after a header of this length and the fixed variables, by the padded
+/// sizes of all variables. 2^64 - 1 where that is more.
 pub fn records_begin(schema: &Schema, sizes: &[u64], header: u64) -> u64
     requires sound { Sound schema.now }
     requires sizes { sizes.now ≡ map (rounded schema.now.dims) schema.now.vars }

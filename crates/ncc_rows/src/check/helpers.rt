@@ -3,7 +3,6 @@
 use ncc_check::{FileFault, NcFile, Note, NoteKind, Refusal, Report, check, open};
 use ncc_files::{LIMIT, bytes_of};
 use ncc_header::{Fault, FaultKind};
-use ncc_layout::{LayoutFault, LayoutFaultKind};
 use ncc_store::{MemStore, Store};
 use ncc_values::{Seq, Version};
 use std::alloc::{AllocError, Global};
@@ -20,18 +19,6 @@ pub fn note(kind: NoteKind, offset: u64) -> Note {
 /// A fault of the header.
 pub fn header(kind: FaultKind, offset: u64) -> Refusal {
     Refusal::Fault(FileFault::Header(Fault { kind, offset }))
-}
-
-/// A fault of the layout.
-pub fn layout(kind: LayoutFaultKind, offset: u64) -> Refusal {
-    Refusal::Fault(FileFault::Layout(LayoutFault { kind, offset }))
-}
-
-/// The first bytes of a file in words.
-pub fn front_of(alloc: Global, words: &[u32], length: usize) -> Result<Vec<u8>, AllocError> {
-    let mut bytes = bytes_of(alloc, words)?;
-    bytes.truncate(length);
-    Ok(bytes)
 }
 
 /// A file in words, and bytes after it.

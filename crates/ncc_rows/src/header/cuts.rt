@@ -45,7 +45,7 @@ fn fault_of(alloc: Global, input: &[u8]) -> Option<Fault> {
 }
 
 /// The last of the field starts that isn't above the cut.
-pub fn last_start(starts: &[u64], cut: usize) -> u64 {
+fn last_start(starts: &[u64], cut: usize) -> u64 {
     let mut last = 0;
     for start in starts {
         if *start <= cut as u64 {

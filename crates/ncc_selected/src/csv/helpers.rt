@@ -1,15 +1,8 @@
-//! Sheets of files in words, and what is expected of them.
+//! Files in words, and selections.
 
-use ncc_check::open;
-use ncc_csv::send_sheet;
-use ncc_files::{LIMIT, bytes_of};
-use ncc_header::{Seq, WriteSink};
-use ncc_lines::{FloatStyle, Halt, Unshown};
+use ncc_header::Seq;
 use ncc_slab::Slab;
-use ncc_store::MemStore;
 use std::alloc::{AllocError, Global};
-use std::process::Abort;
-use std::test::*;
 
 /// The variable int m(y, x), with y of length 2 and x of length 3, and its values 1 to 6.
 pub const INTS: [u32; 30] = [
@@ -34,77 +27,4 @@ pub fn slab(alloc: Global, lists: [&[u64]; 3]) -> Result<Slab, AllocError> {
         count: Seq::from_vec(lists[1].to_vec(alloc)?),
         stride: Seq::from_vec(lists[2].to_vec(alloc)?),
     })
-}
-
-/// The answer for a variable of a file in words, and what is sent. `None` where the file doesn't pass.
-fn sheet_of(
-    alloc: Global,
-    words: &[u32],
-    var: usize,
-    slab: &Slab,
-    texts: bool,
-) -> Result<Option<(Result<bool, Halt>, Vec<u8>)>, AllocError> {
-    let store = MemStore::new(bytes_of(alloc, words)?);
-    match open(alloc, store, LIMIT) {
-        Ok(file) => {
-            let mut file = file;
-            let mut sink = WriteSink::new(Vec::new(alloc));
-            let answer = send_sheet(
-                alloc,
-                &mut file,
-                var,
-                slab,
-                FloatStyle::Bits,
-                texts,
-                &mut sink,
-                &mut Unshown,
-            );
-            Ok(Some((answer, sink.into_inner())))
-        }
-        Err(_) => Ok(None),
-    }
-}
-
-/// Of this variable of a file in words the text is sent, with texts or without, and the answer is whether it was
-/// selected.
-pub fn expect_printed<R: Abort + AllocGlobal>(
-    rt: &R,
-    words: &[u32],
-    var: usize,
-    lists: [&[u64]; 3],
-    texts: bool,
-    selected: bool,
-    text: &str,
-) -> Result<(), AllocError> {
-    let slab = slab(rt.alloc(), lists)?;
-    match sheet_of(rt.alloc(), words, var, &slab, texts)? {
-        Some((answer, sent)) => {
-            assert!(rt; answer == Ok(selected));
-            assert!(rt; sent.as_slice() == text.as_bytes(), "{text}");
-        }
-        None => assert!(rt; false, "{text}"),
-    }
-    Ok(())
-}
-
-/// Without texts.
-pub fn expect_answer<R: Abort + AllocGlobal>(
-    rt: &R,
-    words: &[u32],
-    var: usize,
-    lists: [&[u64]; 3],
-    selected: bool,
-    text: &str,
-) -> Result<(), AllocError> {
-    expect_printed(rt, words, var, lists, false, selected, text)
-}
-
-/// The sheet of a selection of the first variable.
-pub fn expect_sheet<R: Abort + AllocGlobal>(
-    rt: &R,
-    words: &[u32],
-    lists: [&[u64]; 3],
-    text: &str,
-) -> Result<(), AllocError> {
-    expect_answer(rt, words, 0, lists, true, text)
 }

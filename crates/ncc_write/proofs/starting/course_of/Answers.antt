@@ -5,7 +5,7 @@ use Rattle.ncc_layout.specs.Sizes.{FirstTooLarge, IsSizes}
 use Rattle.ncc_layout.proofs.VersionFits.{not_fit}
 use Rattle.ncc_build.proofs.SoundProps.{sound_of}
 use Rattle.ncc_build.specs.Builds.{schema_of}
-use Rattle.ncc_write.proofs.BuiltFacts.{fits_of}
+use Rattle.ncc_build.proofs.BuiltFacts.{fits_of}
 use Rattle.ncc_write.proofs.starting.course_of.Goals as goal
 
 pub sizes-requires : goal.sizes-requires

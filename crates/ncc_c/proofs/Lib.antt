@@ -1,0 +1,10 @@
+mod Owning
+mod NamesStand
+mod CountsFit
+mod Codes
+mod PuttingRows
+mod Ranging
+mod Indexing
+mod Described
+mod Shapes
+mod Joining

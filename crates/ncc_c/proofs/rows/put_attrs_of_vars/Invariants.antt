@@ -1,0 +1,12 @@
+use Rattle.std.proofs.Common.{◌≡◌, ◌+◌, ◌++◌, drop, take, length}
+use Rattle.std.specs.List.{flat_map}
+use Rattle.ncc_schema.specs.Names.{canon_unplaced}
+use Rattle.ncc_c.specs.Rows.{attr_count, attrs_of_vars}
+use Rattle.ncc_c.proofs.rows.put_attrs_of_vars.Given as goal
+
+abbrev pub invariant-loop-k : goal.invariant-loop-k
+invariant-loop-k l = record {
+  long : l.first + attr_count (drop l.k l.vars) ≡ length l.fn.rows;
+  at : l.at + length (flat_map (canon_unplaced l.version) (drop l.k l.vars)) ≡ l.start + length (flat_map (canon_unplaced l.version) l.vars);
+  rows : take l.first l.rows ++ attrs_of_vars l.version l.at (drop l.k l.vars) ≡ attrs_of_vars l.version l.start l.vars;
+}

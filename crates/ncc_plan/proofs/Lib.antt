@@ -1,0 +1,4 @@
+mod Lengths
+mod Passing
+mod Refusals
+mod Typed

@@ -1,0 +1,5 @@
+mod RunPlaces
+mod Stepping
+mod AxesBySteps
+mod Finding
+mod FromFiles
