@@ -1,8 +1,8 @@
 #!/usr/bin/env bash
-# All tests: what ncc.h has beside the crate (scripts/c_header.py); that the edits that are tried by hand still stand
-# (scripts/edits.sh); the gate `rt ci` (every proof from nothing, the must-fail edits, the unit tests, the program's own
-# run); then the program that it built (scripts/rows.py over tests/*.rows, and scripts/test_program.sh), the examples of
-# the pages (scripts/pages.sh), and what the programs take (bench/count). The last line is `N passed, M failed` of all.
+# All tests: what ncc.h has beside the crate (scripts/c_header.py); the gate `rt ci` (every proof from nothing, the
+# must-fail edits, the unit tests, the program's own run); then the program that it built (scripts/rows.py over
+# tests/*.rows, and scripts/test_program.sh), the examples of the pages (scripts/pages.sh), and what the programs take
+# (bench/count). The last line is `N passed, M failed` of all.
 set -uo pipefail
 top=$(cd "$(dirname "$0")/.." && pwd)
 log=$(mktemp)
@@ -42,7 +42,6 @@ part() {
 
 cd "$top" || exit 1
 part scripts/c_header.py
-part scripts/edits.sh --stand
 part rt ci
 part scripts/rows.py crates/ncc_cli/out/ncc_cli
 part scripts/test_program.sh crates/ncc_cli/out/ncc_cli
