@@ -1,12 +1,10 @@
 //! Runs whose outputs take nothing, and what is told of an answer.
 
-use crate::finishing::finish;
-use crate::paths::folder_of;
-use crate::progress::Terminals;
-use crate::run::run;
-use crate::words::Words;
+use ncc_commands::Words;
+use ncc_disk::folder_of;
 use ncc_engines::Answer;
 use ncc_files::{EMPTY, TITLED, bytes_of, with_byte};
+use ncc_run::{Terminals, finish, run};
 use std::alloc::{AllocError, Global};
 use std::fs::File;
 use std::io::{Error, ErrorKind, Write};

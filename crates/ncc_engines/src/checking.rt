@@ -16,7 +16,7 @@ use ncc_store::Store;
 use std::alloc::Global;
 
 /// What a report comes to: notes are faults where the check is strict.
-fn judged(strict: bool, report: &Report) -> Answer
+pub fn judged(strict: bool, report: &Report) -> Answer
     ensures { result ≡ verdict strict report.now }
 {
     if strict && !report.notes.is_empty() {

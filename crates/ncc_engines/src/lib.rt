@@ -10,7 +10,7 @@ mod planning;
 mod selecting;
 
 pub use answer::{Answer, answered};
-pub use checking::check_engine;
+pub use checking::{check_engine, judged};
 pub use converting::convert_engine;
 pub use extending::{extend_engine, extend_file};
 pub use listing::{list_engine, list_store_engine};

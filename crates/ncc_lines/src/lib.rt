@@ -27,5 +27,5 @@ pub use putting::put_numbered;
 pub use refusals::{send_append_refusal, send_records};
 pub use sending::{send_fault, send_file_fault, send_header, send_report};
 pub use style::FloatStyle;
-pub use texts::{fault_name, push_decimal};
-pub use verdict::{layout_name, note_name};
+pub use texts::{fault_name, push_at, push_decimal};
+pub use verdict::{layout_name, note_name, push_ok};

@@ -18,7 +18,7 @@ use std::alloc::AllocError;
 
 /// Adds the first line about a file that passes.
 #[tactic(auto, unfolding(crate::specs::Verdicts::ok_line))]
-fn push_ok(out: &mut Vec<u8>, report: &Report) -> Result<(), AllocError>
+pub fn push_ok(out: &mut Vec<u8>, report: &Report) -> Result<(), AllocError>
     ensures { OnOk result (out.new.items ≡ out.old.items ++ ok_line report.now) }
 {
     out.extend_from_slice(b"ok ")?;

@@ -1,0 +1,4 @@
+pub mod Given
+pub mod Options
+pub mod Tasks
+pub mod Words

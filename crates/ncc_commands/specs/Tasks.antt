@@ -1,0 +1,62 @@
+-- What the words of a command line ask for.
+use Rattle.std.specs.Prelude.{◌≡◌, ℕ, Bool, true, false, List, Some, codes}
+use Rattle.clap.specs.declared.parser.matches.ArgMatches.{ArgMatches}
+use Rattle.ncc_values.specs.declared.version.Version.{Version}
+use Rattle.ncc_values.specs.declared.version.Version.TheVariants.{V1, V2, V5}
+use Rattle.ncc_lines.specs.declared.style.FloatStyle.{FloatStyle}
+use Rattle.ncc_batch.specs.declared.form.Form.{Form}
+use Rattle.ncc_batch.specs.declared.form.Form.TheVariants.{Brief, Lines}
+use Rattle.ncc_batch.specs.declared.work.Work.{Work}
+use Rattle.ncc_batch.specs.declared.work.Work.TheVariants.{Check, List as ListWork}
+use Rattle.ncc_commands.specs.Given.{GivesFlag, GivesList, GivesNumber, GivesStyle, given, word_or_none}
+use Rattle.ncc_commands.specs.Words.{bytes_named}
+use Rattle.ncc_commands.specs.declared.task.Converting.{Converting}
+use Rattle.ncc_commands.specs.declared.task.Extending.{Extending}
+use Rattle.ncc_commands.specs.declared.task.Selecting.{Selecting}
+use Rattle.ncc_commands.specs.declared.task.Task.{Task}
+use Rattle.ncc_commands.specs.declared.task.Task.TheVariants as tasks
+use Rattle.ncc_commands.specs.declared.words.Words.{Words}
+
+-- the bytes of an argument's word
+abbrev pub bytes_given : Words → ArgMatches → (id : List ℕ) → List ℕ
+bytes_given line words id = bytes_named line (word_or_none (given words id))
+
+-- a selection
+pub record Selects (line : Words) (words : ArgMatches) (s : Selecting) : Type 0 where
+  pub file : s.file.now ≡ bytes_given line words (codes "FILE")
+  pub variable : s.variable.now ≡ bytes_given line words (codes "VAR")
+  pub start : GivesList (given words (codes "start")) s.pick.start
+  pub count : GivesList (given words (codes "count")) s.pick.count
+  pub stride : GivesList (given words (codes "stride")) s.pick.stride
+  pub style : GivesStyle words s.style
+  pub texts : GivesFlag words (codes "text") s.texts
+
+-- records more
+pub record Extends (line : Words) (words : ArgMatches) (e : Extending) : Type 0 where
+  pub file : e.file.now ≡ bytes_given line words (codes "FILE")
+  pub more : GivesNumber words (codes "N") 0 e.more
+
+-- a new file
+pub record Converts (line : Words) (words : ArgMatches) (c : Converting) : Type 0 where
+  pub from : c.from.now ≡ bytes_given line words (codes "IN")
+  pub to : c.to.now ≡ bytes_given line words (codes "OUT")
+  pub one : given words (codes "to") ≡ Some (codes "1") → c.version ≡ V1
+  pub two : given words (codes "to") ≡ Some (codes "2") → c.version ≡ V2
+  pub five : given words (codes "to") ≡ Some (codes "5") → c.version ≡ V5
+
+-- what is asked of files, with so many bytes of header where the words don't say
+pub record Answers (limit : ℕ) (command : List ℕ) (words : ArgMatches) (work : Work) (form : Form) : Type 0 where
+  pub check : command ≡ codes "check" → (most : ℕ) × (strict : Bool) × (work ≡ Check most strict)
+      × GivesNumber words (codes "max-header") limit most × GivesFlag words (codes "strict") strict
+  pub list : (command ≡ codes "check" → ⊥) → (style : FloatStyle) × (work ≡ ListWork limit style) × GivesStyle words style
+  pub brief : command ≡ codes "check" → (on : Bool) × GivesFlag words (codes "brief") on
+      × (on ≡ true → form ≡ Brief) × (on ≡ false → form ≡ Lines)
+  pub lines : (command ≡ codes "check" → ⊥) → form ≡ Lines
+
+-- what a command's words ask for
+abbrev pub AsksFor : Words → (command : List ℕ) → ArgMatches → Task → Type 0
+AsksFor line command words (tasks.Answer work form) = (command ≡ codes "csv" → ⊥) × (command ≡ codes "extend" → ⊥)
+    × (command ≡ codes "convert" → ⊥) × Answers 67108864 command words work form
+AsksFor line command words (tasks.Select s) = (command ≡ codes "csv") × Selects line words s
+AsksFor line command words (tasks.Extend e) = (command ≡ codes "extend") × Extends line words e
+AsksFor line command words (tasks.Convert c) = (command ≡ codes "convert") × Converts line words c

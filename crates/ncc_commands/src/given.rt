@@ -1,0 +1,106 @@
+//! What the words of a command line ask for.
+
+ghost use Rattle.std.specs.Prelude.{◌≡◌, ℕ, Bool, true, false, Some, codes};
+ghost use Rattle.ncc_commands.specs.Given.{GivesFlag, GivesNumber, GivesStyle, given, word_or_none};
+ghost use Rattle.ncc_lines.specs.declared.style.FloatStyle.{FloatStyle};
+
+use crate::commands::LIMIT;
+use clap::ArgMatches;
+use ncc_batch::{Form, Work};
+use ncc_lines::FloatStyle;
+use ncc_values::Version;
+
+const _: () = prove!(LIMIT == 67_108_864);
+
+/// A flag.
+pub fn flag_given(words: &ArgMatches, id: &str) -> bool
+    ensures { GivesFlag words.now id.now result }
+{
+    words.get_flag(id)
+}
+
+/// A number, or another one where it isn't given.
+fn number_given(words: &ArgMatches, id: &str, other: u64) -> u64
+    ensures { GivesNumber words.now id.now other result }
+{
+    words.get_one(id).unwrap_or(other)
+}
+
+/// The word of an argument, or an empty one.
+pub fn word_given<'a>(words: &ArgMatches<'a>, id: &str) -> &'a str
+    ensures { result.now ≡ word_or_none (given words.now id.now) }
+{
+    words.get_str(id).unwrap_or("")
+}
+
+/// How floats are shown.
+pub fn style_given(words: &ArgMatches) -> FloatStyle
+    ensures { GivesStyle words.now result }
+{
+    if flag_given(words, "decimal") {
+        FloatStyle::Decimal
+    } else {
+        FloatStyle::Bits
+    }
+}
+
+/// How many records are to be added.
+pub fn more_given(words: &ArgMatches) -> u64
+    ensures { GivesNumber words.now (codes "N") 0 result }
+{
+    number_given(words, "N", 0)
+}
+
+/// What is asked of files by `check` or `list`.
+pub fn work_given(command: &str, words: &ArgMatches) -> Work
+    ensures check { command.now ≡ codes "check" → (limit : ℕ) × (strict : Bool) × (result ≡ Work.Check limit strict)
+        × GivesNumber words.now (codes "max-header") LIMIT limit × GivesFlag words.now (codes "strict") strict }
+    ensures list { (command.now ≡ codes "check" → ⊥)
+        → (style : FloatStyle) × (result ≡ Work.List LIMIT style) × GivesStyle words.now style }
+{
+    if command == "check" {
+        return Work::Check {
+            limit: number_given(words, "max-header", LIMIT),
+            strict: flag_given(words, "strict"),
+        };
+    }
+    Work::List {
+        limit: LIMIT,
+        style: style_given(words),
+    }
+}
+
+/// How files are shown by `check` or `list`.
+pub fn form_given(command: &str, words: &ArgMatches) -> Form
+    ensures list { (command.now ≡ codes "check" → ⊥) → result ≡ Form.Lines }
+    ensures check { command.now ≡ codes "check" → (brief : Bool) × GivesFlag words.now (codes "brief") brief
+        × (brief ≡ true → result ≡ Form.Brief) × (brief ≡ false → result ≡ Form.Lines) }
+{
+    if command == "check" && flag_given(words, "brief") {
+        Form::Brief
+    } else {
+        Form::Lines
+    }
+}
+
+/// The version of this word.
+fn version_of(word: &str) -> Version
+    ensures one { word.now ≡ codes "1" → result ≡ Version.V1 }
+    ensures two { word.now ≡ codes "2" → result ≡ Version.V2 }
+    ensures five { word.now ≡ codes "5" → result ≡ Version.V5 }
+{
+    match word {
+        "1" => Version::V1,
+        "2" => Version::V2,
+        _ => Version::V5,
+    }
+}
+
+/// The version that a file is converted to.
+pub fn version_given(words: &ArgMatches) -> Version
+    ensures one { given words.now (codes "to") ≡ Some (codes "1") → result ≡ Version.V1 }
+    ensures two { given words.now (codes "to") ≡ Some (codes "2") → result ≡ Version.V2 }
+    ensures five { given words.now (codes "to") ≡ Some (codes "5") → result ≡ Version.V5 }
+{
+    version_of(word_given(words, "to"))
+}

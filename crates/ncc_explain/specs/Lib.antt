@@ -1,0 +1,4 @@
+pub mod Rules
+pub mod Words
+pub mod Examining
+pub mod Explaining

@@ -1,0 +1,4 @@
+mod Spelling
+mod Locating
+mod ExtentsAt
+mod BrokenRules

@@ -1,0 +1,23 @@
+//! Laws of the parts of a header, each the contract of a function that does nothing.
+
+ghost use Rattle.std.specs.Prelude.{◌≡◌, ℕ, Some};
+ghost use Rattle.std.specs.List.{flat_map};
+ghost use Rattle.ncc_schema.specs.declared.schema.Schema.{Schema};
+ghost use Rattle.ncc_schema.specs.declared.schema.Header.{Header};
+ghost use Rattle.ncc_schema.specs.Header.{canon};
+ghost use Rattle.ncc_schema.specs.Names.{unplaced};
+ghost use Rattle.ncc_layout.specs.declared.fault.LayoutFaultKind.{LayoutFaultKind};
+ghost use Rattle.ncc_parts.specs.declared.broken.Broken.{Broken};
+ghost use Rattle.ncc_parts.specs.Breaking.{Breaks, broken_by, kind_of};
+ghost use Rattle.ncc_parts.specs.Parts.{parts_of};
+
+/// The bytes of the parts, one after the other, are the canonical header, so that each byte of it is in one of them.
+pub fn parts_spell_the_header()
+    ensures { (s : Schema) → flat_map (λ p. p.1) (parts_of s) ≡ canon s (unplaced s.vars) }
+{}
+
+/// The numbers by which a rule is told to fail are those of that rule and variable, and the rule is false of them.
+pub fn broken_rule_is_false()
+    ensures { (h : Header) (file number : ℕ) (kind : LayoutFaultKind) (b : Broken)
+        → broken_by h file kind number ≡ Some b → (kind_of b ≡ kind) × Breaks h file number b }
+{}

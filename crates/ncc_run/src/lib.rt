@@ -1,0 +1,16 @@
+//! Runs what a command line asks for, over the system's files, and gives the status.
+#![tactic(auto)]
+
+mod converting_files;
+mod finishing;
+mod folder;
+mod limited;
+mod many;
+mod progress;
+mod runs;
+mod single;
+mod word_faults;
+
+pub use finishing::finish;
+pub use progress::Terminals;
+pub use runs::run;
