@@ -7,7 +7,8 @@ next line, `#` begins a comment. The calls:
 
     bytes NAME WORD..              the file NAME
     use FILE                       the rows of another file
-    check [--max-header N] WORD..  a verdict; --strict, list and extend by 0 must agree with it
+    check [--max-header N] WORD..  a verdict; --strict, --explain, list and extend by 0 must agree with it
+    explain WORD..                 a verdict in words
     list [--decimal] WORD..        the lines of the header
     fronts WORD..                  check and list: each shorter front ends early in the field that it cuts
     csv NAME VARIABLE OPTION..     the sheet of a variable, whose name may stand in double quotes
@@ -192,6 +193,9 @@ class Bench:
         bad = text.startswith("fault ") or "\nnote " in text
         if (strict := self.say("check", "--strict", *limit, self.path, status=bad)) != text:
             lines += ["with --strict", strict]
+        told = self.say("check", "--explain", *limit, self.path, status=text.startswith("fault "))
+        if (short := "\n".join(line for line in told.split("\n") if not line.startswith("    "))) != text:
+            lines += ["with --explain", short]
         if not limit:
             passed = re.match(r"ok CDF-\d records (\d+) ", text)
             if (opened := self.say("extend", self.path, "0")) != (f"records {passed[1]}" if passed else text):
@@ -265,6 +269,8 @@ class Bench:
                 return self.use(f"{self.rows}/{other}")
             case ["check", *words]:
                 return self.check(words)
+            case ["explain", *words]:
+                return self.read(["check", "--explain", self.path], self.spelling.file(words))
             case ["list", "--decimal", *words]:
                 return self.read(["list", "--decimal", self.path], self.spelling.file(words))
             case ["list", *words]:

@@ -8,26 +8,30 @@ use Rattle.ncc_engines.specs.Checking.{IsCheckText, IsFaultOf as IsCheckFault}
 use Rattle.ncc_engines.specs.Listing.{IsListText, IsFaultOf as IsListFault}
 use Rattle.ncc_engines.specs.declared.answer.Answer.{Answer}
 use Rattle.ncc_engines.specs.declared.answer.Answer.TheVariants.{Passed, Refused, Device, Memory}
+use Rattle.ncc_explain.specs.Explaining.{IsToldFault, IsToldText}
 use Rattle.ncc_batch.specs.Shown.{shown, worst, devices}
 use Rattle.ncc_batch.specs.declared.form.Form.{Form}
 use Rattle.ncc_batch.specs.declared.work.Work.{Work}
-use Rattle.ncc_batch.specs.declared.work.Work.TheVariants.{Check, List as Listing}
+use Rattle.ncc_batch.specs.declared.work.Work.TheVariants.{Check, Explain, List as Listing}
 
 -- ---- one file
 
 -- which answers and texts are right of these bytes
 abbrev pub TextsOf : Work → (bytes : List ℕ) → Texts
 TextsOf (Check limit strict) bytes = IsCheckText bytes limit strict
+TextsOf (Explain limit strict) bytes = IsToldText bytes limit strict
 TextsOf (Listing limit style) bytes = IsListText bytes limit style
 
--- the line of the fault that these bytes have
+-- the line of the fault that these bytes have, or what is told of it
 abbrev pub IsFaultIn : Work → (bytes : List ℕ) → (text : List ℕ) → Type 0
 IsFaultIn (Check limit strict) bytes text = IsCheckFault bytes limit text
+IsFaultIn (Explain limit strict) bytes text = IsToldFault bytes limit text
 IsFaultIn (Listing limit style) bytes text = IsListFault bytes limit text
 
 -- how many bytes a header may have
 abbrev pub limit_of : Work → ℕ
 limit_of (Check limit strict) = limit
+limit_of (Explain limit strict) = limit
 limit_of (Listing limit style) = limit
 
 -- an answer and its text; of a store that failed, or without memory, it is empty

@@ -1,6 +1,6 @@
 //! The answer of a file, and its text in memory.
 
-ghost use Rattle.std.specs.Prelude.{◌≡◌, ◌≤◌, ◌∷◌, ℕ, Bool, List, length, drop, IsTrue};
+ghost use Rattle.std.specs.Prelude.{◌≡◌, ◌⊎◌, ◌≤◌, ◌∷◌, ℕ, Bool, List, length, drop, IsTrue};
 ghost use Rattle.ncc_values.specs.Failures.{Rose};
 ghost use Rattle.ncc_schema.specs.Device.{Puts};
 ghost use Rattle.ncc_store.specs.Reading.{ReadsOnly};
@@ -12,6 +12,7 @@ ghost use Rattle.ncc_batch.specs.Answered.{TextFails, TextsOf, IsFaultIn, IsText
 use crate::shelf::Shelf;
 use crate::work::Work;
 use ncc_engines::{Answer, check_engine, list_store_engine};
+use ncc_explain::explain_engine;
 use ncc_header::{Sink, WriteSink};
 use ncc_store::Store;
 use std::alloc::Global;
@@ -28,7 +29,8 @@ pub fn write_text<S: Store, W: Sink>(
     ensures memory { IsTrue S.tells_bytes → (text : List ℕ) → IsFaultIn work (S.bytes store.old) text
         → result ≡ Answer.Memory → sink.new ≡ sink.old }
     ensures own { IsTrue S.tells_bytes → result ≡ Answer.Passed → (limit : ℕ) (strict : Bool)
-        → work ≡ Work.Check limit strict → HasOwnElements (S.bytes store.old) limit }
+        → (work ≡ Work.Check limit strict) ⊎ (work ≡ Work.Explain limit strict)
+        → HasOwnElements (S.bytes store.old) limit }
     ensures store { ReadsOnly S.Store store.old store.new (Fails W.Sink sink.old sink.new result) S.tells_bytes
         (calls_for (length (S.bytes store.old)) (limit_of work)) (limit_of work) }
     ensures settled { IsTrue S.tells_bytes
@@ -36,6 +38,7 @@ pub fn write_text<S: Store, W: Sink>(
 {
     match work {
         Work::Check { limit, strict } => check_engine(alloc, store, limit, strict, sink),
+        Work::Explain { limit, strict } => explain_engine(alloc, store, limit, strict, sink),
         Work::List { limit, style } => list_store_engine(alloc, store, limit, style, sink),
     }
 }

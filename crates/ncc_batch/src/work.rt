@@ -7,6 +7,8 @@ use ncc_lines::FloatStyle;
 pub enum Work {
     /// Whether it passes, and where `strict` without a note.
     Check { limit: u64, strict: bool },
+    /// The same, and each fault and note in words.
+    Explain { limit: u64, strict: bool },
     /// What its header says.
     List { limit: u64, style: FloatStyle },
 }

@@ -7,7 +7,7 @@ use Rattle.ncc_lines.specs.declared.style.FloatStyle.{FloatStyle}
 use Rattle.ncc_batch.specs.declared.form.Form.{Form}
 use Rattle.ncc_batch.specs.declared.form.Form.TheVariants.{Brief, Lines}
 use Rattle.ncc_batch.specs.declared.work.Work.{Work}
-use Rattle.ncc_batch.specs.declared.work.Work.TheVariants.{Check, List as ListWork}
+use Rattle.ncc_batch.specs.declared.work.Work.TheVariants.{Check, Explain, List as ListWork}
 use Rattle.ncc_commands.specs.Given.{GivesFlag, GivesList, GivesNumber, GivesStyle, given, word_or_none}
 use Rattle.ncc_commands.specs.Words.{bytes_named}
 use Rattle.ncc_commands.specs.declared.task.Converting.{Converting}
@@ -46,8 +46,9 @@ pub record Converts (line : Words) (words : ArgMatches) (c : Converting) : Type 
 
 -- what is asked of files, with so many bytes of header where the words don't say
 pub record Answers (limit : ℕ) (command : List ℕ) (words : ArgMatches) (work : Work) (form : Form) : Type 0 where
-  pub check : command ≡ codes "check" → (most : ℕ) × (strict : Bool) × (work ≡ Check most strict)
+  pub check : command ≡ codes "check" → (most : ℕ) × (strict : Bool) × (told : Bool)
       × GivesNumber words (codes "max-header") limit most × GivesFlag words (codes "strict") strict
+      × GivesFlag words (codes "explain") told × (told ≡ false → work ≡ Check most strict) × (told ≡ true → work ≡ Explain most strict)
   pub list : (command ≡ codes "check" → ⊥) → (style : FloatStyle) × (work ≡ ListWork limit style) × GivesStyle words style
   pub brief : command ≡ codes "check" → (on : Bool) × GivesFlag words (codes "brief") on
       × (on ≡ true → form ≡ Brief) × (on ≡ false → form ≡ Lines)

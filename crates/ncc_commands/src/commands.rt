@@ -55,6 +55,10 @@ Of several files each line has the path, a colon and a space before it, and the 
 worst. With --brief there is one line for each: the status, the answer and the path, with tabs
 between them. A list of names has a NUL byte after each, as `find -print0` writes them.
 
+With --explain each fault and note is followed by lines that begin with four spaces: the part of
+the header that it is in, its numbers, and its rule, with the section of The NetCDF Classic
+Format Specification in brackets.
+
 A header may have 67108864 bytes, or as many as --max-header says; a longer one is the
 fault HeaderTooLong.
 
@@ -208,6 +212,12 @@ fn list_command<'a>(alloc: Global) -> Result<Command<'a>, AllocError> {
 fn check_command<'a>(alloc: Global) -> Result<Command<'a>, AllocError> {
     let strict = flag(alloc, "strict", "Refuses a file that has a note");
     let brief = flag(alloc, "brief", "Prints one line for each file");
+    let explain = flag(
+        alloc,
+        "explain",
+        "Says where each fault and note is, its numbers, and its rule",
+    )
+    .conflicts_with("brief")?;
     let limit = Arg::new(alloc, "max-header")
         .long("max-header")
         .value_name("N")
@@ -220,6 +230,7 @@ fn check_command<'a>(alloc: Global) -> Result<Command<'a>, AllocError> {
         .after_help(CHECK_STATUSES)
         .arg(strict)?
         .arg(brief)?
+        .arg(explain)?
         .arg(limit)?
         .arg(names_argument(alloc)?)?
         .arg(verbose_argument(alloc))?

@@ -51,18 +51,32 @@ pub fn more_given(words: &ArgMatches) -> u64
     number_given(words, "N", 0)
 }
 
+/// What is asked of files by `check`.
+fn checked_given(words: &ArgMatches) -> Work
+    ensures { (limit : ℕ) × (strict : Bool) × (told : Bool)
+        × GivesNumber words.now (codes "max-header") LIMIT limit × GivesFlag words.now (codes "strict") strict
+        × GivesFlag words.now (codes "explain") told × (told ≡ false → result ≡ Work.Check limit strict)
+        × (told ≡ true → result ≡ Work.Explain limit strict) }
+{
+    let limit = number_given(words, "max-header", LIMIT);
+    let strict = flag_given(words, "strict");
+    if flag_given(words, "explain") {
+        return Work::Explain { limit, strict };
+    }
+    Work::Check { limit, strict }
+}
+
 /// What is asked of files by `check` or `list`.
 pub fn work_given(command: &str, words: &ArgMatches) -> Work
-    ensures check { command.now ≡ codes "check" → (limit : ℕ) × (strict : Bool) × (result ≡ Work.Check limit strict)
-        × GivesNumber words.now (codes "max-header") LIMIT limit × GivesFlag words.now (codes "strict") strict }
+    ensures check { command.now ≡ codes "check" → (limit : ℕ) × (strict : Bool) × (told : Bool)
+        × GivesNumber words.now (codes "max-header") LIMIT limit × GivesFlag words.now (codes "strict") strict
+        × GivesFlag words.now (codes "explain") told × (told ≡ false → result ≡ Work.Check limit strict)
+        × (told ≡ true → result ≡ Work.Explain limit strict) }
     ensures list { (command.now ≡ codes "check" → ⊥)
         → (style : FloatStyle) × (result ≡ Work.List LIMIT style) × GivesStyle words.now style }
 {
     if command == "check" {
-        return Work::Check {
-            limit: number_given(words, "max-header", LIMIT),
-            strict: flag_given(words, "strict"),
-        };
+        return checked_given(words);
     }
     Work::List {
         limit: LIMIT,

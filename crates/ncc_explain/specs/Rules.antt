@@ -1,4 +1,5 @@
--- The rule of each fault and note in a few words, with the section of The NetCDF Classic Format Specification in brackets.
+-- The rule of each fault and note in a few words. In brackets stands the section of The NetCDF Classic Format
+-- Specification that it is taken from; a rule without one is ncc's own.
 use Rattle.std.specs.Prelude.{ℕ, List, codes}
 use Rattle.ncc_header.specs.declared.fault.FaultKind.{FaultKind}
 use Rattle.ncc_header.specs.declared.fault.FaultKind.TheVariants as faults
@@ -21,7 +22,7 @@ header_rule faults.HeaderTooLong = codes "the header passes the limit; --max-hea
 header_rule faults.EndsEarly = codes "the file ends inside the header [The Format in Detail]"
 
 abbrev pub layout_rule : LayoutFaultKind → List ℕ
-layout_rule layouts.TooLarge = codes "a variable or the records have 2^63 - 3 bytes or more [Note on vsize]"
+layout_rule layouts.TooLarge = codes "a variable or the records have 9223372036854775805 bytes or more [Note on vsize]"
 layout_rule layouts.InHeader = codes "a variable begins inside the header [The Format in Detail]"
 layout_rule layouts.Overlap = codes "two variables share bytes [The Format in Detail]"
 layout_rule layouts.RecordWindow = codes "a variable's record passes the end of the first record [Notes on Computing File Offsets]"
@@ -33,7 +34,7 @@ note_rule notes.VsizeField = codes "a vsize isn't the variable's size [Note on v
 note_rule notes.HeaderPadding = codes "padding in the header has a byte that isn't zero [The Format in Detail]"
 note_rule notes.TaggedEmpty = codes "an empty list has its tag [The Format in Detail]"
 note_rule notes.NameRule = codes "a name breaks the rule for names [Note on names]"
-note_rule notes.DuplicateName = codes "a name stands twice in a list [Note on names]"
+note_rule notes.DuplicateName = codes "a name stands twice in a list"
 note_rule notes.UnalignedBegin = codes "a begin is no multiple of 4 [The Format in Detail]"
 note_rule notes.Order = codes "a variable begins before an earlier one of its kind [The Format in Detail]"
 note_rule notes.LargeCount = codes "a count or length has its top bit set [The Format in Detail]"

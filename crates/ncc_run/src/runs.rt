@@ -66,7 +66,7 @@ fn answer_one_of<R: Files<File = File> + Clock + AllocGlobal, I: Read, O: Write,
 {
     let Ended { answer, trouble } = match work {
         _ if names.is_cut => cut_off(name),
-        Work::Check { .. } => check(rt, name, work, out),
+        Work::Check { .. } | Work::Explain { .. } => check(rt, name, work, out),
         Work::List { style, .. } => list(rt, name, style, reads_input, input, out),
     };
     end(answer, trouble, out.reason(), shown.reasons, err)
