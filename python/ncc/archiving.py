@@ -4,9 +4,10 @@ from __future__ import annotations
 
 import fnmatch
 import os
+import pickle
 from collections.abc import Iterable, Iterator
 from concurrent.futures import ProcessPoolExecutor
-from itertools import islice
+from math import ceil
 from multiprocessing import get_context
 from typing import Any, NamedTuple, Union
 
@@ -17,7 +18,11 @@ from .errors import OfFile
 
 Path = Union[str, "os.PathLike[str]"]
 MEMORY = "memory was refused"
-AT_ONCE = 16
+SHARES = 4
+"""How many batches there are at least for each worker, if the caller doesn't say how many files one has."""
+MOST = 1000
+"""How many files such a batch has at most."""
+AT_ONCE = 4
 """How many batches are taken from a client at a time."""
 
 
@@ -63,33 +68,45 @@ def check_one(path: Path, max_header: int = LIMIT) -> Row:
     return Row(name, 0 if verdict.ok else 1, verdict.fault, verdict.offset, verdict.first_line)
 
 
-def _check_batch(paths: list[str], max_header: int) -> list[Row]:
-    return [check_one(path, max_header) for path in paths]
+def _check_batch(names: list[str], max_header: int) -> list[Row]:
+    return [check_one(name, max_header) for name in names]
+
+
+def _check_packed(names: bytes, max_header: int) -> bytes:
+    """What the rows of a batch have beside the path. Both are packed: Dask looks at each item of a list by itself."""
+    return pickle.dumps([row[1:] for row in _check_batch(pickle.loads(names), max_header)])
 
 
 def _is_url(path: str) -> bool:
     return "://" in path
 
 
-def _batches(paths: Iterable[Path], batch: int) -> Iterator[list[str]]:
-    if batch < 1:
+def _elsewhere(name: str) -> str:
+    """The same file for a worker in another folder."""
+    # (not os.path.abspath: after a link, `..` isn't the folder that stands before it)
+    is_same = os.path.isabs(name) or _is_url(name) or not name
+    return name if is_same else os.path.join(os.getcwd(), name)
+
+
+def _batches(paths: Iterable[Path], batch: int | None, workers: int) -> list[list[str]]:
+    if batch is not None and batch < 1:
         raise ValueError("batch has to be at least 1")
-    items = iter(paths)
-    while names := [os.fspath(path) for path in islice(items, batch)]:
-        yield names
+    names = [os.fspath(path) for path in paths]
+    length = batch or max(1, min(MOST, ceil(len(names) / (SHARES * workers))))
+    return [names[low : low + length] for low in range(0, len(names), length)]
 
 
-def _elsewhere(names: list[str]) -> list[str]:
-    """The same files for a worker in another folder."""
-    return [name if _is_url(name) else os.path.abspath(name) for name in names]
+def _workers(client: Any) -> int:
+    """How many files the client's workers check at a time; 1 if there are no workers yet."""
+    return sum(client.nthreads().values()) or 1
 
 
 def _by_client(batches: list[list[str]], client: Any, max_header: int) -> Iterator[Row]:
-    names = [_elsewhere(batch) for batch in batches]
-    futures = client.map(_check_batch, names, [max_header] * len(batches), pure=False)
+    packed = [pickle.dumps([_elsewhere(name) for name in names]) for names in batches]
+    futures = client.map(_check_packed, packed, [max_header] * len(batches), pure=False)
     for low in range(0, len(batches), AT_ONCE):
-        for batch, rows in zip(batches[low : low + AT_ONCE], client.gather(futures[low : low + AT_ONCE])):
-            yield from (row._replace(path=name) for name, row in zip(batch, rows))
+        for names, answers in zip(batches[low : low + AT_ONCE], client.gather(futures[low : low + AT_ONCE])):
+            yield from (Row(name, *answer) for name, answer in zip(names, pickle.loads(answers)))
         # (the workers may forget these)
         futures[low : low + AT_ONCE] = [None] * len(futures[low : low + AT_ONCE])
 
@@ -101,21 +118,22 @@ def _by_processes(batches: list[list[str]], jobs: int, max_header: int) -> Itera
 
 
 def archive(
-    paths: Iterable[Path], client: Any = None, batch: int = 200, jobs: int = 1, max_header: int = LIMIT
+    paths: Iterable[Path], client: Any = None, batch: int | None = None, jobs: int = 1, max_header: int = LIMIT
 ) -> Iterator[Row]:
     """A row for each file, in the order of the paths.
 
     `client` is a `dask.distributed.Client`: its workers check `batch` files at a time, so each of them has to have this
     package, and to see the files under the same absolute paths. Without a client the files are checked by this process
-    as the rows are asked for, or, if `jobs` is above 1, by so many processes, which are started anew (not forked). A
+    as the rows are asked for, or, if `jobs` is above 1, by so many processes, which are started anew (not forked). If
+    `batch` is None, there are four batches for each worker or process, or more, so that none has over 1000 files. A
     file that can't be read is a row with status 3. Raises what the client raises if its workers fail, and ValueError if
     `batch` or `max_header` can't be.
     """
     require_limit(max_header)
     if client is not None:
-        return _by_client(list(_batches(paths, batch)), client, max_header)
+        return _by_client(_batches(paths, batch, _workers(client)), client, max_header)
     if jobs > 1:
-        return _by_processes(list(_batches(paths, batch)), jobs, max_header)
+        return _by_processes(_batches(paths, batch, jobs), jobs, max_header)
     return (check_one(path, max_header) for path in paths)
 
 

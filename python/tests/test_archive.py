@@ -3,6 +3,7 @@
 from __future__ import annotations
 
 import os
+import pickle
 import shutil
 import subprocess
 import sys
@@ -14,7 +15,7 @@ from classic import make
 from conftest import ALL, EXAMPLES, expected
 
 import ncc
-from ncc import _page
+from ncc import _page, archiving
 from ncc.archiving import walk
 
 
@@ -76,6 +77,76 @@ def test_processes_give_the_same_rows():
         list(ncc.archive(paths, jobs=2, batch=0))
     with pytest.raises(ValueError):
         ncc.archive(paths, max_header=-1)
+
+
+class LocalClient:
+    """What `archive` asks of a Dask client, done here."""
+
+    def __init__(self, workers: dict[str, int]) -> None:
+        self.workers = workers
+        self.arguments: list[tuple[object, ...]] = []
+        self.gathered: list[int] = []
+
+    def nthreads(self) -> dict[str, int]:
+        return self.workers
+
+    def map(self, call, *arguments, pure):
+        self.arguments = list(zip(*arguments))
+        return [lambda words=words: call(*words) for words in self.arguments]
+
+    def gather(self, futures):
+        self.gathered.append(len(futures))
+        return [future() for future in futures]
+
+
+def test_client_is_asked_for_few_batches_at_a_time():
+    client, paths = LocalClient({}), [str(path) for path in ALL] * 2 + ["", "not\0a path", "no\udcffname.nc", EXAMPLES]
+    rows = ncc.archive(paths, client, batch=7)
+    assert client.gathered == []
+    first = next(rows)
+    assert client.gathered == [archiving.AT_ONCE]
+    assert [first, *rows] == list(ncc.archive(paths))
+    assert sum(client.gathered) == len(client.arguments) == -(-len(paths) // 7)
+    assert max(client.gathered) == archiving.AT_ONCE
+
+
+def test_what_a_client_is_handed_is_packed():
+    # (Dask serializes each item of a list by itself, and looks for keys of other tasks in it)
+    client = LocalClient({"one": 1})
+    assert len(list(ncc.archive(ALL, client))) == len(ALL)
+    assert {tuple(map(type, words)) for words in client.arguments} == {(bytes, int)}
+
+
+@pytest.mark.parametrize(
+    "files, workers, batches, longest",
+    [(10_000, {"one": 1, "two": 1}, 10, 1000), (100, {"one": 2, "two": 3}, 20, 5), (3, {"one": 4}, 3, 1)],
+)
+def test_batches_of_a_client(files: int, workers: dict[str, int], batches: int, longest: int):
+    client = LocalClient(workers)
+    next(ncc.archive(["not_there.nc"] * files, client))
+    lengths = [len(pickle.loads(names)) for names, _ in client.arguments]
+    assert (len(lengths), max(lengths), sum(lengths)) == (batches, longest, files)
+
+
+def test_client_without_workers_yet():
+    client = LocalClient({})
+    assert list(ncc.archive(ALL, client)) == list(ncc.archive(ALL)) and len(client.arguments) > 1
+    with pytest.raises(ValueError):
+        ncc.archive(ALL, client, batch=0)
+
+
+def test_worker_in_another_folder_has_the_same_files(tmp_path: Path, monkeypatch: pytest.MonkeyPatch):
+    (tmp_path / "there" / "deep").mkdir(parents=True)
+    (tmp_path / "link").symlink_to("there/deep")
+    shutil.copy(EXAMPLES / "ocean.nc", tmp_path / "there" / "ocean.nc")
+    monkeypatch.chdir(tmp_path)
+    # (what `..` means after a link isn't what the words say)
+    paths, client = ["there/ocean.nc", "link/../ocean.nc", "ocean.nc"], LocalClient({"one": 1})
+    wanted = list(ncc.archive(paths))
+    assert [row.status for row in wanted] == [0, 0, 3]
+    assert list(ncc.archive(paths, client)) == wanted
+    named = [name for names, _ in client.arguments for name in pickle.loads(names)]
+    assert named == [f"{tmp_path}/{path}" for path in paths]
 
 
 def test_error_of_memory_has_its_words(monkeypatch: pytest.MonkeyPatch):
