@@ -73,7 +73,10 @@ def index(
     indexed = _indexed(front, length, limit, [dims, attrs, variables, ids])
     if indexed.state != c.PASSES:
         fail(indexed)
-    return dims, attrs[: indexed.attrs].copy(), variables, ids[: indexed.ids].copy()
+    # (shortened where they are, so that no row is copied)
+    attrs.resize(indexed.attrs, refcheck=False)
+    ids.resize(indexed.ids, refcheck=False)
+    return dims, attrs, variables, ids
 
 
 class Selecting:

@@ -36,6 +36,13 @@ def test_opens_within_a_second(path: Path):
     assert min(seconds) <= 1
 
 
+def test_rows_take_no_more_room_than_they_need(path: Path):
+    with ncc.open(path) as data:
+        index = data._file.index
+        assert [len(rows) for rows in (index.dims, index.attrs, index.vars, index.ids)] == [1, 3 * COUNT, COUNT, COUNT]
+        assert all(rows.base is None for rows in (index.dims, index.attrs, index.vars, index.ids))
+
+
 def test_items_are_made_when_they_are_asked_for(path: Path):
     with ncc.open(path) as data:
         last = data[f"variable_{COUNT - 1:06d}"]
