@@ -2,7 +2,8 @@
 # All tests: what ncc.h has beside the crate (scripts/c_header.py); the gate `rt ci` (every proof from nothing, the
 # must-fail edits, the unit tests, the program's own run); then the program that it built (scripts/rows.py over
 # tests/*.rows, and scripts/test_program.sh), the examples of the pages (scripts/pages.sh), and what the programs take
-# (bench/count). The last line is `N passed, M failed` of all.
+# (bench/count). Where `rt lib` has left the library for C, its examples (scripts/c_library.sh) and the Python package
+# (scripts/python.sh) follow. The last line is `N passed, M failed` of all.
 set -uo pipefail
 top=$(cd "$(dirname "$0")/.." && pwd)
 log=$(mktemp)
@@ -47,5 +48,11 @@ part scripts/rows.py crates/ncc_cli/out/ncc_cli
 part scripts/test_program.sh crates/ncc_cli/out/ncc_cli
 part scripts/pages.sh crates/ncc_cli/out/ncc_cli
 part bench/count
+if [ -f crates/ncc_c/out/libncc_c.a ]; then
+  part scripts/c_library.sh
+  part scripts/python.sh
+else
+  echo 'test.sh: crates/ncc_c/out/libncc_c.a is not there (rt lib makes it): the examples in C and Python are not run'
+fi
 echo "$passed passed, $failed failed"
 [ "$status" = 0 ] && [ "$failed" = 0 ]

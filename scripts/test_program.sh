@@ -119,6 +119,7 @@ wrong "error: invalid value '18446744073709551616' for '--max-header <N>': numbe
 wrong "error: invalid value '-1' for '--max-header <N>': invalid digit found in string" check --max-header -1 ocean.nc
 wrong "error: invalid value '-1' for '<N>': invalid digit found in string" extend ocean.nc -1
 wrong "error: the argument '--strict' cannot be used multiple times" check --strict --strict ocean.nc
+wrong "error: the argument '--explain' cannot be used with '--brief'" check --explain --brief ocean.nc
 wrong "error usage" csv ocean.nc time --start -1
 wrong "error usage" csv ocean.nc time --start -1,0
 wrong "error usage" csv ocean.nc time --start --count=1
@@ -143,7 +144,7 @@ while IFS='|' read -r command about options; do
   count "help of $command: its statuses" "  2  the command line is wrong|  3  a device or memory failed" \
     "$(tail -n 2 out | paste -sd '|')"
 done <<'END'
-check|Says whether files are sound, and what is unusual in them|--strict --brief --max-header --files-from0 --verbose --help
+check|Says whether files are sound, and what is unusual in them|--strict --brief --explain --max-header --files-from0 --verbose --help
 convert|Writes what a file holds into a new file, in another version|--to --verbose --help
 csv|Prints the values of a variable, or of a selection of them|--start --count --stride --decimal --text --verbose --help
 extend|Adds records of fill values to a file|--verbose --help

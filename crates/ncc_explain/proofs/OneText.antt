@@ -1,9 +1,8 @@
 -- What is told of bytes is one text.
-use Rattle.std.proofs.Common.{◌≡◌, ℕ, Bool, List, Ok, Result, length, refl, sym, ap, subst, ◌∙◌, ◌⊎◌, inl, inr}
+use Rattle.std.proofs.Common.{◌≡◌, ℕ, Bool, List, Ok, length, sym, ap, ◌∙◌, inl, inr}
 use Rattle.ncc_schema.specs.declared.schema.Header.{Header}
 use Rattle.ncc_header.specs.declared.fault.Fault.{Fault}
 use Rattle.ncc_header.specs.Answers.{Begins, Stops}
-use Rattle.ncc_layout.specs.declared.fault.LayoutFault.{LayoutFault}
 use Rattle.ncc_check.specs.declared.fault.FileFault.{FileFault}
 use Rattle.ncc_check.specs.declared.fault.FileFault.TheVariants as of
 use Rattle.ncc_check.specs.declared.report.Report.{Report}
@@ -15,7 +14,7 @@ use Rattle.ncc_engines.specs.declared.answer.Answer.TheVariants.{Passed, Refused
 use Rattle.ncc_engines.specs.Answers.{Writes}
 use Rattle.ncc_engines.proofs.Sent.{OneText}
 use Rattle.ncc_explain.specs.Words.{told_header_fault, told_layout_fault, told_report}
-use Rattle.ncc_explain.specs.Explaining.{IsToldReport, IsToldHeader, IsToldLayout, IsToldFault, IsToldText}
+use Rattle.ncc_explain.specs.Explaining.{IsToldReport, IsToldLayout, IsToldFault, IsToldText}
 
 -- the laws of headers and faults that make it one
 pub record Laws : Type 0 where

@@ -1,6 +1,6 @@
 -- What stands behind a fault or a note, each line four spaces in: the part of the header that it is in, the numbers, and
 -- the rule.
-use Rattle.std.specs.Prelude.{ℕ, ◌==◌, List, [], ◌++◌, Option, Some, None, get_or, map, position, codes, decimal}
+use Rattle.std.specs.Prelude.{ℕ, ◌==◌, List, [], ◌++◌, Option, Some, None, get_or, position, codes, decimal}
 use Rattle.std.specs.List.{flat_map}
 use Rattle.ncc_schema.specs.declared.names.NameOf.{NameOf}
 use Rattle.ncc_schema.specs.declared.names.NameOf.TheVariants as of

@@ -1,14 +1,12 @@
 -- A rule is false of the numbers by which it is told to fail.
-use Rattle.std.proofs.Common.{◌≡◌, ℕ, zero, suc, ◌+◌, ◌<◌, ◌≤◌, Bool, true, false, not, ◌&&◌, ◌||◌, ◌==◌, ltb, List, [], ◌∷◌, length, get_or, Option, Some, None, refl, sym, ap, subst, ◌∙◌, arith, ◌⊎◌, inl, inr, if◌then◌else◌}
+use Rattle.std.proofs.Common.{◌≡◌, ℕ, suc, ◌+◌, ◌<◌, Bool, true, false, not, ◌&&◌, ◌||◌, ◌==◌, ltb, List, [], ◌∷◌, length, get_or, Option, Some, None, refl, sym, ap, subst, ◌∙◌, arith, ◌⊎◌, inl, inr, if◌then◌else◌}
 use Rattle.std.proofs.lemmas.Bool.{eqb-true, ltb-true}
 use Rattle.ncc_schema.specs.declared.schema.Header.{Header}
 use Rattle.ncc_layout.specs.declared.extent.Extent.{Extent}
 use Rattle.ncc_layout.specs.declared.fault.LayoutFaultKind.{LayoutFaultKind}
 use Rattle.ncc_layout.specs.declared.fault.LayoutFaultKind.TheVariants as kinds
-use Rattle.ncc_schema.specs.declared.schema.Dim.{Dim}
-use Rattle.ncc_schema.specs.declared.schema.Var.{Var}
-use Rattle.ncc_schema.specs.Schema.{Place, places_of}
-use Rattle.ncc_layout.specs.Extents.{end, extents_from, least_begin, records_of}
+use Rattle.ncc_schema.specs.Schema.{places_of}
+use Rattle.ncc_layout.specs.Extents.{end, least_begin, records_of}
 use Rattle.ncc_layout.specs.Faults.{Before}
 use Rattle.ncc_layout.specs.Sizes.{record_size_of}
 use Rattle.ncc_check.specs.Notes.{extents_in}
@@ -95,7 +93,7 @@ module _ (h : Header) (file n : ℕ) where
           let kind = subst (λ (x : Extent). x.is_record ≡ (extent_at h n).is_record) here.0 o.kind in
           (ap kind_of (sym same), subst (Breaks h file n) same (refl, here.1, ap end here.0, kind, before, o.shared))
       by_test false is rest =
-          rest ( ap (λ t. if t then Some (Overlap (extent_at h n).begin k (end d)) else first_overlap (extent_at h n) (suc k) es) is ∙ e)
+          rest (ap (λ t. if t then Some (Overlap (extent_at h n).begin k (end d)) else first_overlap (extent_at h n) (suc k) es) is ∙ e)
 
   truncated_breaks : (b : Broken) → IsIf (ltb file (last_end_of h n)) (Truncated (last_end_of h n) file) b → Breaks h file n b
   truncated_breaks b i = subst (Breaks h file n) i.is (refl, refl, ltb-true _ _ i.holds)

@@ -2,3 +2,4 @@ mod Spelling
 mod Locating
 mod ExtentsAt
 mod BrokenRules
+mod Complete

@@ -1,10 +1,10 @@
 -- The bytes of the parts are the header.
-use Rattle.std.proofs.Common.{◌≡◌, ℕ, suc, ◌+◌, List, [], ◌∷◌, ◌++◌, ◌-◌, length, map, refl, sym, ap, ◌∙◌, append_assoc, append-nil, arith, length-append}
+use Rattle.std.proofs.Common.{◌≡◌, ℕ, suc, ◌+◌, List, [], ◌∷◌, ◌++◌, ◌-◌, length, refl, sym, ap, ◌∙◌, append_assoc, append-nil, arith, length-append}
 use Rattle.std.specs.Prelude.{zip}
 use Rattle.std.specs.List.{flat_map}
 use Rattle.std.proofs.lemmas.Grind.{flat_map-append}
 use Rattle.ncc_values.specs.Numbers.{big_endian}
-use Rattle.ncc_values.specs.Version.{byte_of, count_width_of, offset_width_of}
+use Rattle.ncc_values.specs.Version.{count_width_of, offset_width_of}
 use Rattle.ncc_values.specs.XType.{code_of}
 use Rattle.ncc_values.specs.declared.version.Version.{Version}
 use Rattle.ncc_schema.specs.declared.schema.Attr.{Attr}
@@ -183,11 +183,11 @@ all_ends s =
     ap (λ n. piece parts.Magic 4 ∷ piece parts.NumRecs n ∷ ends_from n ((parts.DimList, canon_head v nc_dimension (length s.dims)) ∷ (dims ++ globals_part))) e1
     ∙ ap (λ n. piece parts.Magic 4 ∷ piece parts.NumRecs (4 + w) ∷ piece parts.DimList n ∷ ends_from n (dims ++ globals_part)) (omega (arith, e1, e2))
     ∙ ap (λ es. piece parts.Magic 4 ∷ piece parts.NumRecs (4 + w) ∷ piece parts.DimList (dims_begin s) ∷ es)
-      (ends-append (dims_begin s) dims globals_part
-       ∙ ap (λ n. ends_from (dims_begin s) dims ++ piece parts.GlobalList n ∷ ends_from n (globals ++ vars_part)) e3
-       ∙ ap (λ es. ends_from (dims_begin s) dims ++ piece parts.GlobalList (globals_begin s) ∷ es)
-         (ends-append (globals_begin s) globals vars_part
-          ∙ ap (λ n. ends_from (globals_begin s) globals ++ piece parts.VarList n ∷ ends_from n vars) e4))
+    (ends-append (dims_begin s) dims globals_part
+    ∙ ap (λ n. ends_from (dims_begin s) dims ++ piece parts.GlobalList n ∷ ends_from n (globals ++ vars_part)) e3
+    ∙ ap (λ es. ends_from (dims_begin s) dims ++ piece parts.GlobalList (globals_begin s) ∷ es)
+    (ends-append (globals_begin s) globals vars_part
+    ∙ ap (λ n. ends_from (globals_begin s) globals ++ piece parts.VarList n ∷ ends_from n vars) e4))
 
 -- all pieces, as they were added
 pub all_added : (ds gs xs : List Piece) (a b d g x : Piece) → ((((((([] ++ a ∷ []) ++ b ∷ []) ++ d ∷ []) ++ ds) ++ g ∷ []) ++ gs) ++ x ∷ []) ++ xs ≡ a ∷ b ∷ d ∷ (ds ++ g ∷ (gs ++ x ∷ xs))

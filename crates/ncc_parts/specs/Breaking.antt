@@ -1,7 +1,7 @@
 -- The numbers by which a layout rule fails for a variable, each in bytes.
 use Rattle.std.specs.Prelude.{◌≡◌, ℕ, suc, ◌+◌, ◌*◌, ◌<◌, ◌==◌, ltb, length, get_or, List, [], ◌∷◌, Option, Some, None, Bool, true, false, not, ◌&&◌, ◌||◌, if◌then◌else◌}
 use Rattle.ncc_schema.specs.declared.schema.Count.{Count}
-use Rattle.ncc_schema.specs.declared.schema.Count.TheVariants.{Known, Streaming}
+use Rattle.ncc_schema.specs.declared.schema.Count.TheVariants.{Known}
 use Rattle.ncc_schema.specs.declared.schema.Header.{Header}
 use Rattle.ncc_layout.specs.declared.extent.Extent.{Extent}
 use Rattle.ncc_layout.specs.declared.fault.LayoutFaultKind.{LayoutFaultKind}

@@ -1,6 +1,6 @@
 -- The parts of a header, one after the other, each with its bytes in the canonical spelling of a header whose variables
 -- have no place yet: where a part ends doesn't depend on the places.
-use Rattle.std.specs.Prelude.{◌≡◌, ℕ, suc, ◌+◌, ◌-◌, ltb, List, [], ◌∷◌, ◌++◌, length, Option, Some, None, if◌then◌else◌}
+use Rattle.std.specs.Prelude.{ℕ, suc, ◌+◌, ◌-◌, ltb, List, [], ◌∷◌, ◌++◌, length, Option, Some, None, if◌then◌else◌}
 use Rattle.ncc_values.specs.Numbers.{big_endian}
 use Rattle.ncc_values.specs.Version.{byte_of, count_width_of, offset_width_of}
 use Rattle.ncc_values.specs.XType.{code_of}

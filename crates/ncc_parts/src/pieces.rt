@@ -22,7 +22,8 @@ fn push_dims(
     pieces: &mut Vec<Piece>,
 ) -> Result<u64, AllocError>
     requires { start + length (flat_map (canon_dim version) dims.now) < 2 ^ 64 }
-    ensures pieces { OnOk result (pieces.new.items ≡ pieces.old.items ++ ends_from start (dims_from version 0 dims.now)) }
+    ensures pieces { OnOk result
+        (pieces.new.items ≡ pieces.old.items ++ ends_from start (dims_from version 0 dims.now)) }
     ensures end { IfOk result (λ end. end ≡ start + length (flat_map (canon_dim version) dims.now)) }
 {
     let mut at = start;
@@ -134,7 +135,8 @@ fn push_vars(
 /// Adds a part that has so many bytes, and gives its end.
 fn push_part(part: Part, start: u64, size: u64, pieces: &mut Vec<Piece>) -> Result<u64, AllocError>
     requires { start + size < 2 ^ 64 }
-    ensures pieces { OnOk result (pieces.new.items ≡ pieces.old.items ++ record { part = part; end = start + size } ∷ []) }
+    ensures pieces { OnOk result
+        (pieces.new.items ≡ pieces.old.items ++ record { part = part; end = start + size } ∷ []) }
     ensures end { IfOk result (λ end. end ≡ start + size) }
 {
     let end = start + size;

@@ -1,4 +1,4 @@
-use Rattle.std.proofs.Common.{◌≡◌, ℕ, List, Result, Ok, Err, sym, subst, ap, ◌∙◌}
+use Rattle.std.proofs.Common.{◌≡◌, Result, Ok, Err, sym, subst, ◌∙◌}
 use Rattle.ncc_lines.specs.declared.halt.Halt.{Halt}
 use Rattle.ncc_lines.specs.declared.halt.Halt.TheVariants as halts
 use Rattle.ncc_lines.specs.Sends.{SendsAll}

@@ -1,4 +1,4 @@
-use Rattle.std.proofs.Common.{◌≡◌, ◌+◌, ◌-◌, ◌++◌, ◌∷◌, [], List, length, append_assoc, sym, ap, ◌∙◌, arith}
+use Rattle.std.proofs.Common.{◌≡◌, ◌+◌, ◌-◌, ◌++◌, ◌∷◌, [], length, sym, ap, ◌∙◌, arith}
 use Rattle.ncc_schema.specs.Names.{attrs_in, canon_unplaced, list_size, no_place}
 use Rattle.ncc_schema.proofs.Sizes.{length-canon_var}
 use Rattle.ncc_parts.specs.declared.part.Part.TheVariants as parts
