@@ -58,6 +58,7 @@ unsynced() {
 
 refuse "$(cat "$top/examples/noted.listed")" list noted.nc
 refuse "$(cat "$top/examples/noted.checked")" check noted.nc
+refuse "$("$ncc" check --explain "$top/examples/noted.nc")" check --explain noted.nc
 refuse "$(printf 'dim,vx\n1,1\n3,1')" csv tiny.nc vx --start 1 --stride 2
 refuse "records 3" extend ocean.nc 1
 refuse "ok CDF-2" convert --to 2 tiny.nc out.nc

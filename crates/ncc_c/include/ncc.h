@@ -135,7 +135,8 @@ typedef struct {
 
 /* What the header of a file that passes says: a row for each dimension; for each attribute, first those of the file,
    then those of each variable in turn; for each variable; and the numbers of the dimensions of each variable in turn.
-   NCC_NO_ROOM exactly where an array is shorter than the count of its rows: then the counts are told, and no row is.
+   NCC_NO_ROOM exactly where an array is shorter than the count of its rows: then the counts are told, and no row is:
+   the arrays may hold anything.
    Call it with no room to get the counts; where there are no rows at all that is NCC_PASSES. Else the state is that of
    ncc_judge. */
 void ncc_index(const uint8_t *front, size_t front_length, uint64_t file_length, uint64_t limit, ncc_dim *dims,
@@ -176,8 +177,8 @@ typedef struct {
 } ncc_stretched;
 
 /* The bytes of a selection as runs of adjoining elements, in the order of the selection, from its element `first` on:
-   as many as there is room for, each of one element or more, but not always as long as it could be. Fewer than `room`:
-   none is left. The other arguments are those of ncc_steps. */
+   as many as there is room for, each of one element or more: a run ends only where the next element doesn't adjoin it.
+   Fewer than `room`: none is left. The other arguments are those of ncc_steps. */
 void ncc_stretches(const ncc_var *var, const uint64_t *shape, size_t shape_length, uint64_t record_size,
                    uint64_t file_length, const uint64_t *start, size_t starts, const uint64_t *count, size_t counts,
                    const uint64_t *stride, size_t strides, uint64_t first, ncc_run *runs, size_t room,
@@ -195,13 +196,14 @@ typedef struct {
 
 /* Where one more record of a file that passes goes. The record has the verdict's `record_size` bytes: in it each record
    variable's part stands as far from the record's first byte as its `begin` stands from the least `begin` of them.
-   `count_bytes` gets the number of records with this one, as the field at `count_at` holds it. To add the record to a
-   file that is whole on the disk: write zeros up to `place`, if the file is shorter, and the record at `place`; sync;
-   then write these bytes at `count_at`, in one call, and sync. If the disk does that one write whole or not at all, a
-   stop at any moment leaves a file that passes, with the old records and with the new one or without it. For the record
-   after it, the front must have the new number and `file_length` be the new length. NCC_NO_ROOM: the record can be
-   added, and `count_bytes` is too short: 8 bytes are always enough. NCC_REFUSED: no record can be added. Else the state
-   is that of ncc_judge. After `at` all is 0 unless the state is NCC_PASSES. */
+   `count_bytes` gets the number of records with this one, as the field at `count_at` holds it, in its first
+   `count_width` bytes; those after them may be anything. To add the record to a file that is whole on the disk: write
+   zeros up to `place`, if the file is shorter, and the record at `place`; sync; then write these bytes at `count_at`,
+   in one call, and sync. If the disk does that one write whole or not at all, a stop at any moment leaves a file that
+   passes, with the old records and with the new one or without it. For the record after it, the front must have the new
+   number and `file_length` be the new length. NCC_NO_ROOM: the record can be added, and `count_bytes` is too short: 8
+   bytes are always enough. NCC_REFUSED: no record can be added. Else the state is that of ncc_judge. After `at` all is
+   0 unless the state is NCC_PASSES. */
 void ncc_record(const uint8_t *front, size_t front_length, uint64_t file_length, uint64_t limit, uint8_t *count_bytes,
                 size_t count_room, ncc_recorded *answer);
 
@@ -244,7 +246,7 @@ void ncc_encode(uint64_t version, uint64_t records, const uint8_t *text, size_t 
                 const uint64_t *ids, size_t ids_count, uint8_t *header, size_t room, ncc_planned *answer);
 
 /* The name of a kind of fault, note or refusal, as `ncc` prints it: puts as much of it as there is room for, without a
-   zero at the end, and returns its length; 0 for a number that is no kind. */
+   zero at the end, changes nothing after it, and returns its length; 0 for a number that is no kind. */
 size_t ncc_fault_text(uint32_t kind, uint8_t *text, size_t room);
 
 #ifdef __cplusplus

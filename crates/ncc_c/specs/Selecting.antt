@@ -11,7 +11,7 @@ use Rattle.ncc_ranges.specs.declared.fault.RangeFault.{RangeFault}
 use Rattle.ncc_ranges.specs.declared.fault.RangeFault.TheVariants.{Refused, NotInFile}
 use Rattle.ncc_ranges.specs.declared.runs.Stretch.{Stretch}
 use Rattle.ncc_ranges.specs.declared.steps.Steps.{Steps}
-use Rattle.ncc_ranges.specs.Runs.{AreSome, places_in}
+use Rattle.ncc_ranges.specs.Runs.{AreLongest, AreSome, places_in}
 use Rattle.ncc_ranges.specs.Steps.{EndBy, FindsSteps, Fits, RangesAs}
 use Rattle.ncc_c.specs.declared.outcome.Outcome.{Outcome}
 use Rattle.ncc_c.specs.declared.rows.VarRow.{VarRow}
@@ -91,14 +91,15 @@ abbrev pub no_stretches : Outcome → Stretched
 no_stretches o = record { outcome = o; size = 0; total = 0; next = 0; written = 0 }
 
 -- The places of the selected elements after the first ones are those of the stretches that were written, each of some
--- elements, and then those from the element `next` on, of which there is none where not all of the room was taken. All
--- elements end in the file.
+-- elements and as long as it can be, and then those from the element `next` on, of which there is none where not all of
+-- the room was taken. All elements end in the file.
 pub record HasStretches (record_size file : ℕ) (x : PlacedVar) (s : Slab) (first : ℕ) (out : List Stretch) (a : Stretched) : Type 0 where
   pub outcome_is : a.outcome ≡ passes
   pub size_is : a.size ≡ size_of x.xtype
   pub total_is : a.total ≡ selected_count s
   pub most : a.written ≤ length out
   pub some : AreSome (take a.written out)
+  pub longest : AreLongest a.size (drop a.next (places_of record_size x s)) (take a.written out)
   pub places : drop first (places_of record_size x s) ≡ places_in a.size (take a.written out) ++ drop a.next (places_of record_size x s)
   pub within : a.next ≤ a.total
   pub whole : a.written < length out → drop a.next (places_of record_size x s) ≡ []

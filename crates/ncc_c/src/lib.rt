@@ -1,7 +1,7 @@
 //! What C may call. The contracts in words, and the structures, stand in `include/ncc.h`.
 #![tactic(auto)]
 
-ghost use Rattle.std.specs.Prelude.{◌≡◌, ◌<◌, ◌≤◌, ℕ, List, length, take, min};
+ghost use Rattle.std.specs.Prelude.{◌≡◌, ◌<◌, ◌≤◌, ℕ, List, drop, length, take, min};
 ghost use Rattle.ncc_check.specs.Passes.{HasOwnElements};
 ghost use Rattle.ncc_front.specs.Fronts.{IsFile};
 ghost use Rattle.ncc_c.specs.Outcomes.{misused};
@@ -227,11 +227,14 @@ pub extern "C" fn ncc_encode(
     *answer = put_header(&plan, header);
 }
 
-/// Puts the name of a kind of fault or note, as much of it as there is room for, and tells its length.
+/// Puts the name of a kind of fault or note, as much of it as there is room for and nothing after it, and tells its
+/// length.
 #[unsafe(no_mangle)]
 pub extern "C" fn ncc_fault_text(kind: u32, text: &mut [u8]) -> usize
     ensures text { take (min (length (kind_text kind)) (length text.new)) text.new
         ≡ take (length text.new) (kind_text kind) }
+    ensures rest { drop (min (length (kind_text kind)) (length text.old)) text.new
+        ≡ drop (min (length (kind_text kind)) (length text.old)) text.old }
     ensures length { result ≡ length (kind_text kind) }
 {
     let name = kind_text(kind).as_bytes();

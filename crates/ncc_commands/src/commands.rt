@@ -56,8 +56,8 @@ worst. With --brief there is one line for each: the status, the answer and the p
 between them. A list of names has a NUL byte after each, as `find -print0` writes them.
 
 With --explain each fault and note is followed by lines that begin with four spaces: the part of
-the header that it is in, its numbers, and its rule, with the section of The NetCDF Classic
-Format Specification in brackets.
+the header that it is in and its numbers, but for a fault of the header, and its rule, with the
+section of The NetCDF Classic Format Specification that it rests on in brackets.
 
 A header may have 67108864 bytes, or as many as --max-header says; a longer one is the
 fault HeaderTooLong.
@@ -76,7 +76,7 @@ LargeCount.
 
 Status:
   0  it passed
-  1  it has a fault, which is the only line, or with --strict a note
+  1  it has a fault, which is the only line but with --explain, or with --strict a note
   2  the command line is wrong
   3  a device or memory failed";
 

@@ -8,5 +8,5 @@ mod parts;
 mod rules;
 mod telling;
 
-pub use examining::{Examined, Unsound, examine};
+pub use examining::{Examined, Unplaced, Unsound, examine};
 pub use explaining::explain_engine;

@@ -23,7 +23,7 @@ use Rattle.ncc_layout.proofs.LeastBegins.{first_begin_is, is_least}
 use Rattle.ncc_check.specs.Notes.{extents_in}
 use Rattle.ncc_parts.specs.declared.broken.Broken.{Broken}
 use Rattle.ncc_parts.specs.declared.broken.Broken.TheVariants.{InHeader, Overlap, RecordWindow, FixedAfterRecords, Truncated}
-use Rattle.ncc_parts.specs.Breaking.{broken_by, broken_if, extent_at, first_overlap, last_end, last_end_of, no_extent, overlaps, past_records, past_window}
+use Rattle.ncc_parts.specs.Breaking.{broken_by, broken_if, extent_at, first_overlap, in_last_record, no_extent, overlaps, past_file, past_records, past_window}
 
 -- ---- one rule that fails
 
@@ -101,17 +101,12 @@ streamed_within size file (r ∷ rs) e le = by_order (cases_lt file (greatest_en
         let one : suc more ≡ 1 + more = omega arith in
         subst (λ b. LastWithin file size (if b then 0 else 1 + more) e) (sym (le-ltb file last fits)) (subst (λ n. LastWithin file size n e) one here)
 
-last_fixed : (size : ℕ) (count : Count) (e : Extent) → e.is_record ≡ false → last_end size count e ≡ end e
-last_fixed size (Known zero) e kind = refl
-last_fixed size (Known (suc n)) e kind = ap (λ b. if b then end e + n * size else end e) kind
-last_fixed size Streaming e kind = refl
-
-pub truncated_told : (size file : ℕ) (count : Count) (es : List Extent) (e : Extent) (b : Bool) → b ≡ e.is_record → (e.is_record ≡ true → end e ≤ greatest_end (records_of es))
-    → (ByKind b (LastWithin file size (counted size file es count) e) (end e ≤ file) → ⊥) → file < last_end size count e
-truncated_told size file count es e false is inside fails = omega (arith, fails, last_fixed size count e (sym is))
-truncated_told size file (Known zero) es e true is inside fails = absurd (fails tt)
-truncated_told size file (Known (suc n)) es e true is inside fails = omega (arith, fails, ap (λ b. if b then end e + n * size else end e) is)
-truncated_told size file Streaming es e true is inside fails = absurd (fails (streamed_within size file (records_of es) e (inside (sym is))))
+file_told : (size file : ℕ) (count : Count) (es : List Extent) (e : Extent) (b : Bool) → b ≡ e.is_record → (e.is_record ≡ true → end e ≤ greatest_end (records_of es))
+    → (ByKind b (LastWithin file size (counted size file es count) e) (end e ≤ file) → ⊥) → IsSome (past_file file (if b then in_last_record size count (end e) else Some (end e)))
+file_told size file count es e false is inside fails = some_if (ltb file (end e)) (Truncated (end e) file) (lt-ltb _ _ (omega (arith, fails)))
+file_told size file (Known zero) es e true is inside fails = absurd (fails tt)
+file_told size file (Known (suc n)) es e true is inside fails = some_if (ltb file (end e + n * size)) (Truncated (end e + n * size) file) (lt-ltb _ _ (omega (arith, fails)))
+file_told size file Streaming es e true is inside fails = absurd (fails (streamed_within size file (records_of es) e (inside (sym is))))
 
 -- ---- two that share a byte
 
@@ -177,11 +172,10 @@ module _ (h : Header) (file : ℕ) where
       by_kind true is fails = absurd (fails tt)
       by_kind false is fails = records_told (records_of (extents_in h)) (extent_at h n) (least_begin (records_of (extents_in h))) refl (sym is) fails
 
-  file_told : (n : ℕ) → FailsFirst (Within file (record_size_of h.schema) (record_count h.schema (places_of h.places) file)) (extents_in h) n → IsSome (broken_by h file kinds.Truncated n)
-  file_told n f =
+  truncated_told : (n : ℕ) → FailsFirst (Within file (record_size_of h.schema) (record_count h.schema (places_of h.places) file)) (extents_in h) n → IsSome (broken_by h file kinds.Truncated n)
+  truncated_told n f =
       let r = at (Within file (record_size_of h.schema) (record_count h.schema (places_of h.places) file)) (extents_in h) n no_extent f in
-      some_if (ltb file (last_end_of h n)) (Truncated (last_end_of h n) file)
-      (lt-ltb _ _ (truncated_told (record_size_of h.schema) file h.schema.count (extents_in h) (extent_at h n) (extent_at h n).is_record refl (ends_in (extents_in h) n no_extent r.there) r.fails))
+      file_told (record_size_of h.schema) file h.schema.count (extents_in h) (extent_at h n) (extent_at h n).is_record refl (ends_in (extents_in h) n no_extent r.there) r.fails
 
 -- ---- an overlap
 
@@ -243,4 +237,4 @@ fault_told h file kinds.InHeader n placed f other = in_header_told h file n f.1
 fault_told h file kinds.Overlap n placed f other = overlap_told h file n (long h.schema.dims 0 h.schema.vars (places_of h.places) placed) placed f.1.1
 fault_told h file kinds.RecordWindow n placed f other = record_window_told h file n f.1.3
 fault_told h file kinds.FixedAfterRecords n placed f other = after_records_told h file n f.1.4
-fault_told h file kinds.Truncated n placed f other = file_told h file n f.1.5
+fault_told h file kinds.Truncated n placed f other = truncated_told h file n f.1.5

@@ -1,12 +1,14 @@
 -- The numbers by which a layout rule fails for a variable, each in bytes.
-use Rattle.std.specs.Prelude.{◌≡◌, ℕ, suc, ◌+◌, ◌*◌, ◌<◌, ◌==◌, ltb, length, get_or, List, [], ◌∷◌, Option, Some, None, Bool, true, false, not, ◌&&◌, ◌||◌, if◌then◌else◌}
+use Rattle.std.specs.Prelude.{◌≡◌, ℕ, zero, suc, Contains, ◌+◌, ◌*◌, ◌<◌, ◌==◌, ltb, length, get_or, List, [], ◌∷◌, Option, Some, None, Bool, true, false, not, ◌&&◌, ◌||◌, if◌then◌else◌}
 use Rattle.ncc_schema.specs.declared.schema.Count.{Count}
-use Rattle.ncc_schema.specs.declared.schema.Count.TheVariants.{Known}
+use Rattle.ncc_schema.specs.declared.schema.Count.TheVariants.{Known, Streaming}
 use Rattle.ncc_schema.specs.declared.schema.Header.{Header}
 use Rattle.ncc_layout.specs.declared.extent.Extent.{Extent}
 use Rattle.ncc_layout.specs.declared.fault.LayoutFaultKind.{LayoutFaultKind}
 use Rattle.ncc_layout.specs.declared.fault.LayoutFaultKind.TheVariants as kinds
-use Rattle.ncc_layout.specs.Extents.{end, least_begin, records_of}
+use Rattle.ncc_schema.specs.Schema.{places_of}
+use Rattle.ncc_layout.specs.Extents.{end, least_begin, record_count, records_of}
+use Rattle.ncc_layout.specs.Rules.{Apart, BeforeRecords, InWindow, PastHeader, Within}
 use Rattle.ncc_layout.specs.Faults.{Before}
 use Rattle.ncc_layout.specs.Sizes.{record_size_of}
 use Rattle.ncc_check.specs.Notes.{extents_in}
@@ -20,10 +22,15 @@ no_extent = record { begin = 0; slab = 0; variable = 0; is_record = false }
 abbrev pub extent_at : Header → (number : ℕ) → Extent
 extent_at h n = get_or (extents_in h) n no_extent
 
--- where a variable ends: a record variable in the last record, where the header tells how many there are
-abbrev pub last_end : (record_size : ℕ) → Count → Extent → ℕ
-last_end size (Known (suc n)) e = if e.is_record then end e + n * size else end e
-last_end size _ e = end e
+-- where what ends here in record 0 ends in the last record, where the header tells that there is one
+abbrev pub in_last_record : (record_size : ℕ) → Count → (past : ℕ) → Option ℕ
+in_last_record size (Known zero) past = None
+in_last_record size (Known (suc n)) past = Some (past + n * size)
+in_last_record size Streaming past = None
+
+-- where a variable ends: a record variable in the last record
+abbrev pub last_end : (record_size : ℕ) → Count → Extent → Option ℕ
+last_end size count e = if e.is_record then in_last_record size count (end e) else Some (end e)
 
 -- ---- the numbers
 
@@ -64,11 +71,12 @@ past_records e (Some b) = broken_if (not e.is_record && ltb b (end e)) (FixedAft
 abbrev pub after_records : Header → (number : ℕ) → Option Broken
 after_records h n = past_records (extent_at h n) (least_begin (records_of (extents_in h)))
 
-abbrev pub last_end_of : Header → (number : ℕ) → ℕ
-last_end_of h n = last_end (record_size_of h.schema) h.schema.count (extent_at h n)
+abbrev pub past_file : (file : ℕ) → (last : Option ℕ) → Option Broken
+past_file file None = None
+past_file file (Some past) = broken_if (ltb file past) (Truncated past file)
 
 abbrev pub truncated : Header → (file number : ℕ) → Option Broken
-truncated h file n = broken_if (ltb file (last_end_of h n)) (Truncated (last_end_of h n) file)
+truncated h file n = past_file file (last_end (record_size_of h.schema) h.schema.count (extent_at h n))
 
 -- the numbers by which a rule fails for a variable in a file of this length, where it does; a variable that is too large
 -- has none
@@ -90,7 +98,18 @@ kind_of (RecordWindow past window) = kinds.RecordWindow
 kind_of (FixedAfterRecords past records) = kinds.FixedAfterRecords
 kind_of (Truncated past file) = kinds.Truncated
 
--- the numbers are those of this variable, in a file of this length, and the rule is false of them
+-- the layout rule of this kind, for a variable in a file of this length; a variable that is too large has none here
+abbrev pub Keeps : Header → (file : ℕ) → LayoutFaultKind → (number : ℕ) → Type 0
+Keeps h file kinds.TooLarge n = Unit {0}
+Keeps h file kinds.InHeader n = PastHeader h.length (extent_at h n)
+Keeps h file kinds.Overlap n = (d : Extent) → Contains (extents_in h) d → Before d (extent_at h n)
+    → d.is_record ≡ (extent_at h n).is_record → Apart d (extent_at h n)
+Keeps h file kinds.RecordWindow n = InWindow (record_size_of h.schema) (extents_in h) (extent_at h n)
+Keeps h file kinds.FixedAfterRecords n = BeforeRecords (extents_in h) (extent_at h n)
+Keeps h file kinds.Truncated n =
+    Within file (record_size_of h.schema) (record_count h.schema (places_of h.places) file) (extent_at h n)
+
+-- the numbers are those of this variable, in a file of this length, and the first reaches past the second, or not to it
 abbrev pub Breaks : Header → (file number : ℕ) → Broken → Type 0
 Breaks h file n (InHeader begin header) =
     (begin ≡ (extent_at h n).begin) × (header ≡ h.length) × (begin < header)
@@ -106,5 +125,5 @@ Breaks h file n (FixedAfterRecords past records) =
     ((extent_at h n).is_record ≡ false) × (past ≡ end (extent_at h n))
     × (least_begin (records_of (extents_in h)) ≡ Some records) × (records < past)
 Breaks h file n (Truncated past length_of_file) =
-    (past ≡ last_end (record_size_of h.schema) h.schema.count (extent_at h n)) × (length_of_file ≡ file)
+    (last_end (record_size_of h.schema) h.schema.count (extent_at h n) ≡ Some past) × (length_of_file ≡ file)
     × (length_of_file < past)

@@ -1,9 +1,9 @@
 //! The numbers by which a layout rule fails.
 
-ghost use Rattle.std.specs.Prelude.{◌≡◌, ◌<◌, ◌==◌, length, position};
+ghost use Rattle.std.specs.Prelude.{◌≡◌, ◌+◌, ◌<◌, ◌==◌, length, position};
 ghost use Rattle.ncc_schema.specs.Schema.{Legal, places_of};
 ghost use Rattle.ncc_layout.specs.Sizes.{AreSizes};
-ghost use Rattle.ncc_parts.specs.Breaking.{after_records, broken_by, in_header, last_end, overlap, overlaps, record_window, truncated};
+ghost use Rattle.ncc_parts.specs.Breaking.{after_records, broken_by, in_header, in_last_record, last_end, overlap, overlaps, record_window, truncated};
 
 use crate::extents::{extent_of, records_begin};
 use ncc_header::{Count, Header, VarPlace};
@@ -111,16 +111,28 @@ fn after_records(header: &Header, sizes: &Sizes, number: usize) -> Option<Broken
     None
 }
 
-/// Where a variable ends: a record variable in the last record, where the header tells how many there are.
-fn last_end(extent: &Extent, record_size: u64, count: Count) -> u128
+/// Where a slab ends in the last record, where the header tells that there is one.
+fn in_last_record(begin: u64, slab: u64, record_size: u64, count: Count) -> Option<u128>
+    ensures { result ≡ in_last_record record_size count (begin + slab) }
+{
+    match count {
+        Count::Known(0) => None,
+        Count::Known(records) => {
+            let further = (records - 1) as u128 * record_size as u128;
+            Some(begin as u128 + slab as u128 + further)
+        }
+        Count::Streaming => None,
+    }
+}
+
+/// Where a variable ends: a record variable in the last record.
+fn last_end(extent: &Extent, record_size: u64, count: Count) -> Option<u128>
     ensures { result ≡ last_end record_size count extent.now }
 {
-    let end = extent.begin as u128 + extent.slab as u128;
-    match count {
-        Count::Known(records) if extent.is_record && records > 0 => {
-            end + (records - 1) as u128 * record_size as u128
-        }
-        _ => end,
+    if extent.is_record {
+        in_last_record(extent.begin, extent.slab, record_size, count)
+    } else {
+        Some(extent.end())
     }
 }
 
@@ -132,7 +144,7 @@ fn truncated(header: &Header, sizes: &Sizes, file: u64, number: usize) -> Option
     ensures { result ≡ truncated header.now file number }
 {
     let extent = extent_of(header, sizes, number);
-    let end = last_end(&extent, sizes.record_size, header.schema.count);
+    let end = last_end(&extent, sizes.record_size, header.schema.count)?;
     if (file as u128) < end {
         return Some(Broken::Truncated { end, file });
     }

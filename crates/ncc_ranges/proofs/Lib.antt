@@ -1,3 +1,4 @@
+mod Longest
 mod RunPlaces
 mod Stepping
 mod AxesBySteps

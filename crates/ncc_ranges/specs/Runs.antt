@@ -1,5 +1,5 @@
 -- Stretches of adjoining elements, and the places that they have.
-use Rattle.std.specs.Prelude.{◌≡◌, ℕ, ◌+◌, ◌*◌, ◌<◌, List, ◌++◌, map, drop}
+use Rattle.std.specs.Prelude.{◌≡◌, ℕ, ◌+◌, ◌*◌, ◌<◌, ◌≢◌, List, [], ◌∷◌, ◌++◌, map, drop}
 use Rattle.std.specs.List.{AllByRecursion, flat_map, range_with_len}
 use Rattle.ncc_values.specs.XType.{size_of}
 use Rattle.ncc_layout.specs.declared.placed_var.PlacedVar.{PlacedVar}
@@ -33,6 +33,11 @@ runs_all s = grid_places s.grid
 abbrev pub LeavesBehind : (size : ℕ) → (old new : List ℕ) → Stretch → Type 0
 LeavesBehind size old new s = old ≡ places_of_stretch size s ++ new
 
+-- the next place that is left, where any is, doesn't adjoin the stretch
+abbrev pub StopsBefore : (size : ℕ) → (left : List ℕ) → Stretch → Type 0
+StopsBefore size [] s = Unit {0}
+StopsBefore size (place ∷ _) s = place ≢ s.place + s.count * size
+
 -- the places of the selection after the first ones are left, of elements of the variable's size that end in the file
 pub record BeginsRuns (record_size file : ℕ) (x : PlacedVar) (s : Slab) (first : ℕ) (r : SlabRuns) : Type 0 where
   pub left : runs_left r ≡ drop first (places_of record_size x s)
@@ -44,3 +49,8 @@ pub record BeginsRuns (record_size file : ℕ) (x : PlacedVar) (s : Slab) (first
 -- each stretch has an element
 abbrev pub AreSome : List Stretch → Type 0
 AreSome ss = AllByRecursion (λ s. 0 < s.count) ss
+
+-- no place after a stretch adjoins it, be it of the next stretch or of those that are left
+abbrev pub AreLongest : (size : ℕ) → (left : List ℕ) → List Stretch → Type 0
+AreLongest size left [] = Unit {0}
+AreLongest size left (s ∷ ss) = StopsBefore size (places_in size ss ++ left) s × AreLongest size left ss

@@ -96,7 +96,7 @@ impl SlabRuns {
     ghost use Rattle.std.specs.Prelude.{[], drop, take, MatchOption};
     ghost use Rattle.ncc_slab.specs.Selected.{places_of};
     ghost use Rattle.ncc_ranges.specs.Steps.{RangesAs};
-    ghost use Rattle.ncc_ranges.specs.Runs.{runs_left, runs_size, runs_all, AreSome, LeavesBehind, places_in, BeginsRuns};
+    ghost use Rattle.ncc_ranges.specs.Runs.{runs_left, runs_size, runs_all, AreSome, LeavesBehind, StopsBefore, places_in, AreLongest, BeginsRuns};
 
     /// The stretches of a selection of a variable that has these numbers, after so many of its elements. It is refused
     /// as `steps_of` refuses it.
@@ -144,10 +144,11 @@ impl SlabRuns {
         self.grid.count()
     }
 
-    /// The next stretch; None exactly where none is left.
+    /// The next stretch, as long as its elements adjoin; None exactly where none is left.
     pub fn next_stretch(&mut self) -> Option<Stretch>
         ensures left { MatchOption result (runs_left self.old ≡ [])
             (LeavesBehind (runs_size self.old) (runs_left self.old) (runs_left self.new)) }
+        ensures longest { IfSome result (StopsBefore (runs_size self.old) (runs_left self.new)) }
         ensures size { runs_size self.new ≡ runs_size self.old }
         ensures all { runs_all self.new ≡ runs_all self.old }
         ensures none { MatchOption result (runs_left self.new ≡ runs_left self.old) (λ s. 0 < s.count) }
@@ -181,7 +182,9 @@ impl SlabRuns {
         ensures some { AreSome (take result out.new) }
         ensures left { runs_left self.old
             ≡ places_in (runs_size self.old) (take result out.new) ++ runs_left self.new }
+        ensures longest { AreLongest (runs_size self.old) (runs_left self.new) (take result out.new) }
         ensures whole { result < length out.new → runs_left self.new ≡ [] }
+        ensures size { runs_size self.new ≡ runs_size self.old }
         ensures all { runs_all self.new ≡ runs_all self.old }
     {
         for k in 0..out.len() {

@@ -1,6 +1,6 @@
-use Rattle.std.proofs.Common.{◌≡◌, ℕ, ◌+◌, ◌*◌, ◌<◌, ◌∙◌, subst, arith}
+use Rattle.std.proofs.Common.{◌≡◌, ℕ, ◌+◌, ◌*◌, ◌<◌, ◌∙◌, inl, inr, subst, arith}
 use Rattle.ncc_slab.specs.Grids.{grid_place}
-use Rattle.ncc_ranges.proofs.RunPlaces.{run_is}
+use Rattle.ncc_ranges.proofs.RunPlaces.{run_is, stops_before}
 use Rattle.ncc_ranges.proofs.runs.SlabRuns.next_stretch.Goals as goal
 
 pub overflow_add-self-then-ahead-gt1 : goal.overflow_add-self-then-ahead-gt1
@@ -26,3 +26,17 @@ returns-clause-left c =
     let s = c.args.self.now in
     run_is (grid_place s.grid) s.next c.stretch-count.result.0 s.grid.count s.ahead.place s.size
     (omega (arith, c.stretch-count.ensures.most, c.count.ensures)) c.stretch-count.ensures.adjoin
+
+pub returns-then-ahead-gt1-clause-longest : goal.returns-then-ahead-gt1-clause-longest
+returns-then-ahead-gt1-clause-longest c =
+    let s = c.args.self.now in
+    let some : s.next < s.grid.count = omega (arith, c.if-left-eq0.false, c.count.ensures, s.within) in
+    let even = (s.ahead_is some).even 1 c.if-ahead-gt1.true in
+    stops_before (grid_place s.grid) (s.next + 1) _ s.size _ (λ left same.
+    c.if-self.true (omega (arith, even, same)))
+
+pub returns-clause-longest : goal.returns-clause-longest
+returns-clause-longest c =
+    let s = c.args.self.now in
+    stops_before (grid_place s.grid) (s.next + c.stretch-count.result.0) _ s.size _ (λ left.
+    elim c.stretch-count.ensures.longest [ inl all ↦ absurd (omega (arith, all, left, c.count.ensures)) | inr apart ↦ apart ])
