@@ -124,6 +124,25 @@ static void encode(const front *f, const ncc_indexed *n, ncc_dim *dims, ncc_attr
     free(out), free(header);
 }
 
+/* One reading tells what two calls tell: of a header that passes also where there is no room for its rows. */
+static void read_at_once(const front *f, const ncc_verdict *judged) {
+    size_t dims = below(40), attrs = below(80), vars = below(40), ids = below(80);
+    ncc_dim *d = room(dims, sizeof *d);
+    ncc_attr *a = room(attrs, sizeof *a);
+    ncc_var *v = room(vars, sizeof *v);
+    uint64_t *i = room(ids, 8);
+    ncc_opened n;
+    ncc_read(f->bytes, f->length, f->file_length, f->limit, d, dims, a, attrs, v, vars, i, ids, &n);
+    need(n.state == judged->state || (!judged->state && n.state == NCC_NO_ROOM), "ncc_read");
+    need(n.kind == judged->kind && n.at == judged->at && n.version == judged->version, "ncc_read");
+    need(n.header_length == judged->header_length && n.records == judged->records, "ncc_read");
+    need(n.record_size == judged->record_size && n.global_attrs == judged->global_attrs, "ncc_read");
+    need(n.dims == judged->dims && n.vars == judged->vars, "ncc_read");
+    int is_short = dims < n.dims || attrs < n.attrs || vars < n.vars || ids < n.ids;
+    need((n.state == NCC_NO_ROOM) == is_short, "ncc_read");
+    free(d), free(a), free(v), free(i);
+}
+
 static void index_rows(const front *f) {
     ncc_indexed n;
     size_t less = below(8) == 0;
@@ -151,6 +170,7 @@ static void try_one(const uint8_t *file, size_t length) {
     ncc_verdict verdict;
     ncc_judge(f.bytes, f.length, f.file_length, f.limit, &verdict);
     need(verdict.state <= NCC_MISUSED, "ncc_judge");
+    read_at_once(&f, &verdict);
     notes(&f), record(&f), select_from(&f), index_rows(&f);
     need(ncc_fault_text((uint32_t)any_number(), text, below(33)) <= 32, "ncc_fault_text");
     free(f.bytes), free(text);

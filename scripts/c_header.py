@@ -6,8 +6,9 @@ import pathlib, re
 
 CRATE = pathlib.Path(__file__).resolve().parent.parent / "crates" / "ncc_c"
 STRUCTS = {"ncc_verdict": "Verdict", "ncc_note": "NoteRow", "ncc_noted": "Noted", "ncc_dim": "DimRow", "ncc_attr": "AttrRow",
-           "ncc_var": "VarRow", "ncc_indexed": "Indexed", "ncc_stepped": "Stepped", "ncc_run": "Stretch",
-           "ncc_stretched": "Stretched", "ncc_recorded": "Recorded", "ncc_place": "PlaceRow", "ncc_planned": "Planned"}
+           "ncc_var": "VarRow", "ncc_indexed": "Indexed", "ncc_opened": "Opened", "ncc_stepped": "Stepped",
+           "ncc_run": "Stretch", "ncc_stretched": "Stretched", "ncc_recorded": "Recorded", "ncc_place": "PlaceRow",
+           "ncc_planned": "Planned"}
 TYPES = {"u8": "uint8_t", "u32": "uint32_t", "u64": "uint64_t", "usize": "size_t"}
 TYPES.update({rust: c for c, rust in STRUCTS.items()})
 passed = failed = 0
@@ -43,14 +44,14 @@ def numbers_of_the_crate():
 
 
 def structs_of_the_crate():
-    """The fields of each struct, those of Outcome in its place."""
+    """The fields of each struct. In the place of a struct that is its first field stand that one's fields."""
     found = {}
     for path in [*CRATE.glob("src/*.rt"), *CRATE.parent.glob("ncc_ranges/src/*.rt")]:
         for name, body in re.findall(r"pub struct (\w+) \{(.*?)\n\}", without_comments(path.read_text()), re.S):
             found[name] = re.findall(r"pub (\w+): (\w+)", body)
     for fields in found.values():
-        if fields and fields[0] == ("outcome", "Outcome"):
-            fields[:1] = found["Outcome"]
+        while fields and fields[0][1] in found:
+            fields[:1] = found[fields[0][1]]
     return found
 
 

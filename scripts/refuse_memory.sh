@@ -22,6 +22,12 @@ is_less() {
   [ -z "$1" ] || { [ "${2#"$1"}" != "$2" ] && [ "$1" != "$2" ]; }
 }
 
+# Is this what is written where memory is refused? An object of a file (`other`) says so itself.
+other=
+is_refused() {
+  [ -n "$other" ] && [ "$1" = "$other" ] || { [ "$(cat err)" = 'error memory' ] && is_less "$1" "$2"; }
+}
+
 # The runs that are to write this text, of the command line that follows.
 refuse() {
   local text=$1 memory=0 count n out status
@@ -35,7 +41,7 @@ refuse() {
     status=$?
     out=$(cat out)
     if [ "$status" = 0 ] && [ "$out" = "$text" ] && diff -r run whole > differs; then continue; fi
-    if [ "$status" = 3 ] && [ "$(cat err)" = 'error memory' ] && is_less "$out" "$text" && diff -r run before > differs; then
+    if [ "$status" = 3 ] && is_refused "$out" "$text" && diff -r run before > differs; then
       memory=$((memory + 1))
       continue
     fi
@@ -59,6 +65,12 @@ unsynced() {
 refuse "$(cat "$top/examples/noted.listed")" list noted.nc
 refuse "$(cat "$top/examples/noted.checked")" check noted.nc
 refuse "$("$ncc" check --explain "$top/examples/noted.nc")" check --explain noted.nc
+refuse "$("$ncc" layout "$top/examples/ocean.nc")" layout ocean.nc
+other='{"file":"noted.nc","status":3,"verdict":"error","error":"memory"}'
+refuse "$(cd "$top/examples" && "$ncc" check --json noted.nc)" check --json noted.nc
+other='{"file":"ocean.nc","status":3,"verdict":"error","error":"memory"}'
+refuse "$(cd "$top/examples" && "$ncc" layout --json ocean.nc)" layout --json ocean.nc
+other=
 refuse "$(printf 'dim,vx\n1,1\n3,1')" csv tiny.nc vx --start 1 --stride 2
 refuse "records 3" extend ocean.nc 1
 refuse "ok CDF-2" convert --to 2 tiny.nc out.nc

@@ -7,9 +7,11 @@ next line, `#` begins a comment. The calls:
 
     bytes NAME WORD..              the file NAME
     use FILE                       the rows of another file
-    check [--max-header N] WORD..  a verdict; --strict, --explain, list and extend by 0 must agree with it
+    check [--max-header N] WORD..  a verdict; --strict, --explain, --json, list, layout and extend by 0 must agree with it
     explain WORD..                 a verdict in words
+    json COMMAND WORD..            the object of check or layout, with FILE for the path
     list [--decimal] WORD..        the lines of the header
+    layout WORD..                  where everything lies
     fronts WORD..                  check and list: each shorter front ends early in the field that it cuts
     csv NAME VARIABLE OPTION..     the sheet of a variable, whose name may stand in double quotes
     extend NAME N                  records that are added; NAME is the file then
@@ -32,7 +34,8 @@ Words spell bytes as the netCDF classic standard does, in the version that the f
 In an answer, `{TEXT*3}` is the text three times, `{0..9}` the numbers with spaces between them, and `{0..9|#,v}` a
 line for each number, for which `#` stands.
 """
-import collections, glob, os, re, struct, subprocess, sys, tempfile
+import collections, glob, json, os, re, struct, subprocess, sys, tempfile
+import objects
 
 KINDS = {"byte": "b", "char": "B", "short": "h", "int": "i", "float": "I", "double": "Q",
          "ubyte": "B", "ushort": "H", "uint": "I", "int64": "q", "uint64": "Q"}
@@ -158,7 +161,7 @@ class Bench:
     """The files of a file of rows, and the program that is asked about them."""
 
     def __init__(self, ncc, folder, rows):
-        self.ncc, self.rows, self.files, self.marks = ncc, rows, {}, {}
+        self.ncc, self.rows, self.files, self.marks, self.lines = ncc, rows, {}, {}, []
         self.path, self.new = f"{folder}/file", f"{folder}/new"
         self.spelling = Spelling(self.files)
 
@@ -183,6 +186,22 @@ class Bench:
             same = length == max(file.length, len(file.bytes)) and now.read(len(file.bytes)) == file.bytes
         return "" if same else "\nthe file was changed"
 
+    def agreed(self, command, *limit, text):
+        """What the object of the placed file stands for, of which a command says this text."""
+        status = int(text.startswith("fault "))
+        line = self.say(command, *limit, "--json", self.path, status=status)
+        self.lines.append(line)
+        found = json.loads(line)
+        if (found["file"], found["status"]) != (self.path, status):
+            raise ValueError(line)
+        return objects.told(found) if command == "check" else objects.laid(found)
+
+    def object(self, command, file):
+        """An object, to the letter; its status is the program's."""
+        self.place(file)
+        line = self.say(command, "--json", self.path, status=0)
+        return line.replace("\nstatus 1", "" if '"status":1,' in line else "\nstatus 1").replace(self.path, "FILE") + self.kept(file)
+
     def check(self, words):
         """What check says; and what the others say that don't agree with it."""
         limit = ["--max-header", str(number(words[1], {}))] if words[:1] == ["--max-header"] else []
@@ -196,6 +215,8 @@ class Bench:
         told = self.say("check", "--explain", *limit, self.path, status=text.startswith("fault "))
         if (short := "\n".join(line for line in told.split("\n") if not line.startswith("    "))) != text:
             lines += ["with --explain", short]
+        if (said := self.agreed("check", *limit, text=told)) != told:
+            lines += ["with --json", said]
         if not limit:
             passed = re.match(r"ok CDF-\d records (\d+) ", text)
             if (opened := self.say("extend", self.path, "0")) != (f"records {passed[1]}" if passed else text):
@@ -204,6 +225,11 @@ class Bench:
             listed = self.say("list", self.path)
             if not (listed.startswith("format CDF-") if has_header else listed == text):
                 lines += ["list", listed]
+            laid = self.say("layout", self.path)
+            if not (is_laid(laid, passed) if has_header and "TooLarge" not in text else laid == text):
+                lines += ["layout", laid]
+            if (said := self.agreed("layout", text=laid)) != laid:
+                lines += ["layout with --json", said]
         return "\n".join(lines) + self.kept(file)
 
     def fronts(self, words):
@@ -270,11 +296,19 @@ class Bench:
             case ["check", *words]:
                 return self.check(words)
             case ["explain", *words]:
-                return self.read(["check", "--explain", self.path], self.spelling.file(words))
+                text = self.read(["check", "--explain", self.path], self.spelling.file(words))
+                said = self.agreed("check", text=text)
+                return text if said == text else f"{text}\nwith --json\n{said}"
+            case ["json", command, *words]:
+                return self.object(command, self.spelling.file(words))
             case ["list", "--decimal", *words]:
                 return self.read(["list", "--decimal", self.path], self.spelling.file(words))
             case ["list", *words]:
                 return self.read(["list", self.path], self.spelling.file(words))
+            case ["layout", *words]:
+                text = self.read(["layout", self.path], self.spelling.file(words))
+                said = self.agreed("layout", text=text)
+                return text if said == text else f"{text}\nwith --json\n{said}"
             case ["fronts", *words]:
                 return self.fronts(words)
             case ["csv", name, variable, *options]:
@@ -305,6 +339,15 @@ class Bench:
             return True
         print(f"{row.path}:{row.line}: {call}\nis      {indented(said)}\nwanted  {indented(wanted)}")
         return False
+
+
+def is_laid(text, passed):
+    """Whether a layout says nothing else than a check that passed: the number of records, and that nothing is missing."""
+    if not text.startswith("file "):
+        return False
+    counted = re.search(r"^records (\d+) ", text, re.M)
+    has_room = text.split("\n")[-1].startswith("after ") and " overlap " not in text
+    return not passed or (has_room and (not counted or counted[1] == passed[1]))
 
 
 def first_other(one, other):
@@ -362,6 +405,7 @@ def each(row):
 
 def main(ncc, paths):
     passed = failed = 0
+    lines = []
     top = os.path.dirname(os.path.dirname(os.path.realpath(__file__)))
     if not os.access(ncc, os.X_OK):
         sys.exit(f"rows.py: there is no program {ncc}")
@@ -373,6 +417,10 @@ def main(ncc, paths):
                     right = bench.is_right(row, call, wanted)
                     passed += right and not call.startswith(("bytes ", "use "))
                     failed += not right
+            lines += bench.lines
+    if lines and (other := objects.differs_from_jq(lines)):
+        print(f"jq doesn't read this as Python does: {other}")
+        failed += 1
     print(f"{passed} passed, {failed} failed")
     return 1 if failed or not passed else 0
 

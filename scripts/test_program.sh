@@ -111,6 +111,7 @@ wrong "Checks, lists, reads, extends and converts netCDF classic files"
 wrong "error: unrecognized subcommand 'lst'" lst ocean.nc
 wrong "error: the following required arguments were not provided:" list
 wrong "error: the following required arguments were not provided:" check
+wrong "error: the following required arguments were not provided:" layout
 wrong "error: the argument '--files-from0 <LIST>' cannot be used with '[FILE]...'" list --files-from0 names ocean.nc
 wrong "error: unexpected argument '--all' found" list --all ocean.nc
 wrong "error: invalid value 'x' for '--max-header <N>': invalid digit found in string" check --max-header x ocean.nc
@@ -120,6 +121,9 @@ wrong "error: invalid value '-1' for '--max-header <N>': invalid digit found in 
 wrong "error: invalid value '-1' for '<N>': invalid digit found in string" extend ocean.nc -1
 wrong "error: the argument '--strict' cannot be used multiple times" check --strict --strict ocean.nc
 wrong "error: the argument '--explain' cannot be used with '--brief'" check --explain --brief ocean.nc
+wrong "error: the argument '--json' cannot be used with '--brief'" check --json --brief ocean.nc
+wrong "error: the argument '--json' cannot be used with '--explain'" check --json --explain ocean.nc
+wrong "error: unexpected argument '--json' found" list --json ocean.nc
 wrong "error usage" csv ocean.nc time --start -1
 wrong "error usage" csv ocean.nc time --start -1,0
 wrong "error usage" csv ocean.nc time --start --count=1
@@ -144,10 +148,11 @@ while IFS='|' read -r command about options; do
   count "help of $command: its statuses" "  2  the command line is wrong|  3  a device or memory failed" \
     "$(tail -n 2 out | paste -sd '|')"
 done <<'END'
-check|Says whether files are sound, and what is unusual in them|--strict --brief --explain --max-header --files-from0 --verbose --help
+check|Says whether files are sound, and what is unusual in them|--strict --brief --explain --json --max-header --files-from0 --verbose --help
 convert|Writes what a file holds into a new file, in another version|--to --verbose --help
 csv|Prints the values of a variable, or of a selection of them|--start --count --stride --decimal --text --verbose --help
 extend|Adds records of fill values to a file|--verbose --help
+layout|Shows where everything in files lies|--json --files-from0 --verbose --help
 list|Lists what the headers of files say|--decimal --files-from0 --verbose --help
 END
 expect_first "help by a word" 0 "Lists what the headers of files say" "" help list
@@ -206,6 +211,8 @@ for file in ocean.nc bad_magic_1.nc; do
   count "list $file, closed output" "3 error device" "$? $(cat err)"
   "$ncc" check "$file" > /dev/full 2> err
   count "check $file, full output" "3 error device" "$? $(cat err)"
+  "$ncc" layout "$file" > /dev/full 2> err
+  count "layout $file, full output" "3 error device" "$? $(cat err)"
   "$ncc" csv "$file" time > /dev/full 2> err
   count "csv $file, full output" "3 error device" "$? $(cat err)"
   "$ncc" extend "$file" 0 > /dev/full 2> err
@@ -590,6 +597,10 @@ if cc -O1 -shared -fPIC -o refuse.so "$top/scripts/refuse_calls.c" -ldl 2> /dev/
     FAILED="pread 1 13" LD_PRELOAD=$folder/refuse.so "$ncc" $words > out 2> err
     count "$words, a read fails" "3  error device ncc: two.nc: permission denied" "$? $(cat out) $(echo $(cat err))"
   done
+  # The first bytes are read once more.
+  FAILED="pread 2 13" LD_PRELOAD=$folder/refuse.so "$ncc" check --explain --verbose bad_magic_1.nc > out 2> err
+  count "check in words, the second read fails" "3  error device ncc: bad_magic_1.nc: permission denied" \
+    "$? $(cat out) $(echo $(cat err))"
   FAILED="pread 1 13" LD_PRELOAD=$folder/refuse.so "$ncc" check --verbose not_there.nc two.nc tiny.nc > out 2> err
   count "check of several files, a read fails" "3 tiny.nc: ok CDF-1 records 0 variables 1 not_there.nc: error device \
 ncc: not_there.nc: no such file or folder two.nc: error device ncc: two.nc: permission denied" "$? $(cat out) $(echo $(cat err))"
@@ -624,14 +635,14 @@ else
   echo "skipped syncs and links that fail: there is no C compiler"
 fi
 
-# A million records of two variables, of which a run is stopped for a while: only a terminal is told how far it is.
+# Ten million records of two variables, of which a run is stopped for a while: only a terminal is told how far it is.
 {
   head -c 4 two.nc
-  printf '\0\x0f\x42\x40'
+  printf '\0\x98\x96\x80'
   head -c 120 two.nc | tail -c 112
-  head -c 8000000 /dev/zero
+  head -c 80000000 /dev/zero
 } > many.nc
-count "check of a million records" "ok CDF-1 records 1000000 variables 2" "$("$ncc" check many.nc | head -n 1)"
+count "check of ten million records" "ok CDF-1 records 10000000 variables 2" "$("$ncc" check many.nc | head -n 1)"
 cat > stopped.py <<'END'
 import os, pty, re, select, signal, subprocess, sys, time
 
@@ -647,7 +658,7 @@ status = run.wait()
 shown = run.stderr.read() if sys.argv[1] == "pipe" else b""
 while sys.argv[1] == "terminal" and select.select([terminal], [], [], 0.5)[0]:
     shown += os.read(terminal, 65536)
-print(status, line, "bytes" if re.fullmatch(rb"(\r\d+ of 8000120 bytes)+\r\x1b\[K", shown) else shown or "nothing")
+print(status, line, "bytes" if re.fullmatch(rb"(\r\d+ of 80000120 bytes)+\r\x1b\[K", shown) else shown or "nothing")
 END
 count "a terminal is told how far convert is" "0 ok CDF-2 bytes" \
   "$(python3 stopped.py terminal "$ncc" convert --to 2 many.nc shown.nc)"
@@ -728,6 +739,13 @@ floats.nc: ok CDF-1 records 0 variables 1" "not_there.nc: error device
 .: error device" check tiny.nc not_there.nc bad_truncated_1.nc . floats.nc
 expect "check of several files, one of them bad" 1 "tiny.nc: ok CDF-1 records 0 variables 1
 bad_truncated_1.nc: fault Truncated at 60" "" check tiny.nc bad_truncated_1.nc
+expect "check of several files, in words" 3 "tiny.nc: ok CDF-1 records 0 variables 1
+bad_truncated_1.nc: fault Truncated at 60
+bad_truncated_1.nc:     in variable a
+bad_truncated_1.nc:     it ends at 68, and the file ends at 67
+bad_truncated_1.nc:     the file ends before a variable's last element does [Notes on Computing File Offsets]
+floats.nc: ok CDF-1 records 0 variables 1" "not_there.nc: error device" \
+  check --explain tiny.nc bad_truncated_1.nc not_there.nc floats.nc
 expect "check of one file twice" 0 "tiny.nc: ok CDF-1 records 0 variables 1
 tiny.nc: ok CDF-1 records 0 variables 1" "" check tiny.nc tiny.nc
 expect "check in brief" 3 "0${tab}ok CDF-1 records 0 variables 1${tab}tiny.nc
@@ -735,12 +753,40 @@ expect "check in brief" 3 "0${tab}ok CDF-1 records 0 variables 1${tab}tiny.nc
 3${tab}error device${tab}not_there.nc" "" check --brief tiny.nc bad_truncated_1.nc not_there.nc
 expect "check of one file in brief" 0 "0${tab}ok CDF-1 records 0 variables 1${tab}tiny.nc" "" check --brief tiny.nc
 expect "strict in brief" 1 "1${tab}ok CDF-1 records 2147483648 variables 2${tab}noted.nc" "" check --strict --brief noted.nc
+expect "check of several files, as objects" 3 \
+  '{"file":"tiny.nc","status":0,"verdict":"ok","version":1,"records":0,"variables":1,"notes":[]}
+{"file":"bad_truncated_1.nc","status":1,"verdict":"fault","fault":"Truncated","offset":60,"variable":"a","end":68,"file_length":67,"rule":"the file ends before a variable'"'"'s last element does [Notes on Computing File Offsets]"}
+{"file":"not_there.nc","status":3,"verdict":"error","error":"device"}' "" \
+  check --json tiny.nc bad_truncated_1.nc not_there.nc
+expect "check of one file as an object" 0 \
+  '{"file":"tiny.nc","status":0,"verdict":"ok","version":1,"records":0,"variables":1,"notes":[]}' "" check --json tiny.nc
+"$ncc" check --json --strict noted.nc > out 2> err
+count "strict as an object" '1 {"file":"noted.nc","status":1,"verdict":"ok",' "$? $(head -c 45 out)$(cat err)"
+strange=$(printf 'a "b" \\ c\td\001\303\251.nc')
+cp tiny.nc "$strange"
+expect "an object of a file with a strange name" 0 \
+  '{"file":"a \"b\" \\ c\u0009d\u0001é.nc","status":0,"verdict":"ok","version":1,"records":0,"variables":1,"notes":[]}' "" \
+  check --json "$strange"
+printf 'caf\351.nc\0' > names
+expect "an object of a name that isn't UTF-8" 3 \
+  '{"file":{"hex":"636166e92e6e63"},"status":3,"verdict":"error","error":"device"}' "" check --json --files-from0 names
 head -c 3 tiny.nc > cut
 expect "list of several files" 1 "tiny.nc: format CDF-1
 tiny.nc: records 0
 tiny.nc: dimension 0 dim 5
 tiny.nc: variable 0 vx short fixed begin 80 dims 1 dim
 cut: fault EndsEarly at 3" "" list tiny.nc cut
+expect "layout of several files" 3 "tiny.nc: file 92
+tiny.nc: header 0 80
+tiny.nc: variable 0 vx fixed begin 80 end 90 gap 0
+tiny.nc: after 2
+cut: fault EndsEarly at 3" "not_there.nc: error device" layout tiny.nc cut not_there.nc
+expect "layout of several files, as objects" 3 \
+  '{"file":"tiny.nc","status":0,"file_length":92,"header_length":80,"variables":[{"number":0,"name":"vx","kind":"fixed","begin":80,"end":90,"gap":0}],"after":2}
+{"file":"cut","status":1,"verdict":"fault","fault":"EndsEarly","offset":3}
+{"file":"not_there.nc","status":3,"verdict":"error","error":"device"}' "" layout --json tiny.nc cut not_there.nc
+expect "layout of a file that isn't there" 3 "" "error device
+ncc: not_there.nc: no such file or folder" layout --verbose not_there.nc
 printf 'tiny.nc\0bad_truncated_1.nc\0' > names
 expect "names from a list" 1 "tiny.nc: ok CDF-1 records 0 variables 1
 bad_truncated_1.nc: fault Truncated at 60" "" check --files-from0 names

@@ -3,7 +3,8 @@
 from __future__ import annotations
 
 import ctypes
-from typing import NoReturn
+from collections.abc import Iterable
+from typing import NamedTuple, NoReturn
 
 import numpy as np
 
@@ -11,8 +12,19 @@ from . import _library as c
 from .errors import BY_NAME, UNWRITABLE, Misused, OutOfMemory, Refused
 
 NUMBERS = np.dtype(np.uint64)
-LONG = 1 << 26
-"""A header of more bytes is counted first."""
+Rows = tuple[np.ndarray, np.ndarray, np.ndarray, np.ndarray]
+"""Of dimensions, of attributes, of variables, and the numbers of dimensions."""
+ROWS = (c.DIM, c.ATTR, c.VAR, NUMBERS)
+LEAST = {1: (8, 12, 28, 4), 2: (8, 12, 32, 4), 5: (16, 20, 48, 8)}
+"""By version, the fewest bytes that a header has for each row: those of an item with an empty name, and no values,
+attributes or dimensions; and of a number of a dimension."""
+SMALL = 1 << 16
+"""A front of so many bytes gets a room that is kept, of less than 1 MB; its rows are copied out of it."""
+LONG = 1 << 25
+"""A longer front gets a room of its own, for the rows of a header of at most so many bytes: address space of 11 times as
+much (of 6 times in CDF-5), of which only what the rows take is ever touched. A longer header may be read twice."""
+FEW = 1 << 16
+"""Rows of fewer bytes are copied out of such a room, too."""
 
 
 def address(array: np.ndarray) -> int:
@@ -42,41 +54,99 @@ def judge(front: np.ndarray, length: int, limit: int) -> c.Judged:
 
 
 def notes(front: np.ndarray, length: int, limit: int, room: int) -> tuple[tuple[str, int], ...]:
-    """The name and the offset of the first notes of a file that passes, as many as there is room for."""
+    """The name and the offset of each note of a file that passes. With room for fewer the notes are looked for twice."""
     rows, noted = np.zeros(room, c.NOTE), c.Noted()
     c.library.ncc_notes(address(front), len(front), length, limit, address(rows), room, ctypes.addressof(noted))
     if noted.state != c.PASSES:
         fail(noted)
+    if noted.notes > room:
+        return notes(front, length, limit, noted.notes)
     found = rows[: noted.notes]
     return tuple((c.NOTES[kind], at) for kind, at in zip(found["kind"].tolist(), found["at"].tolist()))
 
 
-def _indexed(front: np.ndarray, length: int, limit: int, arrays: list[np.ndarray]) -> c.Indexed:
-    rows = [word for array in arrays for word in (address(array), len(array))]
-    indexed = c.Indexed()
-    c.library.ncc_index(address(front), len(front), length, limit, *rows, ctypes.addressof(indexed))
-    return indexed
+class Read(NamedTuple):
+    """The numbers of a file, and the rows of its header; all 0 and none if the file doesn't pass."""
+
+    numbers: c.Opened
+    rows: Rows
+
+    @property
+    def state(self) -> int:
+        """That of a verdict."""
+        return self.numbers.state
 
 
-def index(
-    front: np.ndarray, length: int, limit: int, judged: c.Judged
-) -> tuple[np.ndarray, np.ndarray, np.ndarray, np.ndarray]:
-    """The rows of a file that passes: of its dimensions, attributes, variables, and the numbers of dimensions."""
-    # An attribute takes at least 12 bytes of the header, a number of a dimension 4. So room for as many needs no first
-    # call that counts; of a very long header that would be too much memory.
-    room = judged.header_length // 12, judged.header_length // 4
-    if judged.header_length > LONG:
-        counted = _indexed(front, length, limit, [np.empty(0, row) for row in (c.DIM, c.ATTR, c.VAR, NUMBERS)])
-        room = counted.attrs, counted.ids
-    dims, variables = np.empty(judged.dims, c.DIM), np.empty(judged.vars, c.VAR)
-    attrs, ids = np.empty(room[0], c.ATTR), np.empty(room[1], NUMBERS)
-    indexed = _indexed(front, length, limit, [dims, attrs, variables, ids])
+class Room:
+    """Room for so many rows of each kind, and the words by which the library is handed it."""
+
+    def __init__(self, counts: Iterable[int]) -> None:
+        dims, attrs, variables, ids = (np.empty(count, row) for count, row in zip(counts, ROWS))
+        self.arrays: Rows = dims, attrs, variables, ids
+        self.words = [word for array in self.arrays for word in (address(array), len(array))]
+
+    def copied(self, counts: Iterable[int]) -> Rows:
+        """Copies of the first rows."""
+        dims, attrs, variables, ids = (array[:count].copy() for array, count in zip(self.arrays, counts))
+        return dims, attrs, variables, ids
+
+    def shortened(self, counts: Iterable[int]) -> Rows:
+        """The first rows; many of them stay where they are. The room can't be used again."""
+        dims, attrs, variables, ids = (_shortened(array, count) for array, count in zip(self.arrays, counts))
+        return dims, attrs, variables, ids
+
+
+def _shortened(array: np.ndarray, count: int) -> np.ndarray:
+    if count * array.itemsize < FEW:
+        return array[:count].copy()
+    array.resize(count, refcheck=False)
+    return array
+
+
+_spare: list[Room] = []
+"""The rooms for small fronts that no call uses: at most as many as there were calls at once."""
+
+
+def _small_room() -> Room:
+    try:
+        return _spare.pop()
+    except IndexError:
+        return Room(SMALL // each for each in LEAST[1])
+
+
+def _long_room(front: np.ndarray, limit: int) -> Room:
+    most = min(len(front), limit, LONG)
+    try:
+        return Room(most // each for each in LEAST.get(front[3], LEAST[1]))
+    except MemoryError:
+        # (without room the library tells the counts)
+        return Room(0 for _ in ROWS)
+
+
+def _counted(front: np.ndarray, length: int, limit: int, counts: Iterable[int]) -> Rows:
+    """The rows of a file that passes, of which the counts are known."""
+    room, indexed = Room(counts), c.Indexed()
+    c.library.ncc_index(address(front), len(front), length, limit, *room.words, ctypes.addressof(indexed))
     if indexed.state != c.PASSES:
         fail(indexed)
-    # (shortened where they are, so that no row is copied)
-    attrs.resize(indexed.attrs, refcheck=False)
-    ids.resize(indexed.ids, refcheck=False)
-    return dims, attrs, variables, ids
+    return room.arrays
+
+
+def read(front: np.ndarray, length: int, limit: int) -> Read:
+    """What `judge` says but for the notes, and the rows, by one reading of the header (by two, if it has more than `LONG`
+    bytes)."""
+    is_small = len(front) <= SMALL
+    room = _small_room() if is_small else _long_room(front, limit)
+    numbers = c.Opened()
+    c.library.ncc_read(address(front), len(front), length, limit, *room.words, ctypes.addressof(numbers))
+    counts = numbers.dims, numbers.attrs, numbers.vars, numbers.ids
+    if numbers.state == c.NO_ROOM:
+        rows, numbers.state = _counted(front, length, limit, counts), c.PASSES
+    else:
+        rows = room.copied(counts) if is_small else room.shortened(counts)
+    if is_small:
+        _spare.append(room)
+    return Read(numbers, rows)
 
 
 class Selecting:

@@ -23,16 +23,15 @@ def text(raw: bytes) -> str:
 class Index:
     """The header of a file that passes, by rows of numbers into its bytes."""
 
-    def __init__(self, front: np.ndarray, judged: _library.Judged, length: int, limit: int) -> None:
-        self.judged = judged
-        self.header = front[: judged.header_length].tobytes()
-        own = np.frombuffer(self.header, np.uint8)
-        self.dims, self.attrs, self.vars, self.ids = _calls.index(own, length, limit, judged)
+    def __init__(self, front: np.ndarray, read: _calls.Read) -> None:
+        self.numbers = read.numbers
+        self.header = front[: read.numbers.header_length].tobytes()
+        self.dims, self.attrs, self.vars, self.ids = read.rows
 
     @cached_property
     def first_attr(self) -> np.ndarray:
         """The number of the first attribute of each variable, and of none after the last."""
-        return self.judged.global_attrs + np.cumsum(np.append(0, self.vars["attrs"].astype(np.int64)))
+        return self.numbers.global_attrs + np.cumsum(np.append(0, self.vars["attrs"].astype(np.int64)))
 
     @cached_property
     def first_id(self) -> np.ndarray:
@@ -52,7 +51,7 @@ class Index:
 
     def length_of(self, dim: int) -> int:
         """The length of a dimension; that of the record dimension is the number of records."""
-        return int(self.dims[dim]["length"]) or self.judged.records
+        return int(self.dims[dim]["length"]) or self.numbers.records
 
     def dims_of(self, var: int) -> list[int]:
         """The numbers of the dimensions of a variable."""
@@ -61,7 +60,7 @@ class Index:
     def attrs_of(self, var: int | None) -> np.ndarray:
         """The rows of the attributes of a variable, or of the file."""
         if var is None:
-            return self.attrs[: self.judged.global_attrs]
+            return self.attrs[: self.numbers.global_attrs]
         return self.attrs[self.first_attr[var] : self.first_attr[var + 1]]
 
     def raw_values(self, row: np.void) -> np.ndarray:

@@ -72,6 +72,12 @@ class Indexed(ctypes.Structure):
     _fields_ = _answer("dims attrs vars ids")
 
 
+class Opened(ctypes.Structure):
+    """ncc_opened."""
+
+    _fields_ = _answer("dims attrs vars ids version header_length records record_size global_attrs")
+
+
 class Stepped(ctypes.Structure):
     """ncc_stepped."""
 
@@ -105,6 +111,7 @@ _SIGNATURES = {
     "ncc_judge": [*_front, _pointer],
     "ncc_notes": [*_front, *_rows, _pointer],
     "ncc_index": [*_front, *_rows * 4, _pointer],
+    "ncc_read": [*_front, *_rows * 4, _pointer],
     "ncc_steps": [*_selection, *_rows, _pointer],
     "ncc_stretches": [*_selection, _u64, *_rows, _pointer],
     "ncc_record": [*_front, *_rows, _pointer],

@@ -7,7 +7,8 @@ import mmap
 import os
 import stat
 import threading
-from typing import Any, Union
+from collections.abc import Callable
+from typing import Any, TypeVar, Union
 
 import numpy as np
 
@@ -17,7 +18,9 @@ from .errors import Changed, told_of
 Where = Union[str, "os.PathLike[str]", bytes, bytearray, memoryview, np.ndarray, Any]
 """A path, a URL for fsspec, a buffer, or an object with `read` and `seek`."""
 
-FIRST_READ = 65536
+Answer = TypeVar("Answer", _library.Judged, _calls.Read)
+
+FIRST_READ = _calls.SMALL
 """How many bytes of the front are read first."""
 
 
@@ -213,9 +216,10 @@ def _as_array(read: bytes) -> np.ndarray:
 
 
 def _first(source: Source, limit: int) -> np.ndarray:
+    size = min(source.length, limit, FIRST_READ)
     if isinstance(source, Buffer):
-        return source.whole()
-    return _as_array(source.read(0, min(source.length, limit, FIRST_READ)))
+        return source.whole()[:size]
+    return _as_array(source.read(0, size))
 
 
 def _longer(source: Source, front: np.ndarray, limit: int) -> np.ndarray:
@@ -227,18 +231,28 @@ def _longer(source: Source, front: np.ndarray, limit: int) -> np.ndarray:
     return np.concatenate([front, _as_array(source.read(have, want - have))])
 
 
-def judged_front(source: Source, limit: int) -> tuple[np.ndarray, _library.Judged]:
-    """The verdict on a file, and as much of its front as that took.
-
-    Of a file on this machine 64 KiB are read, and if its header is longer the file is mapped. Of any other the first
-    read has 64 KiB, and each later one doubles what has been read. So at most 64 KiB or less than twice the header is
-    read, whichever is more, in at most 1 + log2(header / 64 KiB) reads, rounded up. No read goes past the limit or the
-    end of the file.
-    """
+def _told(source: Source, limit: int, call: Callable[[np.ndarray, int, int], Answer]) -> tuple[np.ndarray, Answer]:
+    """The front with which a call asks for no more, and what it says."""
     require_limit(limit)
     front = _first(source, limit)
-    judged = _calls.judge(front, source.length, limit)
-    while judged.state == _library.MORE:
+    answer = call(front, source.length, limit)
+    while answer.state == _library.MORE:
         front = _longer(source, front, limit)
-        judged = _calls.judge(front, source.length, limit)
-    return front, judged
+        answer = call(front, source.length, limit)
+    return front, answer
+
+
+def judged_front(source: Source, limit: int) -> tuple[np.ndarray, _library.Judged]:
+    """As much of the front of a file as a verdict takes, and the verdict.
+
+    Of a file on this machine, or in memory, the first 64 KiB are looked at, and if its header is longer the whole file,
+    which is mapped. Of any other the first read has 64 KiB, and each later one doubles what has been read. So at most
+    64 KiB or less than twice the header is read, whichever is more, in at most 1 + log2(header / 64 KiB) reads, rounded
+    up. No read goes past the limit or the end of the file.
+    """
+    return _told(source, limit, _calls.judge)
+
+
+def read_front(source: Source, limit: int) -> tuple[np.ndarray, _calls.Read]:
+    """As much of the front as `judged_front` gives, and the verdict with the rows of the header."""
+    return _told(source, limit, _calls.read)

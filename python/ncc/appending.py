@@ -15,7 +15,7 @@ from ._external import about, as_type, is_text, plain, same_count
 from ._index import Index
 from ._library import LIMIT, TYPES
 from ._schema import Schema
-from ._sources import LocalFile, judged_front, require_limit
+from ._sources import LocalFile, read_front, require_limit
 from .errors import told_of
 
 
@@ -57,7 +57,7 @@ class Records:
     """The bytes of the records that are added."""
 
     def __init__(self, index: Index, values: Mapping[str, Any]) -> None:
-        self._size = index.judged.record_size
+        self._size = index.numbers.record_size
         self._vars = np.flatnonzero(index.vars["is_record"]).tolist()
         self._begins, self._slabs = index.vars["begin"].tolist(), index.vars["slab"].tolist()
         self._first = min((self._begins[var] for var in self._vars), default=0)
@@ -120,13 +120,13 @@ def _add(file: GrowingFile, header: np.ndarray, image: bytes, limit: int) -> int
 
 
 def _append(file: GrowingFile, values: Mapping[str, Any], limit: int) -> int:
-    front, judged = judged_front(file, limit)
-    if judged.state != _library.PASSES:
-        _calls.fail(judged)
-    index = Index(front, judged, file.length, limit)
+    front, read = read_front(file, limit)
+    if read.state != _library.PASSES:
+        _calls.fail(read.numbers)
+    index = Index(front, read)
     header = np.frombuffer(bytearray(index.header), np.uint8)
     _calls.record(header, file.length, limit)
-    records, count = Records(index, values), judged.records
+    records, count = Records(index, values), index.numbers.records
     if records.count == 0:
         raise ValueError("the arrays have no record: give one or more")
     file.sync()

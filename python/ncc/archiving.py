@@ -19,11 +19,13 @@ from .errors import OfFile
 Path = Union[str, "os.PathLike[str]"]
 MEMORY = "memory was refused"
 SHARES = 4
-"""How many batches there are at least for each worker, if the caller doesn't say how many files one has."""
-MOST = 1000
+"""How many batches there are at least for each process, if the caller doesn't say how many files one has."""
+SHARES_OF_DASK = 2
+"""The same for a worker of Dask. Some time goes by from one batch to the next, so there are few."""
+MOST = 2500
 """How many files such a batch has at most."""
 AT_ONCE = 4
-"""How many batches are taken from a client at a time."""
+"""How many batches are taken from a client at a time: of fewer workers, as many as there are workers."""
 
 
 class Row(NamedTuple):
@@ -83,16 +85,17 @@ def _is_url(path: str) -> bool:
 
 def _elsewhere(name: str) -> str:
     """The same file for a worker in another folder."""
+    if name.startswith("/") or _is_url(name) or not name:
+        return name
     # (not os.path.abspath: after a link, `..` isn't the folder that stands before it)
-    is_same = os.path.isabs(name) or _is_url(name) or not name
-    return name if is_same else os.path.join(os.getcwd(), name)
+    return os.path.join(os.getcwd(), name)
 
 
-def _batches(paths: Iterable[Path], batch: int | None, workers: int) -> list[list[str]]:
+def _batches(paths: Iterable[Path], batch: int | None, least: int) -> list[list[str]]:
     if batch is not None and batch < 1:
         raise ValueError("batch has to be at least 1")
     names = [os.fspath(path) for path in paths]
-    length = batch or max(1, min(MOST, ceil(len(names) / (SHARES * workers))))
+    length = batch or max(1, min(MOST, ceil(len(names) / least)))
     return [names[low : low + length] for low in range(0, len(names), length)]
 
 
@@ -101,14 +104,14 @@ def _workers(client: Any) -> int:
     return sum(client.nthreads().values()) or 1
 
 
-def _by_client(batches: list[list[str]], client: Any, max_header: int) -> Iterator[Row]:
+def _by_client(batches: list[list[str]], client: Any, at_once: int, max_header: int) -> Iterator[Row]:
     packed = [pickle.dumps([_elsewhere(name) for name in names]) for names in batches]
     futures = client.map(_check_packed, packed, [max_header] * len(batches), pure=False)
-    for low in range(0, len(batches), AT_ONCE):
-        for names, answers in zip(batches[low : low + AT_ONCE], client.gather(futures[low : low + AT_ONCE])):
+    for low in range(0, len(batches), at_once):
+        for names, answers in zip(batches[low : low + at_once], client.gather(futures[low : low + at_once])):
             yield from (Row(name, *answer) for name, answer in zip(names, pickle.loads(answers)))
         # (the workers may forget these)
-        futures[low : low + AT_ONCE] = [None] * len(futures[low : low + AT_ONCE])
+        futures[low : low + at_once] = [None] * len(futures[low : low + at_once])
 
 
 def _by_processes(batches: list[list[str]], jobs: int, max_header: int) -> Iterator[Row]:
@@ -125,15 +128,17 @@ def archive(
     `client` is a `dask.distributed.Client`: its workers check `batch` files at a time, so each of them has to have this
     package, and to see the files under the same absolute paths. Without a client the files are checked by this process
     as the rows are asked for, or, if `jobs` is above 1, by so many processes, which are started anew (not forked). If
-    `batch` is None, there are four batches for each worker or process, or more, so that none has over 1000 files. A
-    file that can't be read is a row with status 3. Raises what the client raises if its workers fail, and ValueError if
-    `batch` or `max_header` can't be.
+    `batch` is None, there are two batches for each worker, or four for each process, or more, so that none has over
+    2500 files. A file that can't be read is a row with status 3. Raises what the client raises if its workers fail, and
+    ValueError if `batch` or `max_header` can't be.
     """
     require_limit(max_header)
     if client is not None:
-        return _by_client(_batches(paths, batch, _workers(client)), client, max_header)
+        workers = _workers(client)
+        batches = _batches(paths, batch, SHARES_OF_DASK * workers)
+        return _by_client(batches, client, min(AT_ONCE, workers), max_header)
     if jobs > 1:
-        return _by_processes(_batches(paths, batch, jobs), jobs, max_header)
+        return _by_processes(_batches(paths, batch, SHARES * jobs), jobs, max_header)
     return (check_one(path, max_header) for path in paths)
 
 

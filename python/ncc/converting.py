@@ -10,7 +10,7 @@ from . import _calls, _library
 from ._index import Index
 from ._library import LIMIT
 from ._schema import Plan, Schema
-from ._sources import Source, Where, judged_front, source_of
+from ._sources import Source, Where, read_front, source_of
 from ._target import Out, To, opened
 from ._writing import PIECE, Writing
 from .errors import told_of
@@ -20,7 +20,7 @@ class Copied:
     """The values of a file that passes, as bytes (`_writing.Values`). Padding isn't copied."""
 
     def __init__(self, source: Source, index: Index, plan: Plan) -> None:
-        self._source, self._size = source, index.judged.record_size
+        self._source, self._size = source, index.numbers.record_size
         self._begins, self._slabs = index.vars["begin"].tolist(), index.vars["slab"].tolist()
         self._records = np.flatnonzero(index.vars["is_record"]).tolist()
         self._first = min((self._begins[var] for var in self._records), default=source.length)
@@ -57,12 +57,12 @@ class Copied:
 
 def _convert(source: Source, path: To, version: int | None, replace: bool, limit: int) -> int:
     with told_of(source.given):
-        front, judged = judged_front(source, limit)
-        if judged.state != _library.PASSES:
-            _calls.fail(judged)
-        index = Index(front, judged, source.length, limit)
+        front, read = read_front(source, limit)
+        if read.state != _library.PASSES:
+            _calls.fail(read.numbers)
+        index = Index(front, read)
         schema = Schema.of(index)
-        plan = schema.plan(version, judged.records)
+        plan = schema.plan(version, index.numbers.records)
     with opened(path, replace) as file:
         Writing(schema, plan, Copied(source, index, plan)).write(Out(file, path))
     return plan.version

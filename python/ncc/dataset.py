@@ -13,9 +13,12 @@ import numpy as np
 from . import _calls, _library
 from ._index import Attrs, Dims, Index, Named
 from ._library import LIMIT
-from ._sources import Buffer, LocalFile, Remote, Source, Where, judged_front, source_of
+from ._sources import Buffer, LocalFile, Remote, Source, Where, read_front, source_of
 from .errors import Changed, Closed, told_of
 from .variable import Variable
+
+FEW = 64
+"""For so many notes there is room at first."""
 
 
 class File:
@@ -23,12 +26,12 @@ class File:
 
     def __init__(self, where: Where, limit: int) -> None:
         source = source_of(where)
-        front, judged = judged_front(source, limit)
-        if judged.state != _library.PASSES:
+        front, read = read_front(source, limit)
+        if read.state != _library.PASSES:
             source.close()
             with told_of(source.given):
-                _calls.fail(judged)
-        self.index = Index(front, judged, source.length, limit)
+                _calls.fail(read.numbers)
+        self.index = Index(front, read)
         self.limit = limit
         self._source: Source | None = source
         self._where = source.name if isinstance(source, LocalFile) else source if isinstance(source, Remote) else where
@@ -83,9 +86,9 @@ class Dataset:
     def __init__(self, file: File) -> None:
         self._file = file
         index = file.index
-        self.version: int = index.judged.version
+        self.version: int = index.numbers.version
         """1, 2 or 5."""
-        self.records: int = index.judged.records
+        self.records: int = index.numbers.records
         """The number of records. Of a file that is still being written: those that are found in it."""
         self.dims = Dims(index, index.dims)
         self.attrs = Attrs(index, index.attrs_of(None))
@@ -101,11 +104,8 @@ class Dataset:
     @cached_property
     def notes(self) -> tuple[tuple[str, int], ...]:
         """The name and the offset of each note, in order of offset."""
-        index = self._file.index
-        if not index.judged.notes:
-            return ()
-        header = np.frombuffer(index.header, np.uint8)
-        return _calls.notes(header, self._file.source.length, self._file.limit, index.judged.notes)
+        header = np.frombuffer(self._file.index.header, np.uint8)
+        return _calls.notes(header, self._file.source.length, self._file.limit, FEW)
 
     def __getitem__(self, name: str) -> Variable:
         return self.variables[name]
@@ -132,8 +132,8 @@ class Dataset:
         return Dataset, (self._file,)
 
     def __repr__(self) -> str:
-        judged = self._file.index.judged
-        return f"<ncc.Dataset CDF-{self.version}, {judged.dims} dimensions, {judged.vars} variables>"
+        numbers = self._file.index.numbers
+        return f"<ncc.Dataset CDF-{self.version}, {numbers.dims} dimensions, {numbers.vars} variables>"
 
 
 def open(where: Where, max_header: int = LIMIT) -> Dataset:

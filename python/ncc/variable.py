@@ -66,9 +66,9 @@ class Variable:
         Raises SelectionError (an IndexError) if it isn't basic indexing or isn't inside the shape, Closed if the
         dataset was closed, and OSError if a range can't be read.
         """
-        selection, judged = parse(key, self.shape), self._file.index.judged
+        selection, numbers = parse(key, self.shape), self._file.index.numbers
         source = self._file.source
-        selecting = Selecting(self._row, self.shape, judged.record_size, source.length, selection.lists)
+        selecting = Selecting(self._row, self.shape, numbers.record_size, source.length, selection.lists)
         whole = source.whole()
         if whole is None:
             values = _reading.ranges(source, selecting, selection.count, self.dtype)

@@ -100,14 +100,16 @@ class LocalClient:
 
 
 def test_client_is_asked_for_few_batches_at_a_time():
-    client, paths = LocalClient({}), [str(path) for path in ALL] * 2 + ["", "not\0a path", "no\udcffname.nc", EXAMPLES]
-    rows = ncc.archive(paths, client, batch=7)
-    assert client.gathered == []
-    first = next(rows)
-    assert client.gathered == [archiving.AT_ONCE]
-    assert [first, *rows] == list(ncc.archive(paths))
-    assert sum(client.gathered) == len(client.arguments) == -(-len(paths) // 7)
-    assert max(client.gathered) == archiving.AT_ONCE
+    paths = [str(path) for path in ALL] * 2 + ["", "not\0a path", "no\udcffname.nc", EXAMPLES]
+    for workers, at_once in (({}, 1), ({"one": 1, "two": 1}, 2), ({"one": 9}, archiving.AT_ONCE)):
+        client = LocalClient(workers)
+        rows = ncc.archive(paths, client, batch=7)
+        assert client.gathered == []
+        first = next(rows)
+        assert client.gathered == [at_once]
+        assert [first, *rows] == list(ncc.archive(paths))
+        assert sum(client.gathered) == len(client.arguments) == -(-len(paths) // 7)
+        assert max(client.gathered) == at_once
 
 
 def test_what_a_client_is_handed_is_packed():
@@ -119,7 +121,12 @@ def test_what_a_client_is_handed_is_packed():
 
 @pytest.mark.parametrize(
     "files, workers, batches, longest",
-    [(10_000, {"one": 1, "two": 1}, 10, 1000), (100, {"one": 2, "two": 3}, 20, 5), (3, {"one": 4}, 3, 1)],
+    [
+        (10_000, {"one": 1, "two": 1}, 4, 2500),
+        (10_001, {"one": 1, "two": 1}, 5, 2500),
+        (100, {"one": 2, "two": 3}, 10, 10),
+        (3, {"one": 4}, 3, 1),
+    ],
 )
 def test_batches_of_a_client(files: int, workers: dict[str, int], batches: int, longest: int):
     client = LocalClient(workers)

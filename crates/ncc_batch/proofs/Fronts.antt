@@ -18,3 +18,9 @@ pub fails_so_far : (Q : Failed → Type 0) (old new : Option (List ℕ)) (text r
 fails_so_far Q old new text rest r exit s =
     let p = err_from_is_err_and r exit in
     subst (λ (q : Result (Unit {0}) Failed). WritesAll old new q text) (sym p.1) (s.front, rest, s.joined, s.puts)
+
+-- the same of what a call that failed has put out
+pub fails_with : (Q : Failed → Type 0) (old new : Option (List ℕ)) (text : List ℕ) (r : Result (Unit {0}) Failed) (e : Failed) → IsErrAnd r Q → WritesAll old new (Err e) text → WritesAll old new r text
+fails_with Q old new text r e exit w =
+    let p = err_from_is_err_and r exit in
+    subst (λ (q : Result (Unit {0}) Failed). WritesAll old new q text) (sym p.1) w

@@ -1,9 +1,12 @@
 -- What is shown of a file, where several are asked for in one call.
-use Rattle.std.specs.Prelude.{ℕ, suc, zero, Bool, true, ◌==◌, List, [], ◌∷◌, ◌++◌, if◌then◌else◌, codes, nat_le}
+use Rattle.std.specs.Prelude.{ℕ, suc, zero, Bool, true, false, ◌||◌, ◌==◌, List, [], ◌∷◌, ◌++◌, if◌then◌else◌, codes, nat_le, nat_lt}
+use Rattle.std.specs.List.{flat_map}
+use Rattle.std.specs.Str.{is_utf8}
+use Rattle.ncc_lines.specs.Words.{byte_digits}
 use Rattle.ncc_engines.specs.declared.answer.Answer.{Answer}
 use Rattle.ncc_engines.specs.declared.answer.Answer.TheVariants.{Passed, Refused, Device, Memory}
 use Rattle.ncc_batch.specs.declared.form.Form.{Form}
-use Rattle.ncc_batch.specs.declared.form.Form.TheVariants.{Lines, Brief}
+use Rattle.ncc_batch.specs.declared.form.Form.TheVariants.{Lines, Brief, Object}
 
 -- ---- answers
 
@@ -73,7 +76,46 @@ words_of Memory text = codes "error memory"
 abbrev pub brief_line : Answer → (text path : List ℕ) → List ℕ
 brief_line a text path = (status_text a ++ (codes "\t" ++ words_of a text)) ++ (codes "\t" ++ (path ++ codes "\n"))
 
--- the lines of a text, each with the path before it; or one line in brief
+-- ---- a file as an object
+
+-- a byte of a text in quotation marks; and one of bytes that are no text
+abbrev pub piece : (is_text : Bool) → ℕ → List ℕ
+piece true b = if (b == 34) || (b == 92) then 92 ∷ b ∷ [] else if nat_lt b 32 then codes "\\u00" ++ byte_digits b else b ∷ []
+piece false b = byte_digits b
+
+abbrev pub pieces : (is_text : Bool) → (path : List ℕ) → List ℕ
+pieces is_text path = flat_map (piece is_text) path
+
+-- what stands around them
+abbrev pub opening : (is_text : Bool) → List ℕ
+opening true = codes "\""
+opening false = codes "{\"hex\":\""
+
+abbrev pub closing : (is_text : Bool) → List ℕ
+closing true = codes "\""
+closing false = codes "\"}"
+
+-- a path as a text; where it isn't UTF-8, two hexadecimal digits for each byte, in an object of their own
+abbrev pub path_value : (path : List ℕ) → List ℕ
+path_value path = opening (is_utf8 path) ++ (pieces (is_utf8 path) path ++ closing (is_utf8 path))
+
+-- the members of an answer: those of its text, or what failed
+abbrev pub members_of : Answer → (text : List ℕ) → List ℕ
+members_of Passed text = text
+members_of Refused text = text
+members_of Device text = codes "\"verdict\":\"error\",\"error\":\"device\""
+members_of Memory text = codes "\"verdict\":\"error\",\"error\":\"memory\""
+
+-- the path, the status and the members
+abbrev pub object_line : Answer → (text path : List ℕ) → List ℕ
+object_line a text path =
+    (codes "{\"file\":" ++ path_value path)
+    ++ ((codes ",\"status\":" ++ status_text a) ++ (codes "," ++ (members_of a text ++ codes "}\n")))
+
+-- ---- by the form
+
+-- the lines of a text, each with the path before it; or one line in brief; or one as an object
 abbrev pub shown : Form → (path : List ℕ) → Answer → (text : List ℕ) → List ℕ
 shown Lines path a text = labelled (path ++ codes ": ") text
 shown Brief path a text = brief_line a text path
+shown Object path a text = object_line a text path

@@ -7,4 +7,6 @@ pub enum Form {
     Lines,
     /// One line: the status, the first line of the answer, and the path, with tabs between them.
     Brief,
+    /// One line: a JSON object with the path, the status and the members of the answer.
+    Object,
 }

@@ -4,6 +4,7 @@
 mod batch;
 mod form;
 mod names;
+mod objects;
 mod sending;
 mod shelf;
 mod statuses;

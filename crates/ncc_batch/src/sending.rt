@@ -6,6 +6,7 @@ ghost use Rattle.ncc_schema.specs.Device.{Puts, WritesAll};
 ghost use Rattle.ncc_batch.specs.Shown.{labelled, first_line, line_length as the_length, status_text, words_of, brief_line, shown};
 
 use crate::form::Form;
+use crate::objects::send_object;
 use ncc_engines::Answer;
 use ncc_header::{Failed, Sink, write_all};
 
@@ -88,7 +89,7 @@ fn words(answer: Answer, text: &[u8]) -> &[u8]
 }
 
 /// The digit of a status.
-fn digit(answer: Answer) -> &'static [u8]
+pub(crate) fn digit(answer: Answer) -> &'static [u8]
     ensures { result.now ≡ status_text answer }
 {
     match answer {
@@ -143,5 +144,6 @@ pub(crate) fn send_shown<W: Sink>(
     match form {
         Form::Lines => send_lines(path, text, sink),
         Form::Brief => send_brief(path, answer, text, sink),
+        Form::Object => send_object(path, answer, text, sink),
     }
 }

@@ -1,19 +1,22 @@
 //! The answer of a file, and its text in memory.
 
-ghost use Rattle.std.specs.Prelude.{◌≡◌, ◌⊎◌, ◌≤◌, ◌∷◌, ℕ, Bool, List, length, drop, IsTrue};
+ghost use Rattle.std.specs.Prelude.{◌≡◌, ◌⊎◌, ◌+◌, ◌≤◌, ◌∷◌, ℕ, Bool, List, length, drop, IsTrue};
 ghost use Rattle.ncc_values.specs.Failures.{Rose};
 ghost use Rattle.ncc_schema.specs.Device.{Puts};
 ghost use Rattle.ncc_store.specs.Reading.{ReadsOnly};
-ghost use Rattle.ncc_check.specs.FromStore.{calls_for, ReadsFew};
+ghost use Rattle.ncc_check.specs.FromStore.{ReadsFew, calls_for};
 ghost use Rattle.ncc_check.specs.Passes.{HasOwnElements};
 ghost use Rattle.ncc_engines.specs.Answers.{Fails, Writes};
-ghost use Rattle.ncc_batch.specs.Answered.{TextFails, TextsOf, IsFaultIn, IsTextIn, IsTextAt, limit_of};
+ghost use Rattle.ncc_json.specs.declared.wording.Wording.{Wording};
+ghost use Rattle.ncc_explain.specs.Likeness.{HasOtherLetters};
+ghost use Rattle.ncc_batch.specs.Answered.{TextFails, TextsOf, IsFaultIn, IsWhole, IsTextIn, IsTextAt, calls_of, limit_of, other_calls};
 
 use crate::shelf::Shelf;
 use crate::work::Work;
 use ncc_engines::{Answer, check_engine, list_store_engine};
 use ncc_explain::explain_engine;
 use ncc_header::{Sink, WriteSink};
+use ncc_places::layout_engine;
 use ncc_store::Store;
 use std::alloc::Global;
 
@@ -28,18 +31,28 @@ pub fn write_text<S: Store, W: Sink>(
         × Writes (TextsOf work (S.bytes store.old)) result out }
     ensures memory { IsTrue S.tells_bytes → (text : List ℕ) → IsFaultIn work (S.bytes store.old) text
         → result ≡ Answer.Memory → sink.new ≡ sink.old }
+    ensures whole { IsWhole work → result ≡ Answer.Memory → sink.new ≡ sink.old }
     ensures own { IsTrue S.tells_bytes → result ≡ Answer.Passed → (limit : ℕ) (strict : Bool)
-        → (work ≡ Work.Check limit strict) ⊎ (work ≡ Work.Explain limit strict)
+        → (work ≡ Work.Check limit strict) ⊎ ((wording : Wording) × (work ≡ Work.Explain limit strict wording))
         → HasOwnElements (S.bytes store.old) limit }
     ensures store { ReadsOnly S.Store store.old store.new (Fails W.Sink sink.old sink.new result) S.tells_bytes
-        (calls_for (length (S.bytes store.old)) (limit_of work)) (limit_of work) }
-    ensures settled { IsTrue S.tells_bytes
+        (calls_of work (length (S.bytes store.old))) (limit_of work) }
+    ensures calls { IsTrue S.tells_bytes → ¬ HasOtherLetters (S.bytes store.old) (limit_of work)
+        → S.calls store.new ≤ S.calls store.old + calls_for (length (S.bytes store.old)) (limit_of work) }
+    ensures once { IsTrue S.tells_bytes → ¬ HasOtherLetters (S.bytes store.old) (limit_of work)
         → ReadsFew S.Store store.old store.new (S.bytes store.old) (limit_of work) 1 }
+    ensures settled { IsTrue S.tells_bytes
+        → ReadsFew S.Store store.old store.new (S.bytes store.old) (limit_of work) (other_calls work) }
 {
     match work {
         Work::Check { limit, strict } => check_engine(alloc, store, limit, strict, sink),
-        Work::Explain { limit, strict } => explain_engine(alloc, store, limit, strict, sink),
+        Work::Explain {
+            limit,
+            strict,
+            wording,
+        } => explain_engine(alloc, store, limit, strict, wording, sink),
         Work::List { limit, style } => list_store_engine(alloc, store, limit, style, sink),
+        Work::Layout { limit, wording } => layout_engine(alloc, store, limit, wording, sink),
     }
 }
 
@@ -47,9 +60,13 @@ pub fn write_text<S: Store, W: Sink>(
 fn text_in<S: Store>(alloc: Global, store: &mut S, work: Work) -> (Answer, Vec<u8>)
     ensures told { IsTrue S.tells_bytes → IsTextIn work (S.bytes store.old) result.0 result.1.items }
     ensures store { ReadsOnly S.Store store.old store.new (TextFails result.0) S.tells_bytes
-        (calls_for (length (S.bytes store.old)) (limit_of work)) (limit_of work) }
-    ensures settled { IsTrue S.tells_bytes
+        (calls_of work (length (S.bytes store.old))) (limit_of work) }
+    ensures calls { IsTrue S.tells_bytes → ¬ HasOtherLetters (S.bytes store.old) (limit_of work)
+        → S.calls store.new ≤ S.calls store.old + calls_for (length (S.bytes store.old)) (limit_of work) }
+    ensures once { IsTrue S.tells_bytes → ¬ HasOtherLetters (S.bytes store.old) (limit_of work)
         → ReadsFew S.Store store.old store.new (S.bytes store.old) (limit_of work) 1 }
+    ensures settled { IsTrue S.tells_bytes
+        → ReadsFew S.Store store.old store.new (S.bytes store.old) (limit_of work) (other_calls work) }
 {
     let mut sink = WriteSink::new(Vec::new(alloc));
     let answer = write_text(alloc, store, work, &mut sink);

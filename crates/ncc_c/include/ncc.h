@@ -146,6 +146,28 @@ void ncc_index(const uint8_t *front, size_t front_length, uint64_t file_length, 
 typedef struct {
     uint32_t state, kind;
     uint64_t at;
+    uint64_t dims, attrs, vars, ids; /* how many rows there are */
+    uint64_t version;                /* 1, 2 or 5 */
+    uint64_t header_length;
+    uint64_t records;
+    uint64_t record_size;            /* bytes from one record to the next */
+    uint64_t global_attrs;           /* how many of the rows of attributes are those of the file */
+} ncc_opened;
+
+/* The rows of ncc_index, and the numbers of ncc_judge but that of the notes, which takes longer to find, in one call. A
+   file passes where the state is NCC_PASSES, and also where it is NCC_NO_ROOM: exactly where an array is shorter than the
+   count of its rows. Then all numbers are filled, and the arrays may hold anything. Else the state is that of ncc_judge,
+   and all numbers are 0. NCC_MISUSED exactly where the front is longer than the file.
+   A caller that doesn't know the counts can make room by the length of the front. For each row a header has at least,
+   in CDF-1, CDF-2 and CDF-5: 8, 8, 16 bytes of a dimension; 12, 12, 20 of an attribute; 28, 32, 48 of a variable; 4, 4, 8
+   of a number of a dimension. That these are enough isn't in the contract: look at the state. */
+void ncc_read(const uint8_t *front, size_t front_length, uint64_t file_length, uint64_t limit, ncc_dim *dims,
+              size_t dims_room, ncc_attr *attrs, size_t attrs_room, ncc_var *vars, size_t vars_room, uint64_t *ids,
+              size_t ids_room, ncc_opened *answer);
+
+typedef struct {
+    uint32_t state, kind;
+    uint64_t at;
     uint64_t base;  /* the place of the first selected element */
     uint64_t size;  /* bytes of an element */
     uint64_t total; /* how many elements are selected */

@@ -8,3 +8,4 @@ mod Indexing
 mod Described
 mod Shapes
 mod Joining
+mod Opened

@@ -1,5 +1,5 @@
 -- Rows that are put one after another.
-use Rattle.std.proofs.Common.{◌≡◌, ℕ, ◌+◌, ◌<◌, ◌≤◌, List, [], ◌∷◌, ◌++◌, length, get_or, map, take, drop, set, refl, sym, ap, ◌∙◌, append_assoc, arith}
+use Rattle.std.proofs.Common.{◌≡◌, ℕ, ◌+◌, ◌<◌, ◌≤◌, List, [], ◌∷◌, ◌++◌, length, get_or, map, take, drop, set, refl, sym, ap, ap₂, ◌∙◌, append_assoc, arith}
 use Rattle.std.proofs.lemmas.List.{drop_more, get_or-map, length-append, length-map, take_all, take_more, take_more_set}
 use Rattle.std.proofs.lemmas.Slice.{take-put_mid}
 use borrow.Rule.Slice.PartMut.{put_mid}
@@ -10,7 +10,8 @@ use Rattle.ncc_schema.specs.declared.schema.Var.{Var}
 use Rattle.ncc_schema.specs.Header.{canon_attr, canon_dim}
 use Rattle.ncc_schema.specs.Names.{attrs_in, canon_unplaced}
 use Rattle.ncc_layout.specs.declared.placed_var.PlacedVar.{PlacedVar}
-use Rattle.ncc_c.specs.Rows.{attr_count, attr_rows, attrs_of_vars, dim_rows, id_count, ids_of_vars, var_rows}
+use Rattle.ncc_c.specs.declared.rows.VarRow.{VarRow}
+use Rattle.ncc_c.specs.Rows.{attr_count, attr_rows, attrs_of_vars, dim_rows, id_count, ids_of_vars, var_row, var_rows}
 
 -- one more of a list that was mapped
 pub mapped_step : {A R : Type 0} (f : A → R) (items : List A) (rows : List R) (k : ℕ) (d : A) (r : R) → k < length rows → k < length items → r ≡ f (get_or items k d) → take k rows ≡ take k (map f items)
@@ -30,6 +31,17 @@ piece_step piece old next items k d out new first n m lt joins is long le =
     ap (λ xs. xs ++ next (drop (k + 1) items)) (take-put_mid first m out new (first + n) there le)
     ∙ append_assoc (take first out) new (next (drop (k + 1) items))
     ∙ ap (λ xs. take first out ++ xs) (ap (λ xs. xs ++ next (drop (k + 1) items)) is ∙ sym (joins (drop (k + 1) items)) ∙ ap old (sym (drop_more items k d lt)))
+
+-- the row of one variable more
+pub var_step : (v : Version) (at next : ℕ) (vars : List Var) (placed : List PlacedVar) (rows : List VarRow) (k : ℕ) (d : Var) (e : PlacedVar) (r : VarRow) → k < length rows → k < length vars → k < length placed
+    → r ≡ var_row v at (get_or vars k d) (get_or placed k e) → next ≡ at + length (canon_unplaced v (get_or vars k d))
+    → take (k + 1) (set rows k r) ++ var_rows v next (drop (k + 1) vars) (drop (k + 1) placed) ≡ take k rows ++ var_rows v at (drop k vars) (drop k placed)
+var_step v at next vars placed rows k d e r in_rows in_vars in_placed is after =
+    ap (λ xs. xs ++ var_rows v next (drop (k + 1) vars) (drop (k + 1) placed)) (take_more_set rows k r in_rows)
+    ∙ append_assoc (take k rows) (r ∷ []) (var_rows v next (drop (k + 1) vars) (drop (k + 1) placed))
+    ∙ ap (λ xs. take k rows ++ xs)
+    (ap₂ (λ (q : VarRow) (n : ℕ). q ∷ var_rows v n (drop (k + 1) vars) (drop (k + 1) placed)) is after
+    ∙ sym (ap₂ (λ (xs : List Var) (ps : List PlacedVar). var_rows v at xs ps) (drop_more vars k d in_vars) (drop_more placed k e in_placed)))
 
 -- ---- how many rows
 

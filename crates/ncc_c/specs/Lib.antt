@@ -4,5 +4,6 @@ pub mod Verdicts
 pub mod Rows
 pub mod Selecting
 pub mod Describing
+pub mod Opening
 pub mod Planning
 pub mod Recording

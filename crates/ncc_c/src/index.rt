@@ -10,8 +10,7 @@ ghost use Rattle.ncc_c.specs.Rows.{Examines, HasCounts, HasRows, IsIndexed, Puts
 
 use crate::outcome::{NO_ROOM, Outcome, PASSES, of_refusal, outcome_of};
 use crate::rows::{
-    AttrRow, DimRow, VarRow, count_attrs, count_ids, put_attrs, put_attrs_of_vars, put_dims,
-    put_ids_of_vars, put_vars,
+    AttrRow, DimRow, VarRow, count_attrs, count_ids, put_attrs, put_dims, put_ids_of_vars, put_vars,
 };
 use ncc_front::{Found, FrontRefusal};
 use ncc_header::Schema;
@@ -19,7 +18,7 @@ use ncc_header::laws::length_is_canonical;
 use ncc_layout::PlacedVar;
 use ncc_schema::{gatts_at, list_size, vars_start};
 
-/// What `ncc_index` answers: how many rows there are.
+/// What `ncc_index` answers, and `ncc_read` of the rows: how many there are.
 #[repr(C)]
 #[derive(Clone, Copy, Debug, PartialEq, Eq)]
 pub struct Indexed {
@@ -82,8 +81,7 @@ fn put_rows(
         schema.gatts.as_slice(),
         &mut attrs[..globals],
     );
-    put_attrs_of_vars(version, start, all, &mut attrs[globals..]);
-    put_vars(version, start, all, placed, vars);
+    put_vars(version, start, all, placed, vars, &mut attrs[globals..]);
     put_ids_of_vars(all, ids);
 }
 

@@ -18,21 +18,37 @@ ghost use Rattle.ncc_front.specs.Judging.{FindsOf};
 ghost use Rattle.ncc_slab.specs.declared.slab.Slab.{Slab};
 ghost use Rattle.ncc_slab.specs.Selected.{places_of};
 ghost use Rattle.ncc_ranges.specs.Steps.{FitsFile};
+ghost use Rattle.ncc_c.specs.declared.opening.Opened.{Opened as OpenedAs};
+ghost use Rattle.ncc_c.specs.declared.rows.AttrRow.{AttrRow as AttrRowOf};
+ghost use Rattle.ncc_c.specs.declared.rows.DimRow.{DimRow as DimRowOf};
 ghost use Rattle.ncc_c.specs.declared.rows.VarRow.{VarRow as RowOf};
+ghost use Rattle.ncc_c.specs.declared.verdict.Verdict.{Verdict as Judged};
 ghost use Rattle.ncc_c.specs.Describing.{RowsFit, schema_by};
+ghost use Rattle.ncc_c.specs.Opening.{HasNumbersOf, Opens, TellsFile};
 ghost use Rattle.ncc_c.specs.Rows.{ShapesBy, all_attr_rows, all_dim_rows, all_var_rows, ids_of_vars};
 ghost use Rattle.ncc_c.specs.Selecting.{AreVars, IsSameVar, IsVarOf};
 ghost use Rattle.ncc_c.specs.Texts.{NamesAllKinds};
+ghost use Rattle.ncc_c.specs.Verdicts.{Tells};
 
 use ncc_check::laws::appending::{
     bytes_with_a_record_pass_on, kept_bytes_pass_on, old_elements_stay,
 };
+use ncc_front::laws::one_finding;
 
 /// Each number of a fault or a note has the name that `ncc check` prints for it, and that of a refused record the one that
 /// `ncc extend` prints.
 pub fn kinds_have_names()
     ensures { NamesAllKinds }
 {}
+
+/// Of a file that passes `ncc_read` tells the numbers that `ncc_judge` tells.
+pub fn numbers_are_those_of_a_verdict()
+    ensures { (front : List ℕ) (file limit : ℕ) (dims : List DimRowOf) (attrs : List AttrRowOf) (vars : List RowOf)
+        (ids : List ℕ) (v : Judged) (x : OpenedAs) → Tells front file limit v
+        → TellsFile front file limit dims attrs vars ids x → v.outcome.state ≡ 0 → Opens x → HasNumbersOf v x }
+{
+    one_finding();
+}
 
 /// Row k of an index is that of variable k at its place.
 pub fn rows_are_variables()

@@ -5,6 +5,7 @@ ghost use Rattle.std.specs.Prelude.{◌≡◌, ◌<◌, ◌≤◌, ℕ, List, dr
 ghost use Rattle.ncc_check.specs.Passes.{HasOwnElements};
 ghost use Rattle.ncc_front.specs.Fronts.{IsFile};
 ghost use Rattle.ncc_c.specs.Outcomes.{misused};
+ghost use Rattle.ncc_c.specs.Opening.{Opens, TellsFile, without_numbers};
 ghost use Rattle.ncc_c.specs.Planning.{PutsHeader, PutsPlaces, TellsPlan};
 ghost use Rattle.ncc_c.specs.Recording.{TellsRecord, no_record};
 ghost use Rattle.ncc_c.specs.Rows.{TellsIndex, no_rows};
@@ -17,6 +18,7 @@ mod index;
 mod kinds;
 pub mod laws;
 mod notes;
+mod opening;
 mod outcome;
 mod planning;
 mod recording;
@@ -28,9 +30,11 @@ mod verdict;
 
 use index::{Indexed, put_index, without_rows};
 use kinds::kind_text;
+use ncc_check::laws::passing_elements_are_apart;
 use ncc_front::{examine_front, judge_front};
 use ncc_ranges::Stretch;
 use notes::{NoteRow, Noted, put_notes};
+use opening::{Opened, opened_by, without_numbers};
 use outcome::{MEMORY, MISUSED, outcome_of};
 use planning::{PlaceRow, Planned, plan_by, put_header, put_places};
 use recording::{Recorded, put_record, without_record};
@@ -108,6 +112,35 @@ pub extern "C" fn ncc_index(
     }
     let found = examine_front(alloc, front, file_length, limit);
     *answer = put_index(&found, dims, attrs, vars, ids);
+}
+
+/// Puts the rows of `ncc_index`, and the numbers of `ncc_judge` but that of the notes.
+#[unsafe(no_mangle)]
+pub extern "C" fn ncc_read(
+    alloc: Global,
+    front: &[u8],
+    file_length: u64,
+    limit: u64,
+    dims: &mut [DimRow],
+    attrs: &mut [AttrRow],
+    vars: &mut [VarRow],
+    ids: &mut [u64],
+    answer: &mut Opened,
+)
+    ensures tells { length front.now ≤ file_length
+        → TellsFile front.now file_length limit dims.new attrs.new vars.new ids.new answer.new }
+    ensures own { length front.now ≤ file_length → Opens answer.new → (bytes : List ℕ)
+        → IsFile front.now file_length bytes → HasOwnElements bytes limit }
+    ensures misused { file_length < length front.now → answer.new ≡ without_numbers (no_rows misused) }
+{
+    if front.len() as u64 > file_length {
+        *answer = without_numbers(without_rows(outcome_of(MISUSED, 0, 0)));
+        return;
+    }
+    passing_elements_are_apart();
+    let found = examine_front(alloc, front, file_length, limit);
+    let rows = put_index(&found, dims, attrs, vars, ids);
+    *answer = opened_by(&found, rows);
 }
 
 /// Puts the steps of a selection of the variable with this row and these lengths.

@@ -8,7 +8,7 @@ ghost use Rattle.ncc_c.specs.Rows.{attr_count, attr_row, attr_rows, attrs_of_var
 
 use ncc_header::{Attr, Dim, Var, Version};
 use ncc_layout::PlacedVar;
-use ncc_schema::{attr_size, attrs_in, dim_size, name_size, var_size};
+use ncc_schema::{attr_size, attrs_in, dim_size, name_size};
 
 /// A dimension: where its name stands, and its length.
 #[repr(C)]
@@ -103,53 +103,47 @@ pub fn put_dims(version: Version, start: u64, dims: &[Dim], rows: &mut [DimRow])
     }
 }
 
-/// Puts the rows of attributes, of which the first stands at `start`.
-pub fn put_attrs(version: Version, start: u64, attrs: &[Attr], rows: &mut [AttrRow])
+/// Puts the rows of attributes, of which the first stands at `start`, and tells where the last one ends.
+pub fn put_attrs(version: Version, start: u64, attrs: &[Attr], rows: &mut [AttrRow]) -> u64
     requires room { length rows.old ≡ length attrs.now }
     requires fits { start + length (flat_map (canon_attr version) attrs.now) < 2 ^ 64 }
-    ensures { rows.new ≡ attr_rows version start attrs.now }
+    ensures rows { rows.new ≡ attr_rows version start attrs.now }
+    ensures end { result ≡ start + length (flat_map (canon_attr version) attrs.now) }
 {
     let mut at = start;
     for k in 0..attrs.len() {
         rows[k] = attr_row(version, at, &attrs[k]);
         at += attr_size(version, &attrs[k]);
     }
+    at
 }
 
-/// Puts the rows of variables, of which the first stands at `start`.
+/// Puts the rows of variables, of which the first stands at `start`, and those of the attributes of each.
 pub fn put_vars(
     version: Version,
     start: u64,
     vars: &[Var],
     placed: &[PlacedVar],
     rows: &mut [VarRow],
+    attr_rows: &mut [AttrRow],
 )
     requires room { length rows.old ≡ length vars.now }
     requires placed { length placed.now ≡ length vars.now }
+    requires attrs { length attr_rows.old ≡ attr_count vars.now }
     requires fits { start + length (flat_map (canon_unplaced version) vars.now) < 2 ^ 64 }
-    ensures { rows.new ≡ var_rows version start vars.now placed.now }
+    ensures rows { rows.new ≡ var_rows version start vars.now placed.now }
+    ensures attrs { attr_rows.new ≡ attrs_of_vars version start vars.now }
 {
-    let mut at = start;
-    for k in 0..vars.len() {
-        rows[k] = var_row(version, at, &vars[k], &placed[k]);
-        at += var_size(version, &vars[k]);
-    }
-}
-
-/// Puts the rows of the attributes of each variable, of which the first stands at `start`.
-pub fn put_attrs_of_vars(version: Version, start: u64, vars: &[Var], rows: &mut [AttrRow])
-    requires room { length rows.old ≡ attr_count vars.now }
-    requires fits { start + length (flat_map (canon_unplaced version) vars.now) < 2 ^ 64 }
-    ensures { rows.new ≡ attrs_of_vars version start vars.now }
-{
+    // (the type, the size and the offset after the attributes)
+    let numbers = 4 + version.count_width() as u64 + version.offset_width() as u64;
     let mut at = start;
     let mut first = 0;
     for k in 0..vars.len() {
+        rows[k] = var_row(version, at, &vars[k], &placed[k]);
         let attrs = vars[k].attrs.as_slice();
         let end = first + attrs.len();
         let begin = at + attrs_in(version, &vars[k]);
-        put_attrs(version, begin, attrs, &mut rows[first..end]);
-        at += var_size(version, &vars[k]);
+        at = put_attrs(version, begin, attrs, &mut attr_rows[first..end]) + numbers;
         first = end;
     }
 }

@@ -1,10 +1,9 @@
 -- What is found out of a header and the length of its file.
-use Rattle.std.specs.Prelude.{ℕ, Result, Ok, Err}
+use Rattle.std.specs.Prelude.{◌≡◌, ℕ, Result, Ok, Err}
 use Rattle.ncc_schema.specs.declared.schema.Header.{Header}
 use Rattle.ncc_schema.specs.Schema.{places_of}
+use Rattle.ncc_layout.specs.declared.fault.LayoutFaultKind.TheVariants.{TooLarge}
 use Rattle.ncc_layout.specs.declared.placed_file.Placed.{Placed}
-use Rattle.ncc_layout.specs.declared.size_list.Sizes.{Sizes}
-use Rattle.ncc_layout.specs.Sizes.{AreSizes}
 use Rattle.ncc_layout.specs.Rules.{IsPlaced}
 use Rattle.ncc_layout.specs.Placed.{Holds}
 use Rattle.ncc_check.specs.declared.fault.FileFault.TheVariants.{Header as OfHeader, Layout as OfLayout}
@@ -19,10 +18,12 @@ RefusedLayout h file (Fault (OfLayout f)) = HasLayoutFault h file f
 RefusedLayout h file Device = ⊥
 RefusedLayout h file Memory = Unit {0}
 
--- its sizes, or that a variable is too large
-abbrev pub SizesOf : Header → (file : ℕ) → Result Sizes Refusal → Type 0
-SizesOf h file (Ok z) = AreSizes h.schema z
-SizesOf h file (Err r) = RefusedLayout h file r
+-- that a variable of this header is too large, in a file of this length, unless memory was refused
+abbrev pub RefusesSizes : Header → (file : ℕ) → Refusal → Type 0
+RefusesSizes h file (Fault (OfHeader f)) = ⊥
+RefusesSizes h file (Fault (OfLayout f)) = HasLayoutFault h file f × (f.kind ≡ TooLarge)
+RefusesSizes h file Device = ⊥
+RefusesSizes h file Memory = Unit {0}
 
 -- its variables at their places, which keep all rules
 abbrev pub LaysOut : Header → (file : ℕ) → Result Placed Refusal → Type 0

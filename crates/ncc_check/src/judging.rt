@@ -1,13 +1,9 @@
 //! The layout of a file, by its header and its length.
 
-ghost use Rattle.std.specs.Prelude.{◌≡◌, ◌<◌, length};
+ghost use Rattle.std.specs.Prelude.{◌≡◌, ◌<◌, ℕ, [], length, IfErr, IfOk, IsOk};
 ghost use Rattle.ncc_schema.specs.Schema.{places_of, Legal};
-ghost use Rattle.ncc_layout.specs.Sizes.{AreSizes};
-ghost use Rattle.ncc_layout.specs.Placed.{fault_at};
-ghost use Rattle.ncc_check.specs.declared.fault.FileFault.TheVariants.{Layout};
-ghost use Rattle.ncc_check.specs.declared.fault.Refusal.TheVariants.{Fault};
-ghost use Rattle.ncc_layout.specs.declared.fault.LayoutFaultKind.TheVariants.{TooLarge};
-ghost use Rattle.ncc_check.specs.Judging.{SizesOf, LaysOut};
+ghost use Rattle.ncc_layout.specs.Sizes.{AreSizes, FirstTooLarge};
+ghost use Rattle.ncc_check.specs.Judging.{LaysOut, RefusesSizes};
 
 use crate::fault::{FileFault, Refusal};
 use ncc_header::Header;
@@ -16,17 +12,20 @@ use std::alloc::Global;
 
 /// The variable of this number is too large.
 fn too_large(header: &Header, number: usize) -> Refusal
-    requires { number < length header.now.places }
-    ensures { result ≡ Fault (Layout (fault_at header.now.places TooLarge number)) }
+    requires there { number < length header.now.places }
+    requires first { FirstTooLarge header.now.schema number }
+    ensures { (file : ℕ) → RefusesSizes header.now file result }
 {
     let fault = fault_at(header.places.as_slice(), LayoutFaultKind::TooLarge, number);
     Refusal::Fault(FileFault::Layout(fault))
 }
 
 /// The sizes of a header's variables.
-pub fn sizes_of(alloc: Global, header: &Header, file_length: u64) -> Result<Sizes, Refusal>
+pub fn sizes_of(alloc: Global, header: &Header) -> Result<Sizes, Refusal>
     requires { Legal header.now.schema (places_of header.now.places) }
-    ensures { SizesOf header.now file_length result }
+    ensures sizes { IfOk result (AreSizes header.now.schema) }
+    ensures refuses { (file : ℕ) → IfErr result (RefusesSizes header.now file) }
+    ensures none { header.now.schema.vars ≡ [] → IsOk result }
 {
     match sizes(alloc, &header.schema) {
         Ok(found) => Ok(found),

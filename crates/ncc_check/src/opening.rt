@@ -52,6 +52,6 @@ pub fn open<S: Store>(alloc: Global, store: S, limit: u64) -> Result<NcFile<S>, 
             } = header;
             Ok(NcFile::new(store, schema, placed))
         }
-        Err(refusal) => Err((store, refusal)),
+        Err(unsound) => Err((store, Refusal::from(unsound))),
     }
 }

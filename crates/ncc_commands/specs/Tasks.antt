@@ -4,10 +4,11 @@ use Rattle.clap.specs.declared.parser.matches.ArgMatches.{ArgMatches}
 use Rattle.ncc_values.specs.declared.version.Version.{Version}
 use Rattle.ncc_values.specs.declared.version.Version.TheVariants.{V1, V2, V5}
 use Rattle.ncc_lines.specs.declared.style.FloatStyle.{FloatStyle}
+use Rattle.ncc_json.specs.declared.wording.Wording.TheVariants as wordings
 use Rattle.ncc_batch.specs.declared.form.Form.{Form}
-use Rattle.ncc_batch.specs.declared.form.Form.TheVariants.{Brief, Lines}
+use Rattle.ncc_batch.specs.declared.form.Form.TheVariants.{Brief, Lines, Object}
 use Rattle.ncc_batch.specs.declared.work.Work.{Work}
-use Rattle.ncc_batch.specs.declared.work.Work.TheVariants.{Check, Explain, List as ListWork}
+use Rattle.ncc_batch.specs.declared.work.Work.TheVariants.{Check, Explain, Layout, List as ListWork}
 use Rattle.ncc_commands.specs.Given.{GivesFlag, GivesList, GivesNumber, GivesStyle, given, word_or_none}
 use Rattle.ncc_commands.specs.Words.{bytes_named}
 use Rattle.ncc_commands.specs.declared.task.Converting.{Converting}
@@ -44,15 +45,41 @@ pub record Converts (line : Words) (words : ArgMatches) (c : Converting) : Type 
   pub two : given words (codes "to") ≡ Some (codes "2") → c.version ≡ V2
   pub five : given words (codes "to") ≡ Some (codes "5") → c.version ≡ V5
 
--- what is asked of files, with so many bytes of header where the words don't say
+-- ---- what is asked of files, with so many bytes of header where the words don't say
+
+-- a check: as an object, in words, or in lines
+abbrev pub ChecksAs : (limit : ℕ) → ArgMatches → Work → Type 0
+ChecksAs limit words work = (most : ℕ) × (strict : Bool) × (told : Bool) × (members : Bool)
+    × GivesNumber words (codes "max-header") limit most × GivesFlag words (codes "strict") strict
+    × GivesFlag words (codes "explain") told × GivesFlag words (codes "json") members
+    × (members ≡ true → work ≡ Explain most strict wordings.Members)
+    × (members ≡ false → told ≡ true → work ≡ Explain most strict wordings.Words)
+    × (members ≡ false → told ≡ false → work ≡ Check most strict)
+
+-- a layout: as an object, or in lines
+abbrev pub LaysOutAs : (limit : ℕ) → ArgMatches → Work → Type 0
+LaysOutAs limit words work = (members : Bool) × GivesFlag words (codes "json") members
+    × (members ≡ true → work ≡ Layout limit wordings.Members) × (members ≡ false → work ≡ Layout limit wordings.Words)
+
+-- how a check of a file is shown
+abbrev pub ShowsCheck : ArgMatches → Form → Type 0
+ShowsCheck words form = (members : Bool) × (brief : Bool) × GivesFlag words (codes "json") members
+    × GivesFlag words (codes "brief") brief × (members ≡ true → form ≡ Object)
+    × (members ≡ false → brief ≡ true → form ≡ Brief) × (members ≡ false → brief ≡ false → form ≡ Lines)
+
+-- how a layout of a file is shown
+abbrev pub ShowsLayout : ArgMatches → Form → Type 0
+ShowsLayout words form = (members : Bool) × GivesFlag words (codes "json") members
+    × (members ≡ true → form ≡ Object) × (members ≡ false → form ≡ Lines)
+
 pub record Answers (limit : ℕ) (command : List ℕ) (words : ArgMatches) (work : Work) (form : Form) : Type 0 where
-  pub check : command ≡ codes "check" → (most : ℕ) × (strict : Bool) × (told : Bool)
-      × GivesNumber words (codes "max-header") limit most × GivesFlag words (codes "strict") strict
-      × GivesFlag words (codes "explain") told × (told ≡ false → work ≡ Check most strict) × (told ≡ true → work ≡ Explain most strict)
-  pub list : (command ≡ codes "check" → ⊥) → (style : FloatStyle) × (work ≡ ListWork limit style) × GivesStyle words style
-  pub brief : command ≡ codes "check" → (on : Bool) × GivesFlag words (codes "brief") on
-      × (on ≡ true → form ≡ Brief) × (on ≡ false → form ≡ Lines)
-  pub lines : (command ≡ codes "check" → ⊥) → form ≡ Lines
+  pub check : command ≡ codes "check" → ChecksAs limit words work
+  pub layout : command ≡ codes "layout" → LaysOutAs limit words work
+  pub list : (command ≡ codes "check" → ⊥) → (command ≡ codes "layout" → ⊥)
+      → (style : FloatStyle) × (work ≡ ListWork limit style) × GivesStyle words style
+  pub check_shown : command ≡ codes "check" → ShowsCheck words form
+  pub layout_shown : command ≡ codes "layout" → ShowsLayout words form
+  pub list_shown : (command ≡ codes "check" → ⊥) → (command ≡ codes "layout" → ⊥) → form ≡ Lines
 
 -- what a command's words ask for
 abbrev pub AsksFor : Words → (command : List ℕ) → ArgMatches → Task → Type 0

@@ -43,6 +43,33 @@ Status:
   2  the command line is wrong
   3  a device or memory failed";
 
+/// What the help of `layout` says of its lines, statuses and the limit.
+const LAYOUT_STATUSES: &str = "Example:
+  ncc layout ocean.nc
+
+It prints the length of the file, where the header begins and ends, and a line for each variable, in
+the order in which they begin: its number in the header, its name, fixed or record, and the offsets
+in bytes of its first byte and of the first byte after it, without padding; of a record variable
+those in the first record. Then `gap` and how many bytes lie between the end of all before it and
+its begin, or `overlap` and how many bytes before that end it begins.
+
+A line follows for the records: how many there are, where the first begins, the bytes of one, and
+where the last ends. The last line is `after` and how many bytes follow all that the header speaks
+of, or `missing` and how many the file lacks.
+
+It works whatever faults the layout has, but TooLarge: `ncc check` says which it has. Of several
+files each line has the path, a colon and a space before it, and the status is the worst. With
+--json the same is printed as an object for each file, in one line. A list of names has a NUL byte
+after each, as `find -print0` writes them.
+
+A header may have 67108864 bytes; a longer one is the fault HeaderTooLong.
+
+Status:
+  0  laid out
+  1  the header has a fault or a variable is too large, which is the only line
+  2  the command line is wrong
+  3  a device or memory failed";
+
 /// What the help of `check` says of its lines, statuses and the limit.
 const CHECK_STATUSES: &str = "Example:
   ncc check --brief *.nc
@@ -57,7 +84,8 @@ between them. A list of names has a NUL byte after each, as `find -print0` write
 
 With --explain each fault and note is followed by lines that begin with four spaces: the part of
 the header that it is in and its numbers, but for a fault of the header, and its rule, with the
-section of The NetCDF Classic Format Specification that it rests on in brackets.
+section of The NetCDF Classic Format Specification that it rests on in brackets. With --json the
+same is printed as an object for each file, in one line.
 
 A header may have 67108864 bytes, or as many as --max-header says; a longer one is the
 fault HeaderTooLong.
@@ -199,11 +227,30 @@ fn verbose_argument<'a>(alloc: Global) -> Arg<'a> {
     )
 }
 
+/// Whether files are shown as objects.
+fn json_argument<'a>(alloc: Global) -> Arg<'a> {
+    flag(
+        alloc,
+        "json",
+        "Prints a JSON object for each file, in one line",
+    )
+}
+
 fn list_command<'a>(alloc: Global) -> Result<Command<'a>, AllocError> {
     Command::new(alloc, "list")
         .about("Lists what the headers of files say")
         .after_help(LIST_STATUSES)
         .arg(decimal_argument(alloc))?
+        .arg(names_argument(alloc)?)?
+        .arg(verbose_argument(alloc))?
+        .arg(files_argument(alloc)?)
+}
+
+fn layout_command<'a>(alloc: Global) -> Result<Command<'a>, AllocError> {
+    Command::new(alloc, "layout")
+        .about("Shows where everything in files lies")
+        .after_help(LAYOUT_STATUSES)
+        .arg(json_argument(alloc))?
         .arg(names_argument(alloc)?)?
         .arg(verbose_argument(alloc))?
         .arg(files_argument(alloc)?)
@@ -218,6 +265,9 @@ fn check_command<'a>(alloc: Global) -> Result<Command<'a>, AllocError> {
         "Says where each fault and note is, its numbers, and its rule",
     )
     .conflicts_with("brief")?;
+    let json = json_argument(alloc)
+        .conflicts_with("brief")?
+        .conflicts_with("explain")?;
     let limit = Arg::new(alloc, "max-header")
         .long("max-header")
         .value_name("N")
@@ -231,6 +281,7 @@ fn check_command<'a>(alloc: Global) -> Result<Command<'a>, AllocError> {
         .arg(strict)?
         .arg(brief)?
         .arg(explain)?
+        .arg(json)?
         .arg(limit)?
         .arg(names_argument(alloc)?)?
         .arg(verbose_argument(alloc))?
@@ -309,18 +360,37 @@ fn convert_command<'a>(alloc: Global) -> Result<Command<'a>, AllocError> {
         .arg(to)
 }
 
-/// The command line of `ncc`.
-pub fn command<'a>(alloc: Global) -> Result<Command<'a>, AllocError> {
-    Command::new(alloc, "ncc")
+/// Adds all commands.
+fn with_all<'a>(alloc: Global, ncc: Command<'a>) -> Result<Command<'a>, AllocError> {
+    ncc.subcommand(check_command(alloc)?)?
+        .subcommand(convert_command(alloc)?)?
+        .subcommand(csv_command(alloc)?)?
+        .subcommand(extend_command(alloc)?)?
+        .subcommand(layout_command(alloc)?)?
+        .subcommand(list_command(alloc)?)
+}
+
+/// The command line of `ncc`, as far as these words need it: where the first of them names a command, the others are
+/// left out.
+pub fn command<'a>(alloc: Global, line: &[String]) -> Result<Command<'a>, AllocError> {
+    let ncc = Command::new(alloc, "ncc")
         .bin_name("ncc")?
         .version("0.1.0")
         .about("Checks, lists, reads, extends and converts netCDF classic files")
         .after_help(STATUSES)
         .subcommand_required(true)
-        .arg_required_else_help(true)
-        .subcommand(check_command(alloc)?)?
-        .subcommand(convert_command(alloc)?)?
-        .subcommand(csv_command(alloc)?)?
-        .subcommand(extend_command(alloc)?)?
-        .subcommand(list_command(alloc)?)
+        .arg_required_else_help(true);
+    let first = match line.get(1) {
+        Some(word) => word.as_str(),
+        None => "",
+    };
+    match first {
+        "check" => ncc.subcommand(check_command(alloc)?),
+        "convert" => ncc.subcommand(convert_command(alloc)?),
+        "csv" => ncc.subcommand(csv_command(alloc)?),
+        "extend" => ncc.subcommand(extend_command(alloc)?),
+        "layout" => ncc.subcommand(layout_command(alloc)?),
+        "list" => ncc.subcommand(list_command(alloc)?),
+        _ => with_all(alloc, ncc),
+    }
 }

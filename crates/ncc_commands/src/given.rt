@@ -1,12 +1,14 @@
 //! What the words of a command line ask for.
 
-ghost use Rattle.std.specs.Prelude.{◌≡◌, ℕ, Bool, true, false, Some, codes};
+ghost use Rattle.std.specs.Prelude.{◌≡◌, Some, codes};
 ghost use Rattle.ncc_commands.specs.Given.{GivesFlag, GivesNumber, GivesStyle, given, word_or_none};
+ghost use Rattle.ncc_commands.specs.Tasks.{ChecksAs, LaysOutAs, ShowsCheck, ShowsLayout};
 ghost use Rattle.ncc_lines.specs.declared.style.FloatStyle.{FloatStyle};
 
 use crate::commands::LIMIT;
 use clap::ArgMatches;
 use ncc_batch::{Form, Work};
+use ncc_json::Wording;
 use ncc_lines::FloatStyle;
 use ncc_values::Version;
 
@@ -53,30 +55,55 @@ pub fn more_given(words: &ArgMatches) -> u64
 
 /// What is asked of files by `check`.
 fn checked_given(words: &ArgMatches) -> Work
-    ensures { (limit : ℕ) × (strict : Bool) × (told : Bool)
-        × GivesNumber words.now (codes "max-header") LIMIT limit × GivesFlag words.now (codes "strict") strict
-        × GivesFlag words.now (codes "explain") told × (told ≡ false → result ≡ Work.Check limit strict)
-        × (told ≡ true → result ≡ Work.Explain limit strict) }
+    ensures { ChecksAs LIMIT words.now result }
 {
     let limit = number_given(words, "max-header", LIMIT);
     let strict = flag_given(words, "strict");
-    if flag_given(words, "explain") {
-        return Work::Explain { limit, strict };
+    let told = flag_given(words, "explain");
+    if flag_given(words, "json") {
+        return Work::Explain {
+            limit,
+            strict,
+            wording: Wording::Members,
+        };
+    }
+    if told {
+        return Work::Explain {
+            limit,
+            strict,
+            wording: Wording::Words,
+        };
     }
     Work::Check { limit, strict }
 }
 
-/// What is asked of files by `check` or `list`.
+/// What is asked of files by `layout`.
+fn laid_out_given(words: &ArgMatches) -> Work
+    ensures { LaysOutAs LIMIT words.now result }
+{
+    let wording = if flag_given(words, "json") {
+        Wording::Members
+    } else {
+        Wording::Words
+    };
+    Work::Layout {
+        limit: LIMIT,
+        wording,
+    }
+}
+
+/// What is asked of files by `check`, `layout` or `list`.
 pub fn work_given(command: &str, words: &ArgMatches) -> Work
-    ensures check { command.now ≡ codes "check" → (limit : ℕ) × (strict : Bool) × (told : Bool)
-        × GivesNumber words.now (codes "max-header") LIMIT limit × GivesFlag words.now (codes "strict") strict
-        × GivesFlag words.now (codes "explain") told × (told ≡ false → result ≡ Work.Check limit strict)
-        × (told ≡ true → result ≡ Work.Explain limit strict) }
-    ensures list { (command.now ≡ codes "check" → ⊥)
+    ensures check { command.now ≡ codes "check" → ChecksAs LIMIT words.now result }
+    ensures layout { command.now ≡ codes "layout" → LaysOutAs LIMIT words.now result }
+    ensures list { (command.now ≡ codes "check" → ⊥) → (command.now ≡ codes "layout" → ⊥)
         → (style : FloatStyle) × (result ≡ Work.List LIMIT style) × GivesStyle words.now style }
 {
     if command == "check" {
         return checked_given(words);
+    }
+    if command == "layout" {
+        return laid_out_given(words);
     }
     Work::List {
         limit: LIMIT,
@@ -84,17 +111,41 @@ pub fn work_given(command: &str, words: &ArgMatches) -> Work
     }
 }
 
-/// How files are shown by `check` or `list`.
-pub fn form_given(command: &str, words: &ArgMatches) -> Form
-    ensures list { (command.now ≡ codes "check" → ⊥) → result ≡ Form.Lines }
-    ensures check { command.now ≡ codes "check" → (brief : Bool) × GivesFlag words.now (codes "brief") brief
-        × (brief ≡ true → result ≡ Form.Brief) × (brief ≡ false → result ≡ Form.Lines) }
+/// How files are shown by `check`.
+fn check_form(words: &ArgMatches) -> Form
+    ensures { ShowsCheck words.now result }
 {
-    if command == "check" && flag_given(words, "brief") {
-        Form::Brief
+    let brief = flag_given(words, "brief");
+    if flag_given(words, "json") {
+        return Form::Object;
+    }
+    if brief { Form::Brief } else { Form::Lines }
+}
+
+/// How files are shown by `layout`.
+fn layout_form(words: &ArgMatches) -> Form
+    ensures { ShowsLayout words.now result }
+{
+    if flag_given(words, "json") {
+        Form::Object
     } else {
         Form::Lines
     }
+}
+
+/// How files are shown by `check`, `layout` or `list`.
+pub fn form_given(command: &str, words: &ArgMatches) -> Form
+    ensures check { command.now ≡ codes "check" → ShowsCheck words.now result }
+    ensures layout { command.now ≡ codes "layout" → ShowsLayout words.now result }
+    ensures list { (command.now ≡ codes "check" → ⊥) → (command.now ≡ codes "layout" → ⊥) → result ≡ Form.Lines }
+{
+    if command == "check" {
+        return check_form(words);
+    }
+    if command == "layout" {
+        return layout_form(words);
+    }
+    Form::Lines
 }
 
 /// The version of this word.

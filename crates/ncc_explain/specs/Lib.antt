@@ -1,4 +1,5 @@
 pub mod Rules
+pub mod Likeness
 pub mod Words
-pub mod Examining
+pub mod Members
 pub mod Explaining

@@ -27,6 +27,7 @@ use Rattle.ncc_parts.specs.declared.part.Part.{Part}
 use Rattle.ncc_parts.specs.declared.part.Part.TheVariants as parts
 use Rattle.ncc_parts.specs.Breaking.{broken_by}
 use Rattle.ncc_parts.specs.Parts.{part_at, parts_of}
+use Rattle.ncc_explain.specs.Likeness.{likeness_lines}
 use Rattle.ncc_explain.specs.Rules.{header_rule, layout_rule, note_rule}
 
 -- ---- names
@@ -127,6 +128,7 @@ told_layout_fault h file f =
     file_fault_line (Layout f)
     ++ (broken_part_lines h file f (position (λ p. p.begin_at == f.offset) h.places) ++ rule_line (layout_rule f.kind))
 
--- a fault of the header: its line and its rule
-abbrev pub told_header_fault : Fault → List ℕ
-told_header_fault f = fault_line f ++ rule_line (header_rule f.kind)
+-- a fault of the header: its line, what the file looks like that begins with these letters, where they are at fault, and
+-- its rule
+abbrev pub told_header_fault : (letters : ℕ) → Fault → List ℕ
+told_header_fault n f = fault_line f ++ (likeness_lines f.kind n ++ rule_line (header_rule f.kind))

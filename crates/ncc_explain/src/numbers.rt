@@ -116,7 +116,7 @@ pub fn push_broken(out: &mut Vec<u8>, schema: &Schema, broken: Broken) -> Result
 }
 
 /// The vsize of a variable, or 0 where there are not so many.
-fn vsize_of(places: &[VarPlace], number: usize) -> u64
+pub fn vsize_of(places: &[VarPlace], number: usize) -> u64
     ensures { result ≡ get_or (vsizes places.now) number 0 }
 {
     match places.get(number) {
@@ -126,7 +126,7 @@ fn vsize_of(places: &[VarPlace], number: usize) -> u64
 }
 
 /// The vsize that a variable's size gives, or 0 where there are not so many.
-fn due_vsize(schema: &Schema, sizes: &Sizes, number: usize) -> u64
+pub fn due_vsize(schema: &Schema, sizes: &Sizes, number: usize) -> u64
     requires { AreSizes schema.now sizes.now }
     ensures { result ≡ get_or (vsize_words schema.now) number 0 }
 {
@@ -150,15 +150,21 @@ fn push_vsize(out: &mut Vec<u8>, there: u64, due: u64) -> Result<(), AllocError>
     )
 }
 
-/// Adds where a variable begins.
-#[tactic(auto, unfolding(crate::specs::Words::begin_line))]
-fn push_begin(out: &mut Vec<u8>, header: &Header, number: usize) -> Result<(), AllocError>
-    ensures { OnOk result (out.new.items ≡ out.old.items ++ begin_line (begin_of header.now.places number)) }
+/// Where a variable begins, or 0 where there are not so many.
+pub fn begin_at(header: &Header, number: usize) -> u64
+    ensures { result ≡ begin_of header.now.places number }
 {
-    let begin = match header.places.as_slice().get(number) {
+    match header.places.as_slice().get(number) {
         Some(place) => place.begin,
         None => 0,
-    };
+    }
+}
+
+/// Adds where a variable begins.
+#[tactic(auto, unfolding(crate::specs::Words::begin_line))]
+fn push_begin(out: &mut Vec<u8>, begin: u64) -> Result<(), AllocError>
+    ensures { OnOk result (out.new.items ≡ out.old.items ++ begin_line begin) }
+{
     push_one(out, b"    it begins at ", begin)
 }
 
@@ -174,7 +180,7 @@ fn push_count(out: &mut Vec<u8>, count: Count) -> Result<(), AllocError>
 }
 
 /// The length of a dimension, or 0 where there are not so many.
-fn length_of(dims: &[Dim], number: usize) -> u64
+pub fn length_of(dims: &[Dim], number: usize) -> u64
     ensures { result ≡ get_or (lengths dims.now) number 0 }
 {
     match dims.get(number) {
@@ -208,8 +214,10 @@ pub fn push_note_numbers(
             vsize_of(header.places.as_slice(), number),
             due_vsize(&header.schema, sizes, number),
         ),
-        (NoteKind::UnalignedBegin, Part::Place(number)) => push_begin(out, header, number),
-        (NoteKind::Order, Part::Place(number)) => push_begin(out, header, number),
+        (NoteKind::UnalignedBegin, Part::Place(number)) => {
+            push_begin(out, begin_at(header, number))
+        }
+        (NoteKind::Order, Part::Place(number)) => push_begin(out, begin_at(header, number)),
         (NoteKind::LargeCount, Part::NumRecs) => push_count(out, header.schema.count),
         (NoteKind::LargeCount, Part::Dim(number)) => {
             push_length(out, length_of(header.schema.dims.as_slice(), number))

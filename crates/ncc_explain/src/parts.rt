@@ -75,7 +75,7 @@ pub fn push_variable(out: &mut Vec<u8>, schema: &Schema, number: usize) -> Resul
 }
 
 /// Adds a part of the header in words.
-fn push_part(out: &mut Vec<u8>, schema: &Schema, part: Part) -> Result<(), AllocError>
+pub fn push_part(out: &mut Vec<u8>, schema: &Schema, part: Part) -> Result<(), AllocError>
     ensures { OnOk result (out.new.items ≡ out.old.items ++ part_words schema.now part) }
 {
     match part {

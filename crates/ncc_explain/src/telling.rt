@@ -4,18 +4,19 @@ ghost use Rattle.std.specs.Prelude.{◌≡◌, ◌<◌, ◌++◌, ◌==◌, leng
 ghost use Rattle.std.specs.List.{flat_map};
 ghost use Rattle.ncc_schema.specs.Schema.{Legal, places_of};
 ghost use Rattle.ncc_layout.specs.Sizes.{AreSizes};
+ghost use Rattle.ncc_check.specs.Examining.{HasSizes};
 ghost use Rattle.ncc_check.specs.FromStore.{IsBegun};
 ghost use Rattle.ncc_parts.specs.Breaking.{broken_by};
 ghost use Rattle.ncc_parts.specs.Parts.{ends_from, parts_of};
-ghost use Rattle.ncc_explain.specs.Examining.{HasSizes};
 ghost use Rattle.ncc_explain.specs.Words.{broken_lines, broken_part_lines, note_part_lines, rule_line, told_header_fault, told_layout_fault, told_note, told_report};
 
-use crate::examining::{Examined, Unplaced};
+use crate::adding::push_words;
+use crate::likeness::push_likeness;
 use crate::numbers::{push_broken, push_note_numbers};
 use crate::parts::push_part_line;
 use crate::rules::{header_rule, layout_rule, note_rule};
-use ncc_check::{Note, NoteKind};
-use ncc_header::{Fault, Header};
+use ncc_check::{Checked, Note, NoteKind, Unplaced};
+use ncc_header::{Fault, FaultKind, Header};
 use ncc_layout::{LayoutFault, Sizes};
 use ncc_lines::{fault_name, layout_name, note_name, push_at, push_ok};
 use ncc_parts::{Part, Piece, broken_by, part_of, pieces_of, variable_at};
@@ -26,10 +27,7 @@ use std::alloc::{AllocError, Global};
 fn push_rule(out: &mut Vec<u8>, words: &str) -> Result<(), AllocError>
     ensures { OnOk result (out.new.items ≡ out.old.items ++ rule_line words.now) }
 {
-    out.extend_from_slice(b"    ")?;
-    out.extend_from_slice(words.as_bytes())?;
-    out.extend_from_slice(b"\n")?;
-    Ok(())
+    push_words(out, b"    ", words)
 }
 
 /// Adds the part that a note is in, and its numbers.
@@ -86,7 +84,7 @@ fn push_notes(
 }
 
 /// What is told of a file that passes.
-pub fn told_report(alloc: Global, found: &Examined) -> Result<Vec<u8>, AllocError>
+pub fn told_report(alloc: Global, found: &Checked) -> Result<Vec<u8>, AllocError>
     requires begun { IsBegun found.now.header }
     requires sizes { AreSizes found.now.header.schema found.now.sizes }
     ensures { IfOk result (λ v. v.items ≡ told_report found.now.header found.now.report) }
@@ -173,12 +171,16 @@ pub fn told_layout_fault(alloc: Global, found: &Unplaced) -> Result<Vec<u8>, All
     Ok(out)
 }
 
-/// What is told of a file whose header has a fault.
-pub fn told_header_fault(alloc: Global, fault: Fault) -> Result<Vec<u8>, AllocError>
-    ensures { IfOk result (λ v. v.items ≡ told_header_fault fault) }
+/// What is told of a file whose header has a fault, and that begins with these three bytes, if they are at fault.
+pub fn told_header_fault(alloc: Global, fault: Fault, letters: u64) -> Result<Vec<u8>, AllocError>
+    ensures { IfOk result (λ v. v.items ≡ told_header_fault letters fault) }
 {
     let mut out = Vec::new(alloc);
     push_at(&mut out, b"fault ", fault_name(fault.kind), fault.offset)?;
+    match fault.kind {
+        FaultKind::BadMagic => push_likeness(&mut out, letters)?,
+        _ => {}
+    }
     push_rule(&mut out, header_rule(fault.kind))?;
     Ok(out)
 }

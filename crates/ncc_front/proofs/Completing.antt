@@ -8,7 +8,7 @@ use Rattle.ncc_check.specs.declared.fault.FileFault.TheVariants.{Header as OfHea
 use Rattle.ncc_check.specs.declared.fault.Refusal.{Refusal}
 use Rattle.ncc_check.specs.declared.fault.Refusal.TheVariants.{Fault, Device, Memory}
 use Rattle.ncc_check.specs.Faults.{HasLayoutFault}
-use Rattle.ncc_check.specs.Judging.{RefusedLayout}
+use Rattle.ncc_check.specs.Judging.{RefusedLayout, RefusesSizes}
 use Rattle.ncc_check.specs.Passes.{Passes, HasOwnElements}
 use Rattle.ncc_front.specs.declared.judging.FrontRefusal.{FrontRefusal}
 use Rattle.ncc_front.specs.declared.reading.FrontError.{FrontError}
@@ -51,6 +51,13 @@ refused_layout apart front file limit h Memory b refused = tt
 
 pub refused_as : Apart → (front : List ℕ) (file limit : ℕ) (h : Header) (r : Refusal) (e : FrontRefusal) → e ≡ refusal_of_check r → Begins front limit h → RefusedLayout h file r → RefusesFront front file limit e
 refused_as apart front file limit h r e is b refused = subst (λ (x : FrontRefusal). RefusesFront front file limit x) (sym is) (refused_layout apart front file limit h r b refused)
+
+-- that a variable is too large is a layout fault
+pub refused_sizes : (h : Header) (file : ℕ) (r : Refusal) → RefusesSizes h file r → RefusedLayout h file r
+refused_sizes h file (Fault (OfHeader f)) refused = absurd refused
+refused_sizes h file (Fault (OfLayout f)) refused = refused.0
+refused_sizes h file Device refused = absurd refused
+refused_sizes h file Memory refused = tt
 
 pub own_elements : ((bytes : List ℕ) (limit : ℕ) → Passes bytes limit → HasOwnElements bytes limit) → (front : List ℕ) (file limit : ℕ) (h : Header) (p : Placed) → FindsOf front file limit h p
     → (bytes : List ℕ) → IsFile front file bytes → HasOwnElements bytes limit

@@ -81,7 +81,7 @@ pub fn examine_front(
         Ok(header) => header,
         Err(error) => return Err(of_front(error)),
     };
-    let sizes = match sizes_of(alloc, &header, file_length) {
+    let sizes = match sizes_of(alloc, &header) {
         Ok(sizes) => sizes,
         Err(refusal) => return Err(of_layout(refusal)),
     };

@@ -1,5 +1,7 @@
 mod Spelling
 mod Locating
-mod ExtentsAt
+pub mod ExtentsAt
 mod BrokenRules
 mod Complete
+mod BeginFields
+mod Labels

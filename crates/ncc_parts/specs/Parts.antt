@@ -1,17 +1,20 @@
 -- The parts of a header, one after the other, each with its bytes in the canonical spelling of a header whose variables
 -- have no place yet: where a part ends doesn't depend on the places.
-use Rattle.std.specs.Prelude.{ℕ, suc, ◌+◌, ◌-◌, ltb, List, [], ◌∷◌, ◌++◌, length, Option, Some, None, if◌then◌else◌}
+use Rattle.std.specs.Prelude.{ℕ, suc, ◌+◌, ◌-◌, ltb, List, [], ◌∷◌, ◌++◌, length, take, drop, Option, Some, None, if◌then◌else◌}
+use Rattle.std.specs.List.{flat_map}
 use Rattle.ncc_values.specs.Numbers.{big_endian}
 use Rattle.ncc_values.specs.Version.{byte_of, count_width_of, offset_width_of}
 use Rattle.ncc_values.specs.XType.{code_of}
 use Rattle.ncc_values.specs.declared.version.Version.{Version}
+use Rattle.ncc_schema.specs.declared.names.NameOf.{NameOf}
+use Rattle.ncc_schema.specs.declared.names.NameOf.TheVariants as of
 use Rattle.ncc_schema.specs.declared.schema.Attr.{Attr}
 use Rattle.ncc_schema.specs.declared.schema.Dim.{Dim}
 use Rattle.ncc_schema.specs.declared.schema.Schema.{Schema}
 use Rattle.ncc_schema.specs.declared.schema.Var.{Var}
 use Rattle.ncc_schema.specs.Schema.{Place}
 use Rattle.ncc_schema.specs.Header.{nc_dimension, nc_attribute, nc_variable, counted, canon_name, canon_head, canon_dim, canon_attr, canon_dimids}
-use Rattle.ncc_schema.specs.Names.{no_place}
+use Rattle.ncc_schema.specs.Names.{first_attrs, no_place}
 use Rattle.ncc_parts.specs.declared.part.Part.{Part}
 use Rattle.ncc_parts.specs.declared.part.Part.TheVariants as parts
 use Rattle.ncc_parts.specs.declared.part.Piece.{Piece}
@@ -73,3 +76,19 @@ abbrev pub part_at : (offset : ℕ) → List (Part × List ℕ) → Option Part
 part_at offset [] = None
 part_at offset (p ∷ parts) =
     if ltb offset (length p.1) then Some p.0 else part_at (offset - length p.1) parts
+
+-- ---- names
+
+-- the part that begins with this name
+abbrev pub part_named : NameOf → Part
+part_named (of.Dim i) = parts.Dim i
+part_named (of.Global i) = parts.Global i
+part_named (of.Var i) = parts.Var i
+part_named (of.Attr i j) = parts.Attr i j
+
+-- the bytes of that part
+abbrev pub bytes_named : Schema → NameOf → List ℕ
+bytes_named s (of.Dim i) = flat_map (canon_dim s.version) (take 1 (drop i s.dims))
+bytes_named s (of.Global i) = flat_map (canon_attr s.version) (take 1 (drop i s.gatts))
+bytes_named s (of.Var i) = flat_map (λ x. canon_name s.version x.name ++ canon_dimids s.version x.dims) (take 1 (drop i s.vars))
+bytes_named s (of.Attr i j) = flat_map (canon_attr s.version) (take 1 (drop j (first_attrs (drop i s.vars))))

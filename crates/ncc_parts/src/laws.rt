@@ -1,22 +1,37 @@
 //! Laws of the parts of a header, each the contract of a function that does nothing.
 
-ghost use Rattle.std.specs.Prelude.{◌≡◌, ◌≢◌, ◌<◌, ℕ, IsSome, Some, length};
+ghost use Rattle.std.specs.Prelude.{◌≡◌, ◌≢◌, ◌+◌, ◌-◌, ◌<◌, ◌≤◌, ◌==◌, ℕ, suc, IsSome, List, Some, length, position};
 ghost use Rattle.std.specs.List.{flat_map};
+ghost use Rattle.ncc_values.specs.Version.{count_width_of, offset_width_of};
 ghost use Rattle.ncc_schema.specs.declared.schema.Schema.{Schema};
 ghost use Rattle.ncc_schema.specs.declared.schema.Header.{Header};
 ghost use Rattle.ncc_schema.specs.Header.{canon};
-ghost use Rattle.ncc_schema.specs.Names.{unplaced};
-ghost use Rattle.ncc_schema.specs.Schema.{Legal, places_of};
+ghost use Rattle.ncc_schema.specs.declared.names.NameOf.{NameOf};
+ghost use Rattle.ncc_schema.specs.Names.{HasName, name_at, unplaced, var_at};
+ghost use Rattle.ncc_schema.specs.Schema.{Legal, Place, places_of};
+ghost use Rattle.ncc_header.specs.Answers.{Begins};
 ghost use Rattle.ncc_layout.specs.declared.fault.LayoutFault.{LayoutFault};
 ghost use Rattle.ncc_layout.specs.declared.fault.LayoutFaultKind.{LayoutFaultKind};
 ghost use Rattle.ncc_check.specs.Faults.{HasLayoutFault};
 ghost use Rattle.ncc_parts.specs.declared.broken.Broken.{Broken};
 ghost use Rattle.ncc_parts.specs.Breaking.{Breaks, Keeps, broken_by, kind_of};
-ghost use Rattle.ncc_parts.specs.Parts.{parts_of};
+ghost use Rattle.ncc_parts.specs.declared.part.Part.TheVariants as parts;
+ghost use Rattle.ncc_parts.specs.Parts.{bytes_named, part_at, part_named, parts_of};
 
 /// The bytes of the parts, one after the other, are the canonical header, so that each byte of it is in one of them.
 pub fn parts_spell_the_header()
     ensures { (s : Schema) → flat_map (λ p. p.1) (parts_of s) ≡ canon s (unplaced s.vars) }
+{}
+
+/// Each byte of a dimension, of an attribute, and of a variable's name and dimensions is in the part that is labelled so,
+/// and so is each of the last bytes of a variable, its type, vsize and begin, whatever these say.
+pub fn parts_have_their_labels()
+    ensures items { (s : Schema) (places : List Place) (x : NameOf) (o : ℕ) → length places ≡ length s.vars
+        → o < length (bytes_named s x) → part_at (name_at s places x + o) (parts_of s) ≡ Some (part_named x) }
+    ensures some { (s : Schema) (x : NameOf) → HasName s x → 0 < length (bytes_named s x) }
+    ensures places { (s : Schema) (places : List Place) (i m : ℕ) → length places ≡ length s.vars
+        → i < length s.vars → 0 < m → m ≤ 4 + count_width_of s.version + offset_width_of s.version
+        → part_at (var_at s places (suc i) - m) (parts_of s) ≡ Some (parts.Place i) }
 {}
 
 /// The numbers by which a rule is told to fail are those of that rule and variable, and the variable breaks the rule.
@@ -32,4 +47,11 @@ pub fn layout_fault_is_told()
     ensures { (h : Header) (file : ℕ) (f : LayoutFault) → Legal h.schema (places_of h.places)
         → (x : HasLayoutFault h file f) → f.kind ≢ LayoutFaultKind.TooLarge
         → IsSome (broken_by h file f.kind x.number) }
+{}
+
+/// The variable of which the first begin field stands at the offset of a layout fault is the one that breaks the rule: no
+/// two begin fields stand at one offset.
+pub fn fault_is_at_its_variable()
+    ensures { (bytes : List ℕ) (limit : ℕ) (h : Header) (file : ℕ) (f : LayoutFault) → Begins bytes limit h
+        → (x : HasLayoutFault h file f) → position (λ p. p.begin_at == f.offset) h.places ≡ Some x.number }
 {}

@@ -8,5 +8,6 @@ mod part;
 mod pieces;
 
 pub use broken::{Broken, broken_by, variable_at};
+pub use extents::{extent_of, records_begin};
 pub use part::{Part, Piece, part_of};
 pub use pieces::pieces_of;

@@ -1,4 +1,4 @@
-//! What several files in one call print, in lines and in brief.
+//! What several files in one call print: in lines, in brief, as objects.
 
 ghost use Rattle.std.specs.Prelude.{◌≤◌, ◌==◌, ◌≡◌, true, length, Some, None, IfOk, if◌then◌else◌};
 ghost use Rattle.ncc_values.specs.Failures.{last_count};
@@ -7,6 +7,7 @@ use ncc_batch::{Form, Shelf, Work, answer_all, names_in};
 use ncc_engines::Answer;
 use ncc_files::{EMPTY, LIMIT, bytes_of};
 use ncc_header::{FuseSink, Seq, WriteSink};
+use ncc_json::Wording;
 use ncc_lines::FloatStyle;
 use ncc_store::MemStore;
 use ncc_values::count_failure;
@@ -93,7 +94,7 @@ impl<'a> Shelf for Two<'a> {
 }
 
 /// What each of three files is asked, and what is printed of them.
-const ROWS: [(Work, Form, Answer, &str); 4] = [
+const ROWS: [(Work, Form, Answer, &str); 6] = [
     (
         Work::Check {
             limit: LIMIT,
@@ -129,6 +130,25 @@ const ROWS: [(Work, Form, Answer, &str); 4] = [
         Form::Brief,
         Answer::Device,
         "1\tfault HeaderTooLong at 28\ta\n1\tfault HeaderTooLong at 28\tbb\n3\terror device\tccc\n1\tfault HeaderTooLong at 28\td\n",
+    ),
+    (
+        Work::Layout {
+            limit: LIMIT,
+            wording: Wording::Words,
+        },
+        Form::Lines,
+        Answer::Device,
+        "a: file 32\na: header 0 32\na: after 0\nbb: fault EndsEarly at 28\nd: file 32\nd: header 0 32\nd: after 0\n",
+    ),
+    (
+        Work::Explain {
+            limit: LIMIT,
+            strict: false,
+            wording: Wording::Members,
+        },
+        Form::Object,
+        Answer::Device,
+        "{\"file\":\"a\",\"status\":0,\"verdict\":\"ok\",\"version\":1,\"records\":0,\"variables\":0,\"notes\":[]}\n{\"file\":\"bb\",\"status\":1,\"verdict\":\"fault\",\"fault\":\"EndsEarly\",\"offset\":28,\"rule\":\"the file ends inside the header [The Format in Detail]\"}\n{\"file\":\"ccc\",\"status\":3,\"verdict\":\"error\",\"error\":\"device\"}\n{\"file\":\"d\",\"status\":0,\"verdict\":\"ok\",\"version\":1,\"records\":0,\"variables\":0,\"notes\":[]}\n",
     ),
 ];
 

@@ -21,7 +21,7 @@ use std::rt::{Clock, Files};
 /// The one file that is named and shown as today, if that is so.
 fn only_file<'a>(names: &'a FileNames, form: Form) -> Option<&'a [u8]> {
     let list = names.names.as_slice();
-    if form == Form::Brief || list.len() != 1 {
+    if form != Form::Lines || list.len() != 1 {
         return None;
     }
     Some(list[0].as_slice())
@@ -50,7 +50,7 @@ fn csv<'a, R: Files<File = File> + Clock + AllocGlobal, O: Write, E: Write>(
     ended
 }
 
-/// Checks or lists one file, and gives the status.
+/// Checks, lays out or lists one file, and gives the status.
 fn answer_one_of<R: Files<File = File> + Clock + AllocGlobal, I: Read, O: Write, E: Write>(
     rt: &R,
     names: &FileNames,
@@ -66,13 +66,15 @@ fn answer_one_of<R: Files<File = File> + Clock + AllocGlobal, I: Read, O: Write,
 {
     let Ended { answer, trouble } = match work {
         _ if names.is_cut => cut_off(name),
-        Work::Check { .. } | Work::Explain { .. } => check(rt, name, work, out),
+        Work::Check { .. } | Work::Explain { .. } | Work::Layout { .. } => {
+            check(rt, name, work, out)
+        }
         Work::List { style, .. } => list(rt, name, style, reads_input, input, out),
     };
     end(answer, trouble, out.reason(), shown.reasons, err)
 }
 
-/// Checks or lists several files, and gives the status.
+/// Checks, lays out or lists several files, and gives the status.
 fn answer_all_of<R: Files<File = File> + Clock + AllocGlobal, O: Write, E: Write>(
     rt: &R,
     names: &FileNames,
@@ -91,7 +93,7 @@ fn answer_all_of<R: Files<File = File> + Clock + AllocGlobal, O: Write, E: Write
     end(answer, None, out.reason(), shown.reasons, err)
 }
 
-/// Runs `check` or `list`, and gives the status.
+/// Runs `check`, `layout` or `list`, and gives the status.
 fn run_files<'a, R: Files<File = File> + Clock + AllocGlobal, I: Read, O: Write, E: Write>(
     rt: &R,
     line: &'a Words,
@@ -172,7 +174,7 @@ pub fn run<R: Files<File = File> + Clock + AllocGlobal, I: Read, O: Write, E: Wr
         let answer = shown(rt.alloc(), FAULTS, &mut out);
         return end(answer, None, out.reason(), terminals.err, err);
     }
-    let Ok(command) = command(rt.alloc()) else {
+    let Ok(command) = command(rt.alloc(), line.texts()) else {
         return finish(Answer::Memory, err);
     };
     match command.try_get_matches_from(line.texts()) {

@@ -73,7 +73,7 @@ pub fn list<'a, R: Files<File = File> + AllocGlobal, I: Read, O: Write>(
     }
 }
 
-/// Checks a file, as the work asks.
+/// Checks a file or lays it out, as the work asks.
 pub fn check<'a, R: Files<File = File> + AllocGlobal, O: Write>(
     rt: &R,
     name: &'a [u8],

@@ -1,0 +1,287 @@
+//! What is told of a file, as the members of an object.
+
+ghost use Rattle.std.specs.Prelude.{◌≡◌, ◌<◌, ◌++◌, ◌==◌, IfOk, OnOk, codes, length, position};
+ghost use Rattle.std.specs.List.{flat_map};
+ghost use Rattle.json.specs.Print.{print};
+ghost use Rattle.ncc_schema.specs.Schema.{Legal, places_of};
+ghost use Rattle.ncc_layout.specs.Sizes.{AreSizes};
+ghost use Rattle.ncc_check.specs.Examining.{HasSizes};
+ghost use Rattle.ncc_check.specs.FromStore.{IsBegun};
+ghost use Rattle.ncc_json.specs.Members.{bytes_member};
+ghost use Rattle.ncc_parts.specs.Breaking.{broken_by};
+ghost use Rattle.ncc_parts.specs.Parts.{ends_from, part_at, parts_of};
+ghost use Rattle.ncc_explain.specs.Likeness.{likeness};
+ghost use Rattle.ncc_explain.specs.Members.{broken_members, broken_part_members, header_fault_members, layout_fault_members, like_members, likeness_members, note_object, note_part_members, ok_members, report_members};
+ghost use Rattle.ncc_explain.specs.Words.{part_words};
+
+use crate::likeness::likeness;
+use crate::members::{put_broken, put_note_numbers, put_variable};
+use crate::parts::push_part;
+use crate::rules::{header_rule, layout_rule, note_rule};
+use json::Writer;
+use ncc_check::{Checked, Note, NoteKind, Report, Unplaced};
+use ncc_header::{Fault, FaultKind, Header, Schema};
+use ncc_json::{put_bytes_member, put_fault, put_list, put_number, put_text};
+use ncc_layout::{LayoutFault, Sizes};
+use ncc_lines::{fault_name, layout_name, note_name};
+use ncc_parts::{Part, Piece, broken_by, part_of, pieces_of, variable_at};
+use std::alloc::{AllocError, Global};
+
+/// Adds the version, and the number of records and of variables.
+#[tactic(auto, unfolding(crate::specs::Members::ok_members))]
+fn put_ok(out: &mut Writer, report: &Report) -> Result<(), AllocError>
+    ensures tokens { OnOk result (out.new.tokens ≡ out.old.tokens ++ ok_members report.now) }
+    ensures before { out.new.before ≡ out.old.before }
+{
+    put_text(out, "verdict", "ok")?;
+    put_number(out, "version", report.version.byte() as u64)?;
+    put_number(out, "records", report.records)?;
+    put_number(out, "variables", report.variables as u64)?;
+    Ok(())
+}
+
+/// Adds a part of the header in words.
+fn put_part(alloc: Global, out: &mut Writer, schema: &Schema, part: Part) -> Result<(), AllocError>
+    ensures tokens { OnOk result (out.new.tokens ≡ out.old.tokens ++ bytes_member (codes "in") (part_words schema.now part)) }
+    ensures before { out.new.before ≡ out.old.before }
+{
+    let mut words = Vec::new(alloc);
+    push_part(&mut words, schema, part)?;
+    put_bytes_member(alloc, out, "in", &words)
+}
+
+/// Adds the part that a note is in, and its numbers.
+fn put_note_part(
+    alloc: Global,
+    out: &mut Writer,
+    header: &Header,
+    sizes: &Sizes,
+    kind: NoteKind,
+    part: Option<Part>,
+) -> Result<(), AllocError>
+    requires { AreSizes header.now.schema sizes.now }
+    ensures tokens { OnOk result (out.new.tokens ≡ out.old.tokens ++ note_part_members header.now kind part) }
+    ensures before { out.new.before ≡ out.old.before }
+{
+    let Some(part) = part else {
+        return Ok(());
+    };
+    put_part(alloc, out, &header.schema, part)?;
+    put_note_numbers(out, header, sizes, kind, part)?;
+    Ok(())
+}
+
+/// The part of the header that an offset is in.
+fn part_with(header: &Header, pieces: &[Piece], offset: u64) -> Option<Part>
+    requires { pieces.now ≡ ends_from 0 (parts_of header.now.schema) }
+    ensures { result ≡ part_at offset (parts_of header.now.schema) }
+{
+    part_of(pieces, offset)
+}
+
+/// Adds a note.
+#[tactic(auto, unfolding(crate::specs::Members::note_object))]
+fn put_note(
+    alloc: Global,
+    out: &mut Writer,
+    header: &Header,
+    sizes: &Sizes,
+    pieces: &[Piece],
+    note: &Note,
+) -> Result<(), AllocError>
+    requires sizes { AreSizes header.now.schema sizes.now }
+    requires pieces { pieces.now ≡ ends_from 0 (parts_of header.now.schema) }
+    ensures tokens { OnOk result (out.new.tokens ≡ out.old.tokens ++ note_object header.now note.now) }
+    ensures before { out.new.before ≡ out.old.before }
+{
+    out.begin_object()?;
+    put_text(out, "note", note_name(note.kind))?;
+    put_number(out, "offset", note.offset)?;
+    put_note_part(
+        alloc,
+        out,
+        header,
+        sizes,
+        note.kind,
+        part_with(header, pieces, note.offset),
+    )?;
+    put_text(out, "rule", note_rule(note.kind))?;
+    out.end_object()?;
+    Ok(())
+}
+
+/// Adds all notes.
+fn put_notes(
+    alloc: Global,
+    out: &mut Writer,
+    header: &Header,
+    sizes: &Sizes,
+    pieces: &[Piece],
+    notes: &[Note],
+) -> Result<(), AllocError>
+    requires sizes { AreSizes header.now.schema sizes.now }
+    requires pieces { pieces.now ≡ ends_from 0 (parts_of header.now.schema) }
+    ensures tokens { OnOk result (out.new.tokens ≡ out.old.tokens ++ flat_map (note_object header.now) notes.now) }
+    ensures before { out.new.before ≡ out.old.before }
+{
+    for note in notes {
+        put_note(alloc, out, header, sizes, pieces, note)?;
+    }
+    Ok(())
+}
+
+/// Adds all that is told of a file that passes.
+#[tactic(auto, unfolding(crate::specs::Members::report_members))]
+fn put_report(alloc: Global, out: &mut Writer, found: &Checked) -> Result<(), AllocError>
+    requires begun { IsBegun found.now.header }
+    requires sizes { AreSizes found.now.header.schema found.now.sizes }
+    ensures tokens { OnOk result (out.new.tokens ≡ out.old.tokens ++ report_members found.now.header found.now.report) }
+    ensures before { out.new.before ≡ out.old.before }
+{
+    let (header, sizes) = (&found.header, &found.sizes);
+    let pieces = pieces_of(alloc, header)?;
+    put_ok(out, &found.report)?;
+    put_list(out, "notes")?;
+    put_notes(
+        alloc,
+        out,
+        header,
+        sizes,
+        &pieces,
+        found.report.notes.as_slice(),
+    )?;
+    out.end_array()?;
+    Ok(())
+}
+
+/// The text of what is told of a file that passes.
+pub fn report_object(alloc: Global, found: &Checked) -> Result<Vec<u8>, AllocError>
+    requires begun { IsBegun found.now.header }
+    requires sizes { AreSizes found.now.header.schema found.now.sizes }
+    ensures { IfOk result (λ v. v.items ≡ print (report_members found.now.header found.now.report)) }
+{
+    let mut out = Writer::new(Vec::new(alloc));
+    put_report(alloc, &mut out, found)?;
+    Ok(out.into_inner())
+}
+
+/// Adds the numbers by which the layout rule fails for a variable, where the sizes are known.
+fn put_broken_by(
+    alloc: Global,
+    out: &mut Writer,
+    header: &Header,
+    sizes: &Option<Sizes>,
+    file_length: u64,
+    fault: LayoutFault,
+    number: usize,
+) -> Result<(), AllocError>
+    requires legal { Legal header.now.schema (places_of header.now.places) }
+    requires sizes { HasSizes header.now fault.kind sizes.now }
+    requires there { number < length header.now.schema.vars }
+    ensures tokens { OnOk result (out.new.tokens ≡ out.old.tokens ++ broken_members header.now.schema (broken_by header.now file_length fault.kind number)) }
+    ensures before { out.new.before ≡ out.old.before }
+{
+    let Some(sizes) = sizes else {
+        return Ok(());
+    };
+    match broken_by(header, sizes, file_length, fault.kind, number) {
+        Some(broken) => put_broken(alloc, out, &header.schema, broken),
+        None => Ok(()),
+    }
+}
+
+/// Adds the variable that has a layout fault, and the numbers of it.
+fn put_broken_part(alloc: Global, out: &mut Writer, found: &Unplaced) -> Result<(), AllocError>
+    requires legal { Legal found.now.header.schema (places_of found.now.header.places) }
+    requires sizes { HasSizes found.now.header found.now.fault.kind found.now.sizes }
+    ensures tokens { OnOk result (out.new.tokens ≡ out.old.tokens ++ broken_part_members found.now.header
+        found.now.file_length found.now.fault
+        (position (λ p. p.begin_at == found.now.fault.offset) found.now.header.places)) }
+    ensures before { out.new.before ≡ out.old.before }
+{
+    let header = &found.header;
+    let Some(number) = variable_at(header.places.as_slice(), found.fault.offset) else {
+        return Ok(());
+    };
+    put_variable(alloc, out, &header.schema, "variable", number)?;
+    put_broken_by(
+        alloc,
+        out,
+        header,
+        &found.sizes,
+        found.file_length,
+        found.fault,
+        number,
+    )
+}
+
+/// Adds all that is told of a file whose layout has a fault.
+#[tactic(auto, unfolding(crate::specs::Members::layout_fault_members))]
+fn put_layout_fault(alloc: Global, out: &mut Writer, found: &Unplaced) -> Result<(), AllocError>
+    requires legal { Legal found.now.header.schema (places_of found.now.header.places) }
+    requires sizes { HasSizes found.now.header found.now.fault.kind found.now.sizes }
+    ensures tokens { OnOk result (out.new.tokens ≡ out.old.tokens ++ layout_fault_members found.now.header found.now.file_length found.now.fault) }
+    ensures before { out.new.before ≡ out.old.before }
+{
+    put_fault(out, layout_name(found.fault.kind), found.fault.offset)?;
+    put_broken_part(alloc, out, found)?;
+    put_text(out, "rule", layout_rule(found.fault.kind))?;
+    Ok(())
+}
+
+/// The text of what is told of a file whose layout has a fault.
+pub fn layout_fault_object(alloc: Global, found: &Unplaced) -> Result<Vec<u8>, AllocError>
+    requires legal { Legal found.now.header.schema (places_of found.now.header.places) }
+    requires sizes { HasSizes found.now.header found.now.fault.kind found.now.sizes }
+    ensures { IfOk result (λ v. v.items
+        ≡ print (layout_fault_members found.now.header found.now.file_length found.now.fault)) }
+{
+    let mut out = Writer::new(Vec::new(alloc));
+    put_layout_fault(alloc, &mut out, found)?;
+    Ok(out.into_inner())
+}
+
+/// Adds what a file looks like that begins with these three bytes, if that is known.
+fn put_like(out: &mut Writer, letters: u64) -> Result<(), AllocError>
+    ensures tokens { OnOk result (out.new.tokens ≡ out.old.tokens ++ like_members (likeness letters)) }
+    ensures before { out.new.before ≡ out.old.before }
+{
+    let words = likeness(letters);
+    if words.is_empty() {
+        return Ok(());
+    }
+    put_text(out, "looks_like", words)
+}
+
+/// Adds the same where these bytes are at fault.
+fn put_likeness(out: &mut Writer, kind: FaultKind, letters: u64) -> Result<(), AllocError>
+    ensures tokens { OnOk result (out.new.tokens ≡ out.old.tokens ++ likeness_members kind letters) }
+    ensures before { out.new.before ≡ out.old.before }
+{
+    match kind {
+        FaultKind::BadMagic => put_like(out, letters),
+        _ => Ok(()),
+    }
+}
+
+/// Adds all that is told of a file whose header has a fault.
+#[tactic(auto, unfolding(crate::specs::Members::header_fault_members))]
+fn put_header_fault(out: &mut Writer, fault: Fault, letters: u64) -> Result<(), AllocError>
+    ensures tokens { OnOk result (out.new.tokens ≡ out.old.tokens ++ header_fault_members letters fault) }
+    ensures before { out.new.before ≡ out.old.before }
+{
+    put_fault(out, fault_name(fault.kind), fault.offset)?;
+    put_likeness(out, fault.kind, letters)?;
+    put_text(out, "rule", header_rule(fault.kind))?;
+    Ok(())
+}
+
+/// The text of what is told of a file whose header has a fault, and that begins with these three bytes, if they are at
+/// fault.
+pub fn header_fault_object(alloc: Global, fault: Fault, letters: u64) -> Result<Vec<u8>, AllocError>
+    ensures { IfOk result (λ v. v.items ≡ print (header_fault_members letters fault)) }
+{
+    let mut out = Writer::new(Vec::new(alloc));
+    put_header_fault(&mut out, fault, letters)?;
+    Ok(out.into_inner())
+}

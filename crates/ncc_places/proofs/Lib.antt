@@ -1,0 +1,3 @@
+mod Ordered
+mod Ending
+mod OneLayout
