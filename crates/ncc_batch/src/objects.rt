@@ -137,7 +137,9 @@ fn send_file<W: Sink>(path: &[u8], sink: &mut W) -> Result<(), Failed>
 
 /// Sends the status and the members of an object.
 fn send_answer<W: Sink>(answer: Answer, text: &[u8], sink: &mut W) -> Result<(), Failed>
-    ensures bytes { WritesAll (W.put sink.old) (W.put sink.new) result ((codes ",\"status\":" ++ status_text answer) ++ (codes "," ++ (members_of answer text.now ++ codes "}\n"))) }
+    ensures bytes { WritesAll (W.put sink.old) (W.put sink.new) result
+        ((codes ",\"status\":" ++ status_text answer)
+        ++ (codes "," ++ (members_of answer text.now ++ codes "}\n"))) }
     ensures count { Counts (W.failures sink.old) (W.failures sink.new) result }
 {
     send_two(b",\"status\":", digit(answer), sink)?;

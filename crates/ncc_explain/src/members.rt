@@ -108,7 +108,8 @@ fn put_overlap(
     other: usize,
     end: u128,
 ) -> Result<(), AllocError>
-    ensures tokens { OnOk result (out.new.tokens ≡ out.old.tokens ++ broken_numbers schema.now (Broken.Overlap begin other end)) }
+    ensures tokens { OnOk result
+        (out.new.tokens ≡ out.old.tokens ++ broken_numbers schema.now (Broken.Overlap begin other end)) }
     ensures before { out.new.before ≡ out.old.before }
 {
     put_number(out, "begin", begin)?;

@@ -42,7 +42,8 @@ fn put_ok(out: &mut Writer, report: &Report) -> Result<(), AllocError>
 
 /// Adds a part of the header in words.
 fn put_part(alloc: Global, out: &mut Writer, schema: &Schema, part: Part) -> Result<(), AllocError>
-    ensures tokens { OnOk result (out.new.tokens ≡ out.old.tokens ++ bytes_member (codes "in") (part_words schema.now part)) }
+    ensures tokens { OnOk result
+        (out.new.tokens ≡ out.old.tokens ++ bytes_member (codes "in") (part_words schema.now part)) }
     ensures before { out.new.before ≡ out.old.before }
 {
     let mut words = Vec::new(alloc);
@@ -130,6 +131,29 @@ fn put_notes(
     Ok(())
 }
 
+/// Adds the notes of a file that passes. Without any, its parts aren't looked for.
+fn put_noted(alloc: Global, out: &mut Writer, found: &Checked) -> Result<(), AllocError>
+    requires begun { IsBegun found.now.header }
+    requires sizes { AreSizes found.now.header.schema found.now.sizes }
+    ensures tokens { OnOk result
+        (out.new.tokens ≡ out.old.tokens ++ flat_map (note_object found.now.header) found.now.report.notes) }
+    ensures before { out.new.before ≡ out.old.before }
+{
+    if found.report.notes.is_empty() {
+        return Ok(());
+    }
+    let (header, sizes) = (&found.header, &found.sizes);
+    let pieces = pieces_of(alloc, header)?;
+    put_notes(
+        alloc,
+        out,
+        header,
+        sizes,
+        &pieces,
+        found.report.notes.as_slice(),
+    )
+}
+
 /// Adds all that is told of a file that passes.
 #[tactic(auto, unfolding(crate::specs::Members::report_members))]
 fn put_report(alloc: Global, out: &mut Writer, found: &Checked) -> Result<(), AllocError>
@@ -138,18 +162,9 @@ fn put_report(alloc: Global, out: &mut Writer, found: &Checked) -> Result<(), Al
     ensures tokens { OnOk result (out.new.tokens ≡ out.old.tokens ++ report_members found.now.header found.now.report) }
     ensures before { out.new.before ≡ out.old.before }
 {
-    let (header, sizes) = (&found.header, &found.sizes);
-    let pieces = pieces_of(alloc, header)?;
     put_ok(out, &found.report)?;
     put_list(out, "notes")?;
-    put_notes(
-        alloc,
-        out,
-        header,
-        sizes,
-        &pieces,
-        found.report.notes.as_slice(),
-    )?;
+    put_noted(alloc, out, found)?;
     out.end_array()?;
     Ok(())
 }
@@ -178,7 +193,9 @@ fn put_broken_by(
     requires legal { Legal header.now.schema (places_of header.now.places) }
     requires sizes { HasSizes header.now fault.kind sizes.now }
     requires there { number < length header.now.schema.vars }
-    ensures tokens { OnOk result (out.new.tokens ≡ out.old.tokens ++ broken_members header.now.schema (broken_by header.now file_length fault.kind number)) }
+    ensures tokens { OnOk result
+        (out.new.tokens ≡ out.old.tokens ++ broken_members header.now.schema
+        (broken_by header.now file_length fault.kind number)) }
     ensures before { out.new.before ≡ out.old.before }
 {
     let Some(sizes) = sizes else {
@@ -220,7 +237,9 @@ fn put_broken_part(alloc: Global, out: &mut Writer, found: &Unplaced) -> Result<
 fn put_layout_fault(alloc: Global, out: &mut Writer, found: &Unplaced) -> Result<(), AllocError>
     requires legal { Legal found.now.header.schema (places_of found.now.header.places) }
     requires sizes { HasSizes found.now.header found.now.fault.kind found.now.sizes }
-    ensures tokens { OnOk result (out.new.tokens ≡ out.old.tokens ++ layout_fault_members found.now.header found.now.file_length found.now.fault) }
+    ensures tokens { OnOk result
+        (out.new.tokens ≡ out.old.tokens
+        ++ layout_fault_members found.now.header found.now.file_length found.now.fault) }
     ensures before { out.new.before ≡ out.old.before }
 {
     put_fault(out, layout_name(found.fault.kind), found.fault.offset)?;

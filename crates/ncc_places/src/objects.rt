@@ -90,7 +90,8 @@ fn put_objects(
     header_length: u64,
     extents: &[Extent],
 ) -> Result<(), AllocError>
-    ensures tokens { OnOk result (out.new.tokens ≡ out.old.tokens ++ variable_objects schema.now header_length extents.now) }
+    ensures tokens { OnOk result
+        (out.new.tokens ≡ out.old.tokens ++ variable_objects schema.now header_length extents.now) }
     ensures before { out.new.before ≡ out.old.before }
 {
     let mut past = header_length as u128;
@@ -110,7 +111,8 @@ pub fn put_variables(
     header_length: u64,
     extents: &[Extent],
 ) -> Result<(), AllocError>
-    ensures tokens { OnOk result (out.new.tokens ≡ out.old.tokens ++ variables_member schema.now header_length extents.now) }
+    ensures tokens { OnOk result
+        (out.new.tokens ≡ out.old.tokens ++ variables_member schema.now header_length extents.now) }
     ensures before { out.new.before ≡ out.old.before }
 {
     put_list(out, "variables")?;
