@@ -2,7 +2,7 @@
 """Times the Python package beside SciPy and netCDF4: `bench/python.py [--mib 512] [--turns 7] [NAME]...`.
 
 Run it by a Python that has the package installed from its wheel, numpy, SciPy and netCDF4; for the last row also Dask's
-distributed. It makes its files in bench/made/python, about 1.1 GiB. The package and its peer take turns in one process,
+distributed. It makes its files in bench/made/python, about 1.5 GiB. The package and its peer take turns in one process,
 with the files in the system's cache. A row has the least seconds of all turns, those of the peer, and their ratio; the
 aim is one of the ratio, or in seconds where there is no peer. What takes microseconds is done 200 times in a turn.
 """
@@ -16,6 +16,7 @@ import sys
 import time
 from collections.abc import Callable
 from pathlib import Path
+from typing import Any
 
 import netCDF4
 import numpy as np
@@ -62,6 +63,21 @@ def make_many(folder: Path) -> list[str]:
         if not path.exists():
             path.parent.mkdir(parents=True, exist_ok=True)
             shutil.copyfile(examples[k % len(examples)], path)
+    return [str(path) for path in paths]
+
+
+def make_usual(folder: Path) -> list[str]:
+    """10,000 files with headers of 24 KiB: 30 variables of 12 attributes, as files of a climate archive have."""
+    texts = [b"standard_name", b"long_name", b"units", b"cell_methods", b"comment", b"history", b"coordinates", b"grid"]
+    attrs = [(name, 2, b"a few words about a variable of a model") for name in texts]
+    attrs += [(name, 5, bytes(4)) for name in (b"_FillValue", b"missing_value", b"scale_factor", b"add_offset")]
+    dims = [(b"time", 0), (b"lat", 4), (b"lon", 8)]
+    made = make(2, dims, [], [(b"variable_%02d" % k, [0, 1, 2], attrs, 5) for k in range(30)], 1)
+    paths = [folder / str(k // 500) / f"{k}.nc" for k in range(10_000)]
+    for path in paths:
+        if not path.exists():
+            path.parent.mkdir(parents=True, exist_ok=True)
+            path.write_bytes(made.header + bytes(made.length - len(made.header)))
     return [str(path) for path in paths]
 
 
@@ -113,20 +129,34 @@ def header_rows() -> dict[str, tuple[list[Run], float, str]]:
     return {"header": ([lambda: ncc.open(path).close(), lambda: netCDF4.Dataset(path).close()], 0.1, NETCDF4)}
 
 
-def many_rows(paths: list[str], names: list[str]) -> dict[str, tuple[list[Run], float, str]]:
-    """10,000 files."""
-    rows: dict[str, tuple[list[Run], float, str]] = {"many": ([lambda: list(ncc.archive(paths))], 1.5, "10,000 files")}
-    if names and "many-dask" not in names:
-        return rows
+def many_rows(names: list[str]) -> dict[str, tuple[list[Run], float, str]]:
+    """10,000 files: small ones, and ones with headers of the usual length; by one process and by Dask."""
+    kinds: dict[str, Callable[[Path], list[str]]] = {"many": make_many, "usual": make_usual}
+    rows: dict[str, tuple[list[Run], float, str]] = {}
+    client = None
+    for kind, made in kinds.items():
+        if names and not {kind, f"{kind}-dask"} & set(names):
+            continue
+        paths = made(MADE / kind)
+        rows[kind] = ([lambda paths=paths: list(ncc.archive(paths))], 1.5 if kind == "many" else 0, "10,000 files")
+        if names and f"{kind}-dask" not in names:
+            continue
+        client = client or started()
+        if client:
+            share = paths[: len(paths) // WORKERS]
+            runs = [lambda paths=paths: list(ncc.archive(paths, client)), lambda share=share: list(ncc.archive(share))]
+            rows[f"{kind}-dask"] = (runs, 1.3, f"a share of 1 in {WORKERS}, here")
+    return rows
+
+
+def started() -> Any:
+    """A client with workers; None where there is no Dask."""
     try:
         from dask.distributed import Client
     except ImportError:
-        print("many-dask isn't run: there is no distributed")
-        return rows
-    client = Client(n_workers=WORKERS, threads_per_worker=1, dashboard_address=None)
-    shares = [lambda: list(ncc.archive(paths, client)), lambda: list(ncc.archive(paths[: len(paths) // WORKERS]))]
-    rows["many-dask"] = (shares, 1.3, f"a share of 1 in {WORKERS}, here")
-    return rows
+        print("Dask isn't run: there is no distributed")
+        return None
+    return Client(n_workers=WORKERS, threads_per_worker=1, dashboard_address=None)
 
 
 def show(name: str, row: tuple[list[Run], float, str], turns: int) -> None:
@@ -152,10 +182,9 @@ def main() -> None:
             make_grid(path, words.mib, kind == "records")
     if not (MADE / "header.nc").exists():
         make_header(MADE / "header.nc")
-    paths = make_many(MADE / "many")
     print(f"ncc of {ncc.commit()}; least of {words.turns} turns; seconds: ncc, peer, ratio", os.uname().machine)
     rows = {**small_rows(), **grid_rows("fixed"), **grid_rows("records"), **header_rows()}
-    rows.update(many_rows(paths, words.name))
+    rows.update(many_rows(words.name))
     for name, row in rows.items():
         if not words.name or name in words.name:
             show(name, row, words.turns)

@@ -1,9 +1,11 @@
 #!/usr/bin/env bash
 # All tests: what ncc.h has beside the crate (scripts/c_header.py); the gate `rt ci` (every proof from nothing, the
 # must-fail edits, the unit tests, the program's own run); then the program that it built (scripts/rows.py over
-# tests/*.rows, and scripts/test_program.sh), the examples of the pages (scripts/pages.sh), and what the programs take
-# (bench/count). Where `rt lib` has left the library for C, its examples (scripts/c_library.sh) and the Python package
-# (scripts/python.sh) follow. The last line is `N passed, M failed` of all.
+# tests/*.rows, and scripts/test_program.sh), the examples of the pages (scripts/pages.sh), whether the manual has the
+# options and faults that the program has (packaging/man.py), and what the programs take (bench/count). Where `rt lib`
+# has left the library for C, its examples (scripts/c_library.sh) and the Python package (scripts/python.sh) follow. The
+# last line is `N passed, M failed` of all. If nothing failed and the tree has no changes that aren't committed,
+# target/gate.txt says of which tree and kit that is: scripts/package.sh asks for it.
 set -uo pipefail
 top=$(cd "$(dirname "$0")/.." && pwd)
 log=$(mktemp)
@@ -41,12 +43,21 @@ part() {
   fi
 }
 
+# Notes that all of this tree passed, if it is the tree of a commit.
+note_tree() {
+  if [ -n "$(git status --porcelain 2>&1)" ]; then return; fi
+  mkdir -p target
+  printf '%s\n' "tree $(git rev-parse 'HEAD^{tree}')" "kit $(rt version)" "result $passed passed, $failed failed" > target/gate.txt
+}
+
 cd "$top" || exit 1
+rm -f target/gate.txt
 part scripts/c_header.py
 part rt ci
 part scripts/rows.py crates/ncc_cli/out/ncc_cli
 part scripts/test_program.sh crates/ncc_cli/out/ncc_cli
 part scripts/pages.sh crates/ncc_cli/out/ncc_cli
+part packaging/man.py --compare crates/ncc_cli/out/ncc_cli
 part bench/count
 if [ -f crates/ncc_c/out/libncc_c.a ]; then
   part scripts/c_library.sh
@@ -54,5 +65,6 @@ if [ -f crates/ncc_c/out/libncc_c.a ]; then
 else
   echo 'test.sh: crates/ncc_c/out/libncc_c.a is not there (rt lib makes it): the examples in C and Python are not run'
 fi
+if [ "$status" = 0 ] && [ "$failed" = 0 ]; then note_tree; fi
 echo "$passed passed, $failed failed"
 [ "$status" = 0 ] && [ "$failed" = 0 ]

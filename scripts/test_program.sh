@@ -86,7 +86,8 @@ rows=$(printf 'status 0\ndim,vx\n0,3\n1,1\n2,4\n3,1\n4,5\n')
 count "csv in 32 megabytes" "$rows" "$(ulimit -v 32000 && seen csv tiny.nc vx)"
 expect "a header of the given limit" 0 "ok CDF-1 records 0 variables 0" "" check --max-header 32 empty.nc
 expect "a header past the given limit" 1 "fault HeaderTooLong at 28" "" check --max-header 31 empty.nc
-expect "version" 0 "ncc 0.1.0" "" --version
+source="ncc 0.1.0 (built from source: neither its commit nor the kit's logic is told here.)"
+expect "version" 0 "$source" "" --version
 expect "a limit behind a sign" 1 "fault HeaderTooLong at 28" "" check --max-header=31 --strict empty.nc
 expect "the greatest limit" 0 "ok CDF-1 records 0 variables 0" "" check --max-header 18446744073709551615 empty.nc
 # Its vsize isn't 12.

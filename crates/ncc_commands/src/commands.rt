@@ -1,5 +1,6 @@
 //! The command line: its words, and what help says of them.
 
+use crate::version::VERSION;
 use clap::{Arg, ArgAction, Command, value_parser};
 use std::alloc::{AllocError, Global};
 
@@ -375,7 +376,7 @@ fn with_all<'a>(alloc: Global, ncc: Command<'a>) -> Result<Command<'a>, AllocErr
 pub fn command<'a>(alloc: Global, line: &[String]) -> Result<Command<'a>, AllocError> {
     let ncc = Command::new(alloc, "ncc")
         .bin_name("ncc")?
-        .version("0.1.0")
+        .version(VERSION)
         .about("Checks, lists, reads, extends and converts netCDF classic files")
         .after_help(STATUSES)
         .subcommand_required(true)

@@ -6,6 +6,7 @@ mod faults;
 mod given;
 mod picking;
 mod task;
+mod version;
 mod words;
 
 pub use commands::{LIMIT, command};
