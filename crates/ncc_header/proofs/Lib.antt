@@ -25,3 +25,4 @@ mod Expecting
 mod Deciding
 mod Answering
 mod FromSource
+mod Nowhere

@@ -33,9 +33,9 @@ use Rattle.ncc_header.specs.Fields.{attr, attrs, dim, dimid, list, list_nelems, 
 use Rattle.ncc_header.specs.Grammar.{Grammar, ◌>>=◌, repeat}
 use Rattle.ncc_header.specs.Left.{Given, ended, from_attr_count, from_attr_padding, from_attr_type, from_begin, from_count, from_dims_of_var, from_dimids, from_length, from_rank, from_type, from_values, from_version, from_vsize, in_attr, in_dim, in_var, left_of, schema_of, var_list, var_of, with_attrs, with_dims, with_name}
 use Rattle.ncc_header.specs.Steps.{size_of}
-use Rattle.ncc_parts.specs.declared.part.Part.{Part}
-use Rattle.ncc_parts.specs.declared.part.Part.TheVariants as parts
-use Rattle.ncc_parts.specs.Awaited.{attr_part, list_part, named_part, next_part, var_number}
+use Rattle.ncc_header.specs.declared.part.Part.{Part}
+use Rattle.ncc_header.specs.declared.part.Part.TheVariants as parts
+use Rattle.ncc_header.specs.Awaited.{attr_part, list_part, named_part, next_part, var_number}
 use Rattle.ncc_parts.proofs.Remaining.{AllVars, HasDims, ThisVar, rest_of_all_vars, rest_of_dims, rest_of_var, rest_of_var_list}
 use Rattle.ncc_parts.proofs.Runs.{AllItems, HasFirstDims, HasName, IsVar, MoreItems, Runs, fields_size, in_all, in_attr as run_attr, in_attrs, in_dim as run_dim, in_dimids, in_items, in_list, in_name, in_rank, in_type, in_vsize, join, length-canon_name, weaken}
 use Rattle.ncc_parts.proofs.Within.{Within, whole, within_attr, within_attr_list, within_dim, within_dim_list, within_global, within_global_list, within_magic, within_numrecs, within_place, within_var, within_var_list}

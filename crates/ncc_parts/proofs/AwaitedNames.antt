@@ -21,7 +21,7 @@ use Rattle.ncc_header.specs.declared.built.Owner.TheVariants as owners
 use Rattle.ncc_header.specs.Fields.{attr, attrs, dim, dimid, list_nelems, name}
 use Rattle.ncc_header.specs.Grammar.{Grammar, done, field, ◌>>=◌, repeat}
 use Rattle.ncc_header.specs.Left.{from_attr_count, from_attr_padding, from_attr_type, from_begin, from_dims_of_var, from_dimids, from_length, from_rank, from_type, from_values, from_vsize, in_attr, in_dim, in_var, left_of, var_list, var_of, with_attrs, with_dims, with_name}
-use Rattle.ncc_parts.specs.Awaited.{AreNamesOf, attr_names, names_around, named_names, next_names, var_names, var_number}
+use Rattle.ncc_header.specs.Awaited.{AreNamesOf, attr_names, names_around, named_names, next_names, var_names, var_number}
 use Rattle.ncc_parts.proofs.Remaining.{AllVars, HasDims, ThisVar, rest_of_dims, rest_of_var, rest_of_var_list}
 use Rattle.ncc_parts.proofs.Runs.{HasFirstDims, HasName, IsVar, MoreItems, Runs, in_attr as run_attr, in_dim as run_dim, in_dimids, in_items, in_rank, in_type, join, weaken}
 

@@ -18,8 +18,8 @@ use Rattle.ncc_schema.specs.Schema.{Place}
 use Rattle.ncc_schema.specs.Header.{nc_dimension, nc_attribute, nc_variable, counted, canon_name, canon_head, canon_dim, canon_attr, canon_dimids}
 use Rattle.ncc_schema.specs.Names.{HasName, attr_in, attrs_in, before, canon_unplaced, first_attrs, list_size, name_at, no_place, var_at}
 use Rattle.ncc_schema.proofs.Sizes.{before-placed, length-canon_attr, length-canon_dim, length-canon_head, length-canon_list, length-canon_var}
-use Rattle.ncc_parts.specs.declared.part.Part.{Part}
-use Rattle.ncc_parts.specs.declared.part.Part.TheVariants as parts
+use Rattle.ncc_header.specs.declared.part.Part.{Part}
+use Rattle.ncc_header.specs.declared.part.Part.TheVariants as parts
 use Rattle.ncc_parts.specs.Parts.{attrs_from, bytes_named, dims_from, globals_from, magic_bytes, part_at, part_named, parts_of, place_fields, var_parts, vars_from}
 use Rattle.ncc_parts.proofs.Spelling.{attrs_spell, dims_spell, globals_spell, spelling, var_spells}
 

@@ -15,7 +15,7 @@ use Rattle.ncc_header.specs.Standing.{HasTaken}
 use Rattle.ncc_header.specs.Steps.{size_of}
 use Rattle.ncc_header.proofs.GrammarLaws.{spelled-is_read}
 use Rattle.ncc_header.proofs.HeaderLaws.{fields_spell, length_is_canonical}
-use Rattle.ncc_parts.specs.Awaited.{AreNamesOf, next_names, next_part}
+use Rattle.ncc_header.specs.Awaited.{AreNamesOf, next_names, next_part}
 use Rattle.ncc_parts.specs.Parts.{part_at, parts_of}
 use Rattle.ncc_parts.proofs.Awaited.{InPart, located}
 use Rattle.ncc_parts.proofs.AwaitedNames.{names_known}

@@ -14,8 +14,8 @@ use Rattle.ncc_schema.specs.declared.schema.Var.{Var}
 use Rattle.ncc_schema.specs.Header.{nc_dimension, nc_attribute, nc_variable, counted, canon_name, canon_head, canon_dim, canon_attr, canon_dimids}
 use Rattle.ncc_schema.specs.Names.{attrs_in, before, canon_unplaced, gatts_at, header_length, list_size, name_at, no_place, unplaced, var_at, vars_at}
 use Rattle.ncc_schema.proofs.Sizes.{before-placed, length-canon, length-canon_head, length-canon_list, length-canon_var}
-use Rattle.ncc_parts.specs.declared.part.Part.{Part}
-use Rattle.ncc_parts.specs.declared.part.Part.TheVariants as parts
+use Rattle.ncc_header.specs.declared.part.Part.{Part}
+use Rattle.ncc_header.specs.declared.part.Part.TheVariants as parts
 use Rattle.ncc_parts.specs.Parts.{attrs_from, dims_from, globals_from, magic_bytes, part_at, parts_of, place_fields, vars_from}
 use Rattle.ncc_parts.proofs.Labels.{at_attr, at_place, from_var, globals_part, here, labelled, past, past_all, to_dims, to_globals, to_var_of_all, to_vars, var_rest, vars_part}
 use Rattle.ncc_parts.proofs.Runs.{behind_dims, fields_size}

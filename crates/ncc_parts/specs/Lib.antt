@@ -1,3 +1,2 @@
 pub mod Parts
 pub mod Breaking
-pub mod Awaited
