@@ -11,3 +11,4 @@ mod Remaining
 mod Awaited
 mod AwaitedNames
 mod NextPart
+mod ToldStanding

@@ -3,6 +3,8 @@
 ghost use Rattle.std.specs.Prelude.{◌≡◌, ℕ, List};
 ghost use Rattle.ncc_parts.specs.Parts.{ends_from, part_at};
 
+use ncc_header::Part;
+
 /// A part, and the offset of the first byte after it.
 #[derive(Clone, Copy, Debug, PartialEq, Eq)]
 pub struct Piece {
