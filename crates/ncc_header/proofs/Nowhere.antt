@@ -1,5 +1,5 @@
 -- Where no part is told no field is left.
-use Rattle.std.proofs.Common.{◌≡◌, Option, None, refl}
+use Rattle.std.proofs.Common.{◌≡◌, None, refl}
 use Rattle.ncc_header.specs.declared.built.Built.{Built}
 use Rattle.ncc_header.specs.declared.built.Next.{Next}
 use Rattle.ncc_header.specs.declared.built.Next.TheVariants as nexts

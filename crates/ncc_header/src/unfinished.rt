@@ -17,6 +17,7 @@ pub struct Unfinished {
     pub owner: Option<Name>,
 }
 
+/// An attribute, the next one of the list that has begun.
 fn attr_part(owner: Owner, lists: &Lists) -> Part
     ensures { result ≡ attr_part owner lists.now }
 {
@@ -26,6 +27,7 @@ fn attr_part(owner: Owner, lists: &Lists) -> Part
     }
 }
 
+/// The head of a list of attributes.
 fn list_part(owner: Owner, lists: &Lists) -> Part
     ensures { result ≡ list_part owner lists.now }
 {
@@ -35,6 +37,7 @@ fn list_part(owner: Owner, lists: &Lists) -> Part
     }
 }
 
+/// What a name is of.
 fn named_part(named: Named, lists: &Lists) -> Part
     ensures { result ≡ named_part named lists.now }
 {

@@ -8,13 +8,12 @@ use Rattle.ncc_header.specs.declared.built.Next.{Next}
 use Rattle.ncc_header.specs.declared.built.Next.TheVariants as nexts
 use Rattle.ncc_header.specs.declared.built.Owner.TheVariants as owners
 use Rattle.ncc_header.specs.declared.part.Part.{Part}
-use Rattle.ncc_header.specs.declared.reading.Reading.{Reading}
 use Rattle.ncc_header.specs.declared.standing.Standing.{Standing}
 use Rattle.ncc_header.specs.declared.standing.Standing.TheVariants as standings
 use Rattle.ncc_header.specs.declared.unfinished.Unfinished.{Unfinished}
 use Rattle.ncc_header.specs.Answers.{Begins}
 use Rattle.ncc_header.specs.Awaited.{AreNamesOf, names_told, next_names, next_part, unfinished_at, unfinished_in, unfinished_of}
-use Rattle.ncc_header.specs.Standing.{HasTaken, TookAt, limit_at}
+use Rattle.ncc_header.specs.Standing.{TookAt, limit_at}
 use Rattle.ncc_parts.specs.Parts.{part_at, parts_of}
 use Rattle.ncc_parts.proofs.NextPart.{in_next_part, names_of_next}
 

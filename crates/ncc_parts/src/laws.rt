@@ -1,6 +1,6 @@
 //! Laws of the parts of a header, each the contract of a function that does nothing.
 
-ghost use Rattle.std.specs.Prelude.{◌≡◌, ◌≢◌, ◌+◌, ◌-◌, ◌<◌, ◌≤◌, ◌==◌, ◌++◌, ℕ, suc, IsSome, List, Some, length, position};
+ghost use Rattle.std.specs.Prelude.{◌≡◌, ◌≢◌, ◌+◌, ◌-◌, ◌<◌, ◌≤◌, ◌==◌, ℕ, suc, IsSome, List, Some, length, position};
 ghost use Rattle.std.specs.List.{flat_map};
 ghost use Rattle.ncc_values.specs.Version.{count_width_of, offset_width_of};
 ghost use Rattle.ncc_schema.specs.declared.schema.Schema.{Schema};
@@ -9,16 +9,13 @@ ghost use Rattle.ncc_schema.specs.Header.{canon};
 ghost use Rattle.ncc_schema.specs.declared.names.NameOf.{NameOf};
 ghost use Rattle.ncc_schema.specs.Names.{HasName, name_at, unplaced, var_at};
 ghost use Rattle.ncc_schema.specs.Schema.{Legal, Place, places_of};
-ghost use Rattle.ncc_header.specs.declared.reading.Reading.{Reading};
 ghost use Rattle.ncc_header.specs.Answers.{Begins};
-ghost use Rattle.ncc_header.specs.Standing.{HasTaken};
 ghost use Rattle.ncc_layout.specs.declared.fault.LayoutFault.{LayoutFault};
 ghost use Rattle.ncc_layout.specs.declared.fault.LayoutFaultKind.{LayoutFaultKind};
 ghost use Rattle.ncc_check.specs.Faults.{HasLayoutFault};
 ghost use Rattle.ncc_parts.specs.declared.broken.Broken.{Broken};
 ghost use Rattle.ncc_parts.specs.Breaking.{Breaks, Keeps, broken_by, kind_of};
 ghost use Rattle.ncc_header.specs.declared.part.Part.TheVariants as parts;
-ghost use Rattle.ncc_header.specs.Awaited.{AreNamesOf, next_names, next_part};
 ghost use Rattle.ncc_parts.specs.Parts.{bytes_named, part_at, part_named, parts_of};
 
 /// The bytes of the parts, one after the other, are the canonical header, so that each byte of it is in one of them.
@@ -57,13 +54,4 @@ pub fn layout_fault_is_told()
 pub fn fault_is_at_its_variable()
     ensures { (bytes : List ℕ) (limit : ℕ) (h : Header) (file : ℕ) (f : LayoutFault) → Begins bytes limit h
         → (x : HasLayoutFault h file f) → position (λ p. p.begin_at == f.offset) h.places ≡ Some x.number }
-{}
-
-/// The byte that a decoder takes next is in the part that is told of where it stands, and the names that are known there
-/// are the names, in every header that begins with the bytes that it took.
-pub fn next_field_is_in_its_part()
-    ensures part { (r : Reading) (taken more : List ℕ) (h : Header) → HasTaken r taken → Begins (taken ++ more) r.limit h
-        → length taken < h.length → part_at (length taken) (parts_of h.schema) ≡ next_part r.next r.built.lists }
-    ensures names { (r : Reading) (taken more : List ℕ) (h : Header) → HasTaken r taken → Begins (taken ++ more) r.limit h
-        → AreNamesOf h.schema (next_names r.next r.built) }
 {}

@@ -1,4 +1,4 @@
-use Rattle.std.proofs.Common.{◌≡◌, ℕ, List, length, Some, sym, subst}
+use Rattle.std.proofs.Common.{◌≡◌, length, Some, sym, subst}
 use Rattle.std.specs.Prelude.{IfSome}
 use Rattle.ncc_header.specs.Awaited.{AreNamesOf, names_told}
 use Rattle.ncc_parts.specs.Parts.{part_at, parts_of}

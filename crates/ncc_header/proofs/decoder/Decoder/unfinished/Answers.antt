@@ -1,4 +1,4 @@
-use Rattle.std.proofs.Common.{◌≡◌, ℕ, None, sym, ap, subst, ◌∙◌, inl}
+use Rattle.std.proofs.Common.{◌≡◌, None, sym, ap, subst, ◌∙◌, inl}
 use Rattle.ncc_header.specs.declared.reading.Reading.{Reading}
 use Rattle.ncc_header.specs.Awaited.{unfinished_of}
 use Rattle.ncc_header.specs.declared.fault.HeaderError.TheVariants as errors
