@@ -24,8 +24,8 @@ use Rattle.ncc_lines.specs.Texts.{begin_of, fault_word}
 use Rattle.ncc_lines.specs.Verdicts.{layout_word, note_word}
 use Rattle.ncc_parts.specs.declared.broken.Broken.{Broken}
 use Rattle.ncc_parts.specs.declared.broken.Broken.TheVariants.{InHeader, Overlap, RecordWindow, FixedAfterRecords, Truncated}
-use Rattle.ncc_parts.specs.declared.part.Part.{Part}
-use Rattle.ncc_parts.specs.declared.part.Part.TheVariants as parts
+use Rattle.ncc_header.specs.declared.part.Part.{Part}
+use Rattle.ncc_header.specs.declared.part.Part.TheVariants as parts
 use Rattle.ncc_parts.specs.Breaking.{broken_by}
 use Rattle.ncc_parts.specs.Parts.{part_at, parts_of}
 use Rattle.ncc_explain.specs.Likeness.{likeness}

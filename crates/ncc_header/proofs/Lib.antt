@@ -1,4 +1,4 @@
-mod GrammarLaws
+pub mod GrammarLaws
 mod FieldsLaws
 mod Exact
 mod Judgements
@@ -7,7 +7,7 @@ mod RulesOfDims
 mod RulesOfVars
 mod Rules
 mod BeginFields
-mod HeaderLaws
+pub mod HeaderLaws
 mod Recounting
 mod Unmarked
 mod CanonicalMarks
@@ -25,3 +25,4 @@ mod Expecting
 mod Deciding
 mod Answering
 mod FromSource
+mod Nowhere

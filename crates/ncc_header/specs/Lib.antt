@@ -10,3 +10,4 @@ pub mod Passing
 pub mod Standing
 pub mod Decoder
 pub mod FromSource
+pub mod Awaited

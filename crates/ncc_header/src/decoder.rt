@@ -1,6 +1,6 @@
 //! A decoder that takes a header in pieces.
 
-ghost use Rattle.std.specs.Prelude.{◌≡◌, ◌≤◌, ◌<◌, ◌+◌, ◌++◌, ℕ, List, [], length, take, is_none, Ok, Err, IfOk, IfErr};
+ghost use Rattle.std.specs.Prelude.{◌≡◌, ◌≤◌, ◌<◌, ◌+◌, ◌++◌, ℕ, List, [], length, take, is_none, None, Ok, Err, IfOk, IfErr};
 ghost use Rattle.ncc_header.specs.declared.fault.Fault.{Fault as TheFault};
 ghost use Rattle.ncc_header.specs.declared.fault.HeaderError.{HeaderError as TheError};
 ghost use Rattle.ncc_header.specs.declared.standing.Fed.TheVariants as TheFed;
@@ -15,6 +15,7 @@ use crate::fault::HeaderError;
 use crate::reading::Reading;
 use crate::standing::{Fed, Standing};
 use crate::taking::take;
+use crate::unfinished::{Unfinished, where_next};
 use ncc_schema::Header;
 use std::alloc::Global;
 
@@ -70,6 +71,7 @@ fn advance(alloc: Global, standing: &mut Standing, piece: &[u8]) -> Result<Fed, 
 }
 
 impl Decoder {
+    ghost use Rattle.ncc_header.specs.Awaited.{unfinished_at};
     ghost use Rattle.ncc_header.specs.Decoder.{Took, HasFailed, limit_of, expects_at};
 
     /// A decoder of headers of at most `limit` bytes.
@@ -156,6 +158,19 @@ impl Decoder {
         match self.standing {
             Standing::Reading(reading) => reading.finish(),
             Standing::Failed(_, error) => Err(error),
+        }
+    }
+
+    /// Where in a header the next field is, and the names that are known there; none where the header is whole or has
+    /// a fault that stays, and after want of memory.
+    pub fn unfinished(self) -> Option<Unfinished>
+        ensures exact { result ≡ unfinished_at self.standing }
+        ensures settled { (taken : List ℕ) → Took self taken → ¬ HasFailed self HeaderError.Memory → result ≡ None
+            → IsSettled taken (limit_of self) }
+    {
+        match self.standing {
+            Standing::Reading(reading) => where_next(reading.next, reading.built),
+            Standing::Failed(_, _) => None,
         }
     }
 }

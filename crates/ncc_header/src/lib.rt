@@ -14,12 +14,14 @@ mod judge;
 pub mod laws;
 mod least;
 mod names;
+mod part;
 mod passing;
 mod reading;
 mod standing;
 mod start;
 mod step;
 mod taking;
+mod unfinished;
 mod vars;
 mod whole_attr;
 mod whole_dim;
@@ -35,4 +37,6 @@ pub use ncc_schema::{
     limit_of_offsets, name_at, sound, streaming_mark, var_size, vars_start, write_all,
 };
 pub use ncc_values::{Few, Name, Seq, Values, Version, XType, pad};
+pub use part::Part;
 pub use standing::Fed;
+pub use unfinished::Unfinished;

@@ -1,5 +1,5 @@
 -- Each byte of an item is in the part with that item's label.
-use Rattle.std.proofs.Common.{◌≡◌, ℕ, zero, suc, ◌+◌, ◌-◌, ◌<◌, ◌≤◌, ltb, true, false, List, [], ◌∷◌, ◌++◌, length, take, drop, Option, Some, None, refl, sym, ap, subst, ◌∙◌, append-nil, append_assoc, length-append, arith, if◌then◌else◌}
+use Rattle.std.proofs.Common.{◌≡◌, ℕ, zero, suc, ◌+◌, ◌-◌, ◌<◌, ◌≤◌, ltb, false, List, [], ◌∷◌, ◌++◌, length, take, drop, Some, refl, ap, ◌∙◌, append-nil, append_assoc, length-append, arith, if◌then◌else◌}
 use Rattle.std.specs.List.{flat_map}
 use Rattle.std.proofs.lemmas.Bool.{lt-ltb, le-ltb}
 use Rattle.ncc_values.specs.BigEndian.{length-big_endian}
@@ -18,22 +18,22 @@ use Rattle.ncc_schema.specs.Schema.{Place}
 use Rattle.ncc_schema.specs.Header.{nc_dimension, nc_attribute, nc_variable, counted, canon_name, canon_head, canon_dim, canon_attr, canon_dimids}
 use Rattle.ncc_schema.specs.Names.{HasName, attr_in, attrs_in, before, canon_unplaced, first_attrs, list_size, name_at, no_place, var_at}
 use Rattle.ncc_schema.proofs.Sizes.{before-placed, length-canon_attr, length-canon_dim, length-canon_head, length-canon_list, length-canon_var}
-use Rattle.ncc_parts.specs.declared.part.Part.{Part}
-use Rattle.ncc_parts.specs.declared.part.Part.TheVariants as parts
+use Rattle.ncc_header.specs.declared.part.Part.{Part}
+use Rattle.ncc_header.specs.declared.part.Part.TheVariants as parts
 use Rattle.ncc_parts.specs.Parts.{attrs_from, bytes_named, dims_from, globals_from, magic_bytes, part_at, part_named, parts_of, place_fields, var_parts, vars_from}
 use Rattle.ncc_parts.proofs.Spelling.{attrs_spell, dims_spell, globals_spell, spelling, var_spells}
 
 -- ---- one part
 
-here : (o : ℕ) (q : Part) (b : List ℕ) (ps : List (Part × List ℕ)) → o < length b → part_at o ((q, b) ∷ ps) ≡ Some q
+pub here : (o : ℕ) (q : Part) (b : List ℕ) (ps : List (Part × List ℕ)) → o < length b → part_at o ((q, b) ∷ ps) ≡ Some q
 here o q b ps lt = ap (λ t. if t then Some q else part_at (o - length b) ps) (lt-ltb _ _ lt)
 
-past : (o m : ℕ) (q : Part) (b : List ℕ) (ps : List (Part × List ℕ)) → o ≡ length b + m → part_at o ((q, b) ∷ ps) ≡ part_at m ps
+pub past : (o m : ℕ) (q : Part) (b : List ℕ) (ps : List (Part × List ℕ)) → o ≡ length b + m → part_at o ((q, b) ∷ ps) ≡ part_at m ps
 past o m q b ps is =
     let no : ltb o (length b) ≡ false = le-ltb _ _ (omega (arith, is)) in
     ap (λ t. if t then Some q else part_at (o - length b) ps) no ∙ ap (λ n. part_at n ps) (omega (arith, is))
 
-past_all : (o m : ℕ) (ps qs : List (Part × List ℕ)) → o ≡ length (spelling ps) + m → part_at o (ps ++ qs) ≡ part_at m qs
+pub past_all : (o m : ℕ) (ps qs : List (Part × List ℕ)) → o ≡ length (spelling ps) + m → part_at o (ps ++ qs) ≡ part_at m qs
 past_all o m [] qs is = ap (λ n. part_at n qs) (omega (arith, is))
 past_all o m (p ∷ ps) qs is =
     past o (length (spelling ps) + m) p.0 p.1 (ps ++ qs) (omega (arith, is, length-append p.1 (spelling ps)))
@@ -82,7 +82,7 @@ at_item_of_all label item i o bs rest lt = at_item label item 0 i o bs rest lt �
 -- ---- variables
 
 -- what is behind the parts of the variables before this one
-abbrev from_var : Version → (number : ℕ) → List Var → List (Part × List ℕ)
+abbrev pub from_var : Version → (number : ℕ) → List Var → List (Part × List ℕ)
 from_var v n [] = []
 from_var v n (x ∷ vars) = var_parts v n x no_place ++ vars_from v (suc n) vars
 
@@ -97,11 +97,11 @@ to_var v n (suc i) o (x ∷ vars) lt =
     ∙ to_var v (suc n) i o vars (omega (arith, lt))
     ∙ ap (λ k. part_at o (from_var v k (drop i vars))) (omega arith)
 
-to_var_of_all : (v : Version) (i o : ℕ) (vars : List Var) → i < length vars → part_at (before (canon_unplaced v) i vars + o) (vars_from v 0 vars) ≡ part_at o (from_var v i (drop i vars))
+pub to_var_of_all : (v : Version) (i o : ℕ) (vars : List Var) → i < length vars → part_at (before (canon_unplaced v) i vars + o) (vars_from v 0 vars) ≡ part_at o (from_var v i (drop i vars))
 to_var_of_all v i o vars lt = to_var v 0 i o vars lt ∙ ap (λ k. part_at o (from_var v k (drop i vars))) (omega arith)
 
 -- what is behind a variable's name and dimensions
-abbrev var_rest : Version → (number : ℕ) → Var → List (Part × List ℕ)
+abbrev pub var_rest : Version → (number : ℕ) → Var → List (Part × List ℕ)
 var_rest v n x = (parts.AttrList n, canon_head v nc_attribute (length x.attrs)) ∷ (attrs_from v n 0 x.attrs ++ (parts.Place n, place_fields v x no_place) ∷ [])
 
 -- a variable's name and dimensions
@@ -112,7 +112,7 @@ at_var v k o (x ∷ vars) lt =
     here o (parts.Var k) named (var_rest v k x ++ vars_from v (suc k) vars) (omega (arith, lt, ap length (append-nil named)))
 
 -- its attributes, as far as its place
-to_attrs : (v : Version) (k m o : ℕ) (x : Var) (vars : List Var) → o ≡ attrs_in v x + m
+pub to_attrs : (v : Version) (k m o : ℕ) (x : Var) (vars : List Var) → o ≡ attrs_in v x + m
     → part_at o (from_var v k (x ∷ vars)) ≡ part_at m (attrs_from v k 0 x.attrs ++ (((parts.Place k, place_fields v x no_place) ∷ []) ++ vars_from v (suc k) vars))
 to_attrs v k m o x vars is =
     let attrs = attrs_from v k 0 x.attrs in
@@ -123,7 +123,7 @@ to_attrs v k m o x vars is =
     ∙ past (list_size v + m) m (parts.AttrList k) head ((attrs ++ place) ++ vars_from v (suc k) vars) (omega (arith, length-canon_head v nc_attribute (length x.attrs)))
     ∙ ap (part_at m) (append_assoc attrs place (vars_from v (suc k) vars))
 
-at_attr : (v : Version) (k j o : ℕ) (vars : List Var) → o < length (flat_map (canon_attr v) (take 1 (drop j (first_attrs vars)))) → part_at (attr_in v j vars + o) (from_var v k vars) ≡ Some (parts.Attr k j)
+pub at_attr : (v : Version) (k j o : ℕ) (vars : List Var) → o < length (flat_map (canon_attr v) (take 1 (drop j (first_attrs vars)))) → part_at (attr_in v j vars + o) (from_var v k vars) ≡ Some (parts.Attr k j)
 at_attr v k zero o [] lt = absurd (omega (arith, lt))
 at_attr v k (suc j) o [] lt = absurd (omega (arith, lt))
 at_attr v k j o (x ∷ vars) lt =
@@ -140,7 +140,7 @@ length-place_fields v x =
     let begin = big_endian (offset_width_of v) 0 in
     omega (arith, length-append code (size ++ begin), length-append size begin, length-big_endian 4 (code_of x.xtype), length-big_endian (count_width_of v) 0, length-big_endian (offset_width_of v) 0)
 
-at_place : (v : Version) (k o m : ℕ) (x : Var) (vars : List Var) → o + m ≡ length (canon_unplaced v x) → 0 < m → m < 5 + count_width_of v + offset_width_of v → part_at o (from_var v k (x ∷ vars)) ≡ Some (parts.Place k)
+pub at_place : (v : Version) (k o m : ℕ) (x : Var) (vars : List Var) → o + m ≡ length (canon_unplaced v x) → 0 < m → m < 5 + count_width_of v + offset_width_of v → part_at o (from_var v k (x ∷ vars)) ≡ Some (parts.Place k)
 at_place v k o m x vars is some few =
     let attrs = flat_map (canon_attr v) x.attrs in
     let inside = 4 + count_width_of v + offset_width_of v - m in
@@ -150,7 +150,7 @@ at_place v k o m x vars is some few =
     ∙ here inside (parts.Place k) place (vars_from v (suc k) vars) (omega (arith, some, few, length-place_fields v x))
 
 -- a variable that is there, and the bytes of it and of those before it
-before_next : (v : Version) (i : ℕ) (vars : List Var) → i < length vars
+pub before_next : (v : Version) (i : ℕ) (vars : List Var) → i < length vars
     → (x : Var) × (rest : List Var) × (drop i vars ≡ x ∷ rest) × (before (canon_unplaced v) (suc i) vars ≡ before (canon_unplaced v) i vars + length (canon_unplaced v x))
 before_next v i [] lt = absurd (omega (arith, lt))
 before_next v zero (x ∷ vars) lt = (x, vars, refl, omega (arith, ap length (append-nil (canon_unplaced v x))))
@@ -208,13 +208,13 @@ module _ (s : Schema) where
   abbrev v : Version
   v = s.version
 
-  abbrev vars_part : List (Part × List ℕ)
+  abbrev pub vars_part : List (Part × List ℕ)
   vars_part = (parts.VarList, canon_head v nc_variable (length s.vars)) ∷ vars_from v 0 s.vars
 
-  abbrev globals_part : List (Part × List ℕ)
+  abbrev pub globals_part : List (Part × List ℕ)
   globals_part = (parts.GlobalList, canon_head v nc_attribute (length s.gatts)) ∷ (globals_from v 0 s.gatts ++ vars_part)
 
-  to_dims : (o m : ℕ) → o ≡ 4 + count_width_of v + list_size v + m → part_at o (parts_of s) ≡ part_at m (dims_from v 0 s.dims ++ globals_part)
+  pub to_dims : (o m : ℕ) → o ≡ 4 + count_width_of v + list_size v + m → part_at o (parts_of s) ≡ part_at m (dims_from v 0 s.dims ++ globals_part)
   to_dims o m is =
       let w = count_width_of v in
       let number = big_endian w (counted v s.count) in
@@ -224,7 +224,7 @@ module _ (s : Schema) where
       ∙ past (w + (list_size v + m)) (list_size v + m) parts.NumRecs number ((parts.DimList, head) ∷ dims) (omega (arith, length-big_endian w (counted v s.count)))
       ∙ past (list_size v + m) m parts.DimList head dims (omega (arith, length-canon_head v nc_dimension (length s.dims)))
 
-  to_globals : (o m : ℕ) → o ≡ 4 + count_width_of v + list_size v + (length (flat_map (canon_dim v) s.dims) + (list_size v + m)) → part_at o (parts_of s) ≡ part_at m (globals_from v 0 s.gatts ++ vars_part)
+  pub to_globals : (o m : ℕ) → o ≡ 4 + count_width_of v + list_size v + (length (flat_map (canon_dim v) s.dims) + (list_size v + m)) → part_at o (parts_of s) ≡ part_at m (globals_from v 0 s.gatts ++ vars_part)
   to_globals o m is =
       let dims = length (flat_map (canon_dim v) s.dims) in
       let head = canon_head v nc_attribute (length s.gatts) in
@@ -232,7 +232,7 @@ module _ (s : Schema) where
       ∙ past_all (dims + (list_size v + m)) (list_size v + m) (dims_from v 0 s.dims) globals_part (omega (arith, ap length (dims_spell v 0 s.dims)))
       ∙ past (list_size v + m) m parts.GlobalList head (globals_from v 0 s.gatts ++ vars_part) (omega (arith, length-canon_head v nc_attribute (length s.gatts)))
 
-  to_vars : (places : List Place) (o m i : ℕ) → length places ≡ length s.vars → o ≡ var_at s places i + m → part_at o (parts_of s) ≡ part_at (before (canon_unplaced v) i s.vars + m) (vars_from v 0 s.vars)
+  pub to_vars : (places : List Place) (o m i : ℕ) → length places ≡ length s.vars → o ≡ var_at s places i + m → part_at o (parts_of s) ≡ part_at (before (canon_unplaced v) i s.vars + m) (vars_from v 0 s.vars)
   to_vars places o m i long is =
       let globals = length (flat_map (canon_attr v) s.gatts) in
       let into = before (canon_unplaced v) i s.vars + m in

@@ -5,3 +5,10 @@ mod BrokenRules
 mod Complete
 mod BeginFields
 mod Labels
+mod Runs
+mod Within
+mod Remaining
+mod Awaited
+mod AwaitedNames
+mod NextPart
+mod ToldStanding

@@ -3,7 +3,7 @@ use Rattle.std.proofs.Common.{◌≡◌, ℕ, zero, suc, ◌+◌, ◌-◌, ◌<�
 use Rattle.std.specs.List.{slice_get}
 use Rattle.std.specs.List.Sorted.{IsNonDecreasingBy}
 use Rattle.std.proofs.lemmas.Bool.{lt-ltb, le-ltb}
-use Rattle.ncc_parts.specs.declared.part.Part.{Part}
+use Rattle.ncc_header.specs.declared.part.Part.{Part}
 use Rattle.ncc_parts.specs.declared.part.Piece.{Piece}
 use Rattle.ncc_parts.specs.Parts.{ends_from, part_at}
 

@@ -16,8 +16,8 @@ use Rattle.ncc_schema.specs.Header.{nc_dimension, nc_attribute, nc_variable, cou
 use Rattle.ncc_schema.specs.Names.{attrs_in, canon_unplaced, list_size, no_place, unplaced}
 use Rattle.ncc_schema.proofs.Sizes.{length-canon, length-canon_head, length-canon_list, length-canon_var}
 use Rattle.ncc_values.specs.BigEndian.{length-big_endian}
-use Rattle.ncc_parts.specs.declared.part.Part.{Part}
-use Rattle.ncc_parts.specs.declared.part.Part.TheVariants as parts
+use Rattle.ncc_header.specs.declared.part.Part.{Part}
+use Rattle.ncc_header.specs.declared.part.Part.TheVariants as parts
 use Rattle.ncc_parts.specs.declared.part.Piece.{Piece}
 use Rattle.ncc_parts.specs.Parts.{dims_from, globals_from, attrs_from, place_fields, var_parts, vars_from, magic_bytes, parts_of, ends_from}
 

@@ -15,8 +15,8 @@ use Rattle.ncc_schema.specs.declared.schema.Var.{Var}
 use Rattle.ncc_schema.specs.Schema.{Place}
 use Rattle.ncc_schema.specs.Header.{nc_dimension, nc_attribute, nc_variable, counted, canon_name, canon_head, canon_dim, canon_attr, canon_dimids}
 use Rattle.ncc_schema.specs.Names.{first_attrs, no_place}
-use Rattle.ncc_parts.specs.declared.part.Part.{Part}
-use Rattle.ncc_parts.specs.declared.part.Part.TheVariants as parts
+use Rattle.ncc_header.specs.declared.part.Part.{Part}
+use Rattle.ncc_header.specs.declared.part.Part.TheVariants as parts
 use Rattle.ncc_parts.specs.declared.part.Piece.{Piece}
 
 -- ---- the parts of lists, numbered from here on

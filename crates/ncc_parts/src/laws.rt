@@ -15,7 +15,7 @@ ghost use Rattle.ncc_layout.specs.declared.fault.LayoutFaultKind.{LayoutFaultKin
 ghost use Rattle.ncc_check.specs.Faults.{HasLayoutFault};
 ghost use Rattle.ncc_parts.specs.declared.broken.Broken.{Broken};
 ghost use Rattle.ncc_parts.specs.Breaking.{Breaks, Keeps, broken_by, kind_of};
-ghost use Rattle.ncc_parts.specs.declared.part.Part.TheVariants as parts;
+ghost use Rattle.ncc_header.specs.declared.part.Part.TheVariants as parts;
 ghost use Rattle.ncc_parts.specs.Parts.{bytes_named, part_at, part_named, parts_of};
 
 /// The bytes of the parts, one after the other, are the canonical header, so that each byte of it is in one of them.

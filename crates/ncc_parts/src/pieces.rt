@@ -8,9 +8,9 @@ ghost use Rattle.ncc_schema.specs.Schema.{places_of};
 ghost use Rattle.ncc_check.specs.FromStore.{IsBegun};
 ghost use Rattle.ncc_parts.specs.Parts.{attrs_from, dims_from, ends_from, globals_from, parts_of, var_parts, vars_from};
 
-use crate::part::{Part, Piece};
+use crate::part::Piece;
 use ncc_header::laws::length_is_canonical;
-use ncc_header::{Attr, Dim, Header, Var, Version};
+use ncc_header::{Attr, Dim, Header, Part, Var, Version};
 use ncc_schema::{attr_size, attrs_in, dim_size, list_size, var_size};
 use std::alloc::{AllocError, Global};
 

@@ -1,6 +1,6 @@
 use Rattle.std.proofs.Common.{◌≡◌, ◌++◌, sym, subst}
 use Rattle.std.specs.Prelude.{OnOk}
-use Rattle.ncc_parts.specs.declared.part.Part.{Part}
+use Rattle.ncc_header.specs.declared.part.Part.{Part}
 use Rattle.ncc_explain.specs.Words.{part_words}
 use Rattle.ncc_explain.proofs.Added.{two}
 use Rattle.ncc_explain.proofs.parts.push_part.Goals as goal

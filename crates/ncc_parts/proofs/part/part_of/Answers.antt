@@ -3,7 +3,7 @@ use Rattle.std.proofs.lemmas.List.Sorted.{IsPartitionPoint-from_clause, IsPartit
 use Rattle.std.proofs.lemmas.Option.{slice_get-get_or, slice_get_past}
 use Rattle.std.specs.List.{slice_get}
 use Rattle.std.specs.List.Sorted.{IsNonDecreasingBy}
-use Rattle.ncc_parts.specs.declared.part.Part.{Part}
+use Rattle.ncc_header.specs.declared.part.Part.{Part}
 use Rattle.ncc_parts.specs.declared.part.Piece.{Piece}
 use Rattle.ncc_parts.specs.Parts.{part_at}
 use Rattle.ncc_parts.proofs.Locating.{ends-rise, located, part_in}

@@ -4,7 +4,7 @@ use Rattle.ncc_schema.specs.Schema.{places_of}
 use Rattle.ncc_schema.specs.Header.{canon_attr, canon_dim}
 use Rattle.ncc_schema.specs.Names.{canon_unplaced}
 use Rattle.ncc_values.specs.Version.{count_width_of}
-use Rattle.ncc_parts.specs.declared.part.Part.TheVariants as parts
+use Rattle.ncc_header.specs.declared.part.Part.TheVariants as parts
 use Rattle.ncc_parts.specs.Parts.{dims_from, ends_from, globals_from, vars_from}
 use Rattle.ncc_parts.proofs.Spelling.{all_added, all_ends, dims_begin, globals_begin, piece, sections_fill, vars_begin}
 use Rattle.ncc_parts.proofs.pieces.pieces_of.Goals as goal

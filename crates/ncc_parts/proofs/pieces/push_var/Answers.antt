@@ -1,7 +1,7 @@
 use Rattle.std.proofs.Common.{◌≡◌, ◌+◌, ◌-◌, ◌++◌, ◌∷◌, [], length, sym, ap, ◌∙◌, arith}
 use Rattle.ncc_schema.specs.Names.{attrs_in, canon_unplaced, list_size, no_place}
 use Rattle.ncc_schema.proofs.Sizes.{length-canon_var}
-use Rattle.ncc_parts.specs.declared.part.Part.TheVariants as parts
+use Rattle.ncc_header.specs.declared.part.Part.TheVariants as parts
 use Rattle.ncc_parts.specs.declared.part.Piece.{Piece}
 use Rattle.ncc_parts.specs.Parts.{attrs_from, ends_from}
 use Rattle.ncc_parts.proofs.Spelling.{added, var_ends}
