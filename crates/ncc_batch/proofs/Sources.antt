@@ -1,5 +1,5 @@
 -- What went out of a source's object, where the output failed.
-use Rattle.std.proofs.Common.{◌≡◌, List, ℕ, Option, Some, None, Result, Err, refl, sym, subst, ap, ◌∙◌}
+use Rattle.std.proofs.Common.{List, ℕ, Option, Some, None, Result, Err, sym, subst}
 use Rattle.std.specs.Prelude.{IfSome}
 use Rattle.std.specs.Result.{IsErrAnd}
 use Rattle.std.proofs.lemmas.Result.{err_from_is_err_and}
