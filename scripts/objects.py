@@ -1,4 +1,4 @@
-"""The lines that an object of `check --json` or `layout --json` stands for."""
+"""The lines that an object of `check --json`, `layout --json` or `list --json` stands for."""
 import json, shutil, subprocess
 
 NUMBERS = {
@@ -63,6 +63,56 @@ def laid(found):
         lines += ["records {count} begin {begin} size {size} end {end}".format(**found["records"])]
     rest = "after" if "after" in found else "missing"
     return "\n".join([*lines, f"{rest} {found[rest]}"])
+
+
+class Number(str):
+    """A number of an object, to the letter."""
+
+
+def numbered(text):
+    """An object with its numbers to the letter."""
+    return json.loads(text, parse_int=Number, parse_float=Number)
+
+
+def value(found, decimal):
+    """A value of an attribute: a number, or a text in place of a float that JSON has no number for, or of its bits."""
+    if isinstance(found, Number) or (found in ("NaN", "Infinity", "-Infinity") if decimal else found.startswith("0x")):
+        return found
+    raise ValueError(f"no value: {found}")
+
+
+def attribute(owner, found, decimal):
+    start = f"attribute {owner} {name(found['name'])} {found['type']} "
+    if found["type"] != "char":
+        return start + " ".join([str(len(found["values"])), *(value(each, decimal) for each in found["values"])])
+    own = found["values"]
+    count = len(own.encode()) if isinstance(own, str) else len(own["hex"]) // 2
+    return start + " ".join([str(count), *([name(own)] if count else [])])
+
+
+def header_lines(found, decimal):
+    """The lines of a header, of an object with its numbers to the letter."""
+    yield f"format CDF-{found['version']}"
+    yield f"records {found['numrecs']}"
+    names = [name(each["name"]) for each in found["dimensions"]]
+    records = [each.get("unlimited", False) for each in found["dimensions"]]
+    for number, each in enumerate(found["dimensions"]):
+        if records[number] != (each["length"] == "0"):
+            raise ValueError(f"no dimension: {each}")
+        yield f"dimension {number} {names[number]} {'unlimited' if records[number] else each['length']}"
+    yield from (attribute("global", each, decimal) for each in found["attributes"])
+    for number, each in enumerate(found["variables"]):
+        dims = [int(dim) for dim in each["dimensions"]]
+        kind = "record" if dims and records[dims[0]] else "fixed"
+        place = f"begin {each['begin']} dims {len(dims)}"
+        yield " ".join([f"variable {number} {name(each['name'])} {each['type']} {kind} {place}", *(names[dim] for dim in dims)])
+        yield from (attribute(number, one, decimal) for one in each["attributes"])
+
+
+def listed(text, decimal=False):
+    """What `list` prints, by the text of an object."""
+    found = numbered(text)
+    return fault(found) if "verdict" in found else "\n".join(header_lines(found, decimal))
 
 
 def plain(value):

@@ -70,6 +70,8 @@ other='{"file":"noted.nc","status":3,"verdict":"error","error":"memory"}'
 refuse "$(cd "$top/examples" && "$ncc" check --json noted.nc)" check --json noted.nc
 other='{"file":"ocean.nc","status":3,"verdict":"error","error":"memory"}'
 refuse "$(cd "$top/examples" && "$ncc" layout --json ocean.nc)" layout --json ocean.nc
+refuse "$(cd "$top/examples" && "$ncc" list --json ocean.nc)" list --json ocean.nc
+refuse "$(cd "$top/examples" && "$ncc" list --json --decimal ocean.nc)" list --json --decimal ocean.nc
 other=
 refuse "$(printf 'dim,vx\n1,1\n3,1')" csv tiny.nc vx --start 1 --stride 2
 refuse "records 3" extend ocean.nc 1

@@ -9,8 +9,8 @@ next line, `#` begins a comment. The calls:
     use FILE                       the rows of another file
     check [--max-header N] WORD..  a verdict; --strict, --explain, --json, list, layout and extend by 0 must agree with it
     explain WORD..                 a verdict in words
-    json COMMAND WORD..            the object of check or layout, with FILE for the path
-    list [--decimal] WORD..        the lines of the header
+    json COMMAND WORD..            the object of check, layout, list or list --decimal, with FILE for the path
+    list [--decimal] WORD..        the lines of the header; --json must agree with it
     layout WORD..                  where everything lies
     fronts WORD..                  check and list: each shorter front ends early in the field that it cuts
     csv NAME VARIABLE OPTION..     the sheet of a variable, whose name may stand in double quotes
@@ -186,20 +186,27 @@ class Bench:
             same = length == max(file.length, len(file.bytes)) and now.read(len(file.bytes)) == file.bytes
         return "" if same else "\nthe file was changed"
 
-    def agreed(self, command, *limit, text):
+    def agreed(self, command, *options, text):
         """What the object of the placed file stands for, of which a command says this text."""
         status = int(text.startswith("fault "))
-        line = self.say(command, *limit, "--json", self.path, status=status)
+        line = self.say(command, *options, "--json", self.path, status=status)
         self.lines.append(line)
         found = json.loads(line)
         if (found["file"], found["status"]) != (self.path, status):
             raise ValueError(line)
+        if command == "list":
+            return objects.listed(line, decimal="--decimal" in options)
         return objects.told(found) if command == "check" else objects.laid(found)
 
-    def object(self, command, file):
+    def with_object(self, command, *options, text):
+        """What a command says of the placed file, and what its object stands for where that is something else."""
+        said = self.agreed(command, *options, text=text)
+        return text if said == text else f"{text}\nwith --json\n{said}"
+
+    def object(self, command, *options, file):
         """An object, to the letter; its status is the program's."""
         self.place(file)
-        line = self.say(command, "--json", self.path, status=0)
+        line = self.say(command, *options, "--json", self.path, status=0)
         return line.replace("\nstatus 1", "" if '"status":1,' in line else "\nstatus 1").replace(self.path, "FILE") + self.kept(file)
 
     def check(self, words):
@@ -228,6 +235,8 @@ class Bench:
             laid = self.say("layout", self.path)
             if not (is_laid(laid, passed) if has_header and "TooLarge" not in text else laid == text):
                 lines += ["layout", laid]
+            if (said := self.agreed("list", text=listed)) != listed:
+                lines += ["list with --json", said]
             if (said := self.agreed("layout", text=laid)) != laid:
                 lines += ["layout with --json", said]
         return "\n".join(lines) + self.kept(file)
@@ -297,18 +306,17 @@ class Bench:
                 return self.check(words)
             case ["explain", *words]:
                 text = self.read(["check", "--explain", self.path], self.spelling.file(words))
-                said = self.agreed("check", text=text)
-                return text if said == text else f"{text}\nwith --json\n{said}"
+                return self.with_object("check", text=text)
+            case ["json", "list", "--decimal", *words]:
+                return self.object("list", "--decimal", file=self.spelling.file(words))
             case ["json", command, *words]:
-                return self.object(command, self.spelling.file(words))
+                return self.object(command, file=self.spelling.file(words))
             case ["list", "--decimal", *words]:
-                return self.read(["list", "--decimal", self.path], self.spelling.file(words))
-            case ["list", *words]:
-                return self.read(["list", self.path], self.spelling.file(words))
-            case ["layout", *words]:
-                text = self.read(["layout", self.path], self.spelling.file(words))
-                said = self.agreed("layout", text=text)
-                return text if said == text else f"{text}\nwith --json\n{said}"
+                text = self.read(["list", "--decimal", self.path], self.spelling.file(words))
+                return self.with_object("list", "--decimal", text=text)
+            case [("list" | "layout") as command, *words]:
+                text = self.read([command, self.path], self.spelling.file(words))
+                return self.with_object(command, text=text)
             case ["fronts", *words]:
                 return self.fronts(words)
             case ["csv", name, variable, *options]:

@@ -124,7 +124,8 @@ wrong "error: the argument '--strict' cannot be used multiple times" check --str
 wrong "error: the argument '--explain' cannot be used with '--brief'" check --explain --brief ocean.nc
 wrong "error: the argument '--json' cannot be used with '--brief'" check --json --brief ocean.nc
 wrong "error: the argument '--json' cannot be used with '--explain'" check --json --explain ocean.nc
-wrong "error: unexpected argument '--json' found" list --json ocean.nc
+wrong "error: unexpected argument '--json' found" csv --json ocean.nc time
+wrong "error: the argument '--json' cannot be used multiple times" list --json --decimal --json ocean.nc
 wrong "error usage" csv ocean.nc time --start -1
 wrong "error usage" csv ocean.nc time --start -1,0
 wrong "error usage" csv ocean.nc time --start --count=1
@@ -154,7 +155,7 @@ convert|Writes what a file holds into a new file, in another version|--to --verb
 csv|Prints the values of a variable, or of a selection of them|--start --count --stride --decimal --text --verbose --help
 extend|Adds records of fill values to a file|--verbose --help
 layout|Shows where everything in files lies|--json --files-from0 --verbose --help
-list|Lists what the headers of files say|--decimal --files-from0 --verbose --help
+list|Lists what the headers of files say|--decimal --json --files-from0 --verbose --help
 END
 expect_first "help by a word" 0 "Lists what the headers of files say" "" help list
 "$ncc" --help > out
@@ -707,6 +708,14 @@ records 0
 dimension 0 x 6
 attribute global a double 2 0.1 9.969209968386869e36
 variable 0 v float fixed begin 112 dims 1 x" "" list --decimal floats.nc
+# The object of floats.nc, with the values of its attribute.
+floats_object() {
+  printf '{"file":"floats.nc","status":0,"version":1,"numrecs":0,"header_length":112,"dimensions":[{"name":"x","length":6}],'
+  printf '"attributes":[{"name":"a","type":"double","values":%s}],' "$1"
+  printf '"variables":[{"name":"v","type":"float","dimensions":[0],"attributes":[],"vsize":24,"begin":112}]}'
+}
+expect "list by bits, as an object" 0 "$(floats_object '["0x3fb999999999999a","0x479e000000000000"]')" "" list --json floats.nc
+expect "list in decimal, as an object" 0 "$(floats_object '[0.1,9.969209968386869e36]')" "" list --json --decimal floats.nc
 
 # ---- texts: c(n, 5) of `ab`, `a,b\\` and no byte but NULs, and the rows of its bytes
 
@@ -788,6 +797,11 @@ expect "layout of several files, as objects" 3 \
 {"file":"not_there.nc","status":3,"verdict":"error","error":"device"}' "" layout --json tiny.nc cut not_there.nc
 expect "layout of a file that isn't there" 3 "" "error device
 ncc: not_there.nc: no such file or folder" layout --verbose not_there.nc
+tiny_members='"version":1,"numrecs":0,"header_length":80,"dimensions":[{"name":"dim","length":5}],"attributes":[],"variables":[{"name":"vx","type":"short","dimensions":[0],"attributes":[],"vsize":12,"begin":80}]'
+expect "list of one file as an object" 0 "{\"file\":\"tiny.nc\",\"status\":0,$tiny_members}" "" list --json tiny.nc
+expect "list of several files, as objects" 3 "{\"file\":\"tiny.nc\",\"status\":0,$tiny_members}
+{\"file\":\"cut\",\"status\":1,\"verdict\":\"fault\",\"fault\":\"EndsEarly\",\"offset\":3}
+{\"file\":\"not_there.nc\",\"status\":3,\"verdict\":\"error\",\"error\":\"device\"}" "" list --json tiny.nc cut not_there.nc
 printf 'tiny.nc\0bad_truncated_1.nc\0' > names
 expect "names from a list" 1 "tiny.nc: ok CDF-1 records 0 variables 1
 bad_truncated_1.nc: fault Truncated at 60" "" check --files-from0 names
@@ -805,13 +819,29 @@ count "names from standard input" "1 tiny.nc: ok CDF-1 records 0 variables 1 bad
   "$(printf 'tiny.nc\0bad_truncated_1.nc\0' | "$ncc" check --files-from0 - > out 2> err; echo "$?" $(cat out) $(cat err))"
 count "list of standard input" "0 format CDF-1 records 0 dimension 0 dim 5 variable 0 vx short fixed begin 80 dims 1 dim" \
   "$(cat tiny.nc | "$ncc" list - > out; echo "$?" $(cat out))"
+count "list of standard input, as an object" "0 {\"file\":\"-\",\"status\":0,$tiny_members}" \
+  "$("$ncc" list --json - < tiny.nc > out 2> err; echo "$?" "$(cat out err)")"
+count "list of standard input that is cut, as an object" \
+  '1 {"file":"-","status":1,"verdict":"fault","fault":"EndsEarly","offset":3}' \
+  "$("$ncc" list --json - < cut > out 2> err; echo "$?" "$(cat out err)")"
+failed_input='{"file":"-","status":3,"verdict":"error","error":"device"}'
+count "list of a folder as standard input, as an object" "3 $failed_input" \
+  "$("$ncc" list --json - > out 2> err < .; echo "$?" "$(cat out err)")"
+count "list of a folder as standard input, as an object, told" "3 $failed_input ncc: -: is a folder" \
+  "$("$ncc" list --json --verbose - > out 2> err < .; echo "$?" $(cat out err))"
+"$ncc" list --json - > /dev/full 2> err < tiny.nc
+count "list of standard input as an object, full output" "3 error device" "$? $(cat err)"
 # Only a FILE - that is given alone is standard input.
+expect "list of standard input and of another, as objects" 3 "$failed_input
+{\"file\":\"tiny.nc\",\"status\":0,$tiny_members}" "" list --json - tiny.nc
 expect "list of standard input and of another" 3 "tiny.nc: format CDF-1
 tiny.nc: records 0
 tiny.nc: dimension 0 dim 5
 tiny.nc: variable 0 vx short fixed begin 80 dims 1 dim" "-: error device" list - tiny.nc
 printf -- '-\0' > names
 count "a list that names -" "3 error device" "$("$ncc" list --files-from0 names < tiny.nc > out 2> err; echo $? $(cat out err))"
+count "a list that names -, as an object" "3 $failed_input" \
+  "$("$ncc" list --json --files-from0 names < tiny.nc > out 2> err; echo "$?" "$(cat out err)")"
 count "check of standard input" "3 error device" "$("$ncc" check - < tiny.nc > out 2> err; echo $? $(cat out err))"
 for n in $(seq 300); do printf 'tiny.nc\0'; done > names
 count "300 files, and a reader that goes" "tiny.nc: ok CDF-1 records 0 variables 1 0" \

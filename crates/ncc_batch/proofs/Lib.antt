@@ -1,3 +1,4 @@
 pub mod Lines
 pub mod Fronts
 pub mod Batches
+mod Sources

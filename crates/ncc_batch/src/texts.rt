@@ -16,9 +16,37 @@ use crate::work::Work;
 use ncc_engines::{Answer, check_engine, list_store_engine};
 use ncc_explain::explain_engine;
 use ncc_header::{Sink, WriteSink};
+use ncc_json::Wording;
+use ncc_lines::FloatStyle;
+use ncc_listed::members_store_engine;
 use ncc_places::layout_engine;
 use ncc_store::Store;
 use std::alloc::Global;
+
+/// Writes what the header of a store's file says.
+fn write_list<S: Store, W: Sink>(
+    alloc: Global,
+    store: &mut S,
+    limit: u64,
+    style: FloatStyle,
+    wording: Wording,
+    sink: &mut W,
+) -> Answer
+    ensures told { IsTrue S.tells_bytes → (out : List ℕ) × Puts (W.put sink.old) (W.put sink.new) out
+        × Writes (TextsOf (Work.List limit style wording) (S.bytes store.old)) result out }
+    ensures memory { IsTrue S.tells_bytes → (text : List ℕ)
+        → IsFaultIn (Work.List limit style wording) (S.bytes store.old) text
+        → result ≡ Answer.Memory → sink.new ≡ sink.old }
+    ensures whole { IsWhole (Work.List limit style wording) → result ≡ Answer.Memory → sink.new ≡ sink.old }
+    ensures store { ReadsOnly S.Store store.old store.new (Fails W.Sink sink.old sink.new result) S.tells_bytes
+        (calls_for (length (S.bytes store.old)) limit) limit }
+    ensures settled { IsTrue S.tells_bytes → ReadsFew S.Store store.old store.new (S.bytes store.old) limit 1 }
+{
+    match wording {
+        Wording::Words => list_store_engine(alloc, store, limit, style, sink),
+        Wording::Members => members_store_engine(alloc, store, limit, style, sink),
+    }
+}
 
 /// Writes the text of what is asked of a store's file.
 pub fn write_text<S: Store, W: Sink>(
@@ -51,7 +79,11 @@ pub fn write_text<S: Store, W: Sink>(
             strict,
             wording,
         } => explain_engine(alloc, store, limit, strict, wording, sink),
-        Work::List { limit, style } => list_store_engine(alloc, store, limit, style, sink),
+        Work::List {
+            limit,
+            style,
+            wording,
+        } => write_list(alloc, store, limit, style, wording, sink),
         Work::Layout { limit, wording } => layout_engine(alloc, store, limit, wording, sink),
     }
 }

@@ -21,6 +21,7 @@ pub enum Work {
     List {
         limit: u64,
         style: FloatStyle,
+        wording: Wording,
     },
     /// Where everything in it lies.
     Layout {

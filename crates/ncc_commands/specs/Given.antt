@@ -4,6 +4,8 @@ use Rattle.std.specs.Str.Parse.{digits_value, without_leading_plus}
 use Rattle.clap.specs.Matches.{first_value, found_of, one_text}
 use Rattle.clap.specs.declared.parser.matches.ArgMatches.{ArgMatches}
 use Rattle.ncc_csv.specs.Numbers.{IsListOf, IsNumber}
+use Rattle.ncc_json.specs.declared.wording.Wording.{Wording}
+use Rattle.ncc_json.specs.declared.wording.Wording.TheVariants.{Members, Words}
 use Rattle.ncc_lines.specs.declared.style.FloatStyle.{FloatStyle}
 use Rattle.ncc_lines.specs.declared.style.FloatStyle.TheVariants.{Bits, Decimal}
 
@@ -38,3 +40,7 @@ GivesNumber words id other n =
 -- how floats are shown
 abbrev pub GivesStyle : ArgMatches → FloatStyle → Type 0
 GivesStyle words style = (on : Bool) × GivesFlag words (codes "decimal") on × (on ≡ true → style ≡ Decimal) × (on ≡ false → style ≡ Bits)
+
+-- how an answer is put
+abbrev pub GivesWording : ArgMatches → Wording → Type 0
+GivesWording words wording = (on : Bool) × GivesFlag words (codes "json") on × (on ≡ true → wording ≡ Members) × (on ≡ false → wording ≡ Words)

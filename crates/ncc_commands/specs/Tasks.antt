@@ -4,12 +4,13 @@ use Rattle.clap.specs.declared.parser.matches.ArgMatches.{ArgMatches}
 use Rattle.ncc_values.specs.declared.version.Version.{Version}
 use Rattle.ncc_values.specs.declared.version.Version.TheVariants.{V1, V2, V5}
 use Rattle.ncc_lines.specs.declared.style.FloatStyle.{FloatStyle}
+use Rattle.ncc_json.specs.declared.wording.Wording.{Wording}
 use Rattle.ncc_json.specs.declared.wording.Wording.TheVariants as wordings
 use Rattle.ncc_batch.specs.declared.form.Form.{Form}
 use Rattle.ncc_batch.specs.declared.form.Form.TheVariants.{Brief, Lines, Object}
 use Rattle.ncc_batch.specs.declared.work.Work.{Work}
 use Rattle.ncc_batch.specs.declared.work.Work.TheVariants.{Check, Explain, Layout, List as ListWork}
-use Rattle.ncc_commands.specs.Given.{GivesFlag, GivesList, GivesNumber, GivesStyle, given, word_or_none}
+use Rattle.ncc_commands.specs.Given.{GivesFlag, GivesList, GivesNumber, GivesStyle, GivesWording, given, word_or_none}
 use Rattle.ncc_commands.specs.Words.{bytes_named}
 use Rattle.ncc_commands.specs.declared.task.Converting.{Converting}
 use Rattle.ncc_commands.specs.declared.task.Extending.{Extending}
@@ -58,8 +59,12 @@ ChecksAs limit words work = (most : ℕ) × (strict : Bool) × (told : Bool) × 
 
 -- a layout: as an object, or in lines
 abbrev pub LaysOutAs : (limit : ℕ) → ArgMatches → Work → Type 0
-LaysOutAs limit words work = (members : Bool) × GivesFlag words (codes "json") members
-    × (members ≡ true → work ≡ Layout limit wordings.Members) × (members ≡ false → work ≡ Layout limit wordings.Words)
+LaysOutAs limit words work = (wording : Wording) × GivesWording words wording × (work ≡ Layout limit wording)
+
+-- what the headers say: as an object, or in lines, and how floats are shown
+abbrev pub ListsAs : (limit : ℕ) → ArgMatches → Work → Type 0
+ListsAs limit words work = (style : FloatStyle) × (wording : Wording) × GivesStyle words style × GivesWording words wording
+    × (work ≡ ListWork limit style wording)
 
 -- how a check of a file is shown
 abbrev pub ShowsCheck : ArgMatches → Form → Type 0
@@ -67,19 +72,17 @@ ShowsCheck words form = (members : Bool) × (brief : Bool) × GivesFlag words (c
     × GivesFlag words (codes "brief") brief × (members ≡ true → form ≡ Object)
     × (members ≡ false → brief ≡ true → form ≡ Brief) × (members ≡ false → brief ≡ false → form ≡ Lines)
 
--- how a layout of a file is shown
-abbrev pub ShowsLayout : ArgMatches → Form → Type 0
-ShowsLayout words form = (members : Bool) × GivesFlag words (codes "json") members
+-- how a layout of a file is shown, and what its header says
+abbrev pub ShowsAnswer : ArgMatches → Form → Type 0
+ShowsAnswer words form = (members : Bool) × GivesFlag words (codes "json") members
     × (members ≡ true → form ≡ Object) × (members ≡ false → form ≡ Lines)
 
 pub record Answers (limit : ℕ) (command : List ℕ) (words : ArgMatches) (work : Work) (form : Form) : Type 0 where
   pub check : command ≡ codes "check" → ChecksAs limit words work
   pub layout : command ≡ codes "layout" → LaysOutAs limit words work
-  pub list : (command ≡ codes "check" → ⊥) → (command ≡ codes "layout" → ⊥)
-      → (style : FloatStyle) × (work ≡ ListWork limit style) × GivesStyle words style
+  pub list : (command ≡ codes "check" → ⊥) → (command ≡ codes "layout" → ⊥) → ListsAs limit words work
   pub check_shown : command ≡ codes "check" → ShowsCheck words form
-  pub layout_shown : command ≡ codes "layout" → ShowsLayout words form
-  pub list_shown : (command ≡ codes "check" → ⊥) → (command ≡ codes "layout" → ⊥) → form ≡ Lines
+  pub others_shown : (command ≡ codes "check" → ⊥) → ShowsAnswer words form
 
 -- what a command's words ask for
 abbrev pub AsksFor : Words → (command : List ℕ) → ArgMatches → Task → Type 0

@@ -26,8 +26,9 @@ const LIST_STATUSES: &str = "Example:
   ncc list --decimal ocean.nc
 
 Of several files each line has the path, a colon and a space before it, and the status is the
-worst. A FILE - is standard input, where it is the only one. A list of names has a NUL byte after
-each, as `find -print0` writes them.
+worst. A FILE - is standard input, where it is the only one. With --json the same is printed as an
+object for each file, in one line; with --decimal a float is a number in it, else a text with its
+bits. A list of names has a NUL byte after each, as `find -print0` writes them.
 
 A header may have 67108864 bytes; a longer one is the fault HeaderTooLong.
 
@@ -242,6 +243,7 @@ fn list_command<'a>(alloc: Global) -> Result<Command<'a>, AllocError> {
         .about("Lists what the headers of files say")
         .after_help(LIST_STATUSES)
         .arg(decimal_argument(alloc))?
+        .arg(json_argument(alloc))?
         .arg(names_argument(alloc)?)?
         .arg(verbose_argument(alloc))?
         .arg(files_argument(alloc)?)

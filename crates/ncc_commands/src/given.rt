@@ -1,9 +1,8 @@
 //! What the words of a command line ask for.
 
 ghost use Rattle.std.specs.Prelude.{◌≡◌, Some, codes};
-ghost use Rattle.ncc_commands.specs.Given.{GivesFlag, GivesNumber, GivesStyle, given, word_or_none};
-ghost use Rattle.ncc_commands.specs.Tasks.{ChecksAs, LaysOutAs, ShowsCheck, ShowsLayout};
-ghost use Rattle.ncc_lines.specs.declared.style.FloatStyle.{FloatStyle};
+ghost use Rattle.ncc_commands.specs.Given.{GivesFlag, GivesNumber, GivesStyle, GivesWording, given, word_or_none};
+ghost use Rattle.ncc_commands.specs.Tasks.{ChecksAs, LaysOutAs, ListsAs, ShowsAnswer, ShowsCheck};
 
 use crate::commands::LIMIT;
 use clap::ArgMatches;
@@ -46,6 +45,17 @@ pub fn style_given(words: &ArgMatches) -> FloatStyle
     }
 }
 
+/// How an answer is put.
+fn wording_given(words: &ArgMatches) -> Wording
+    ensures { GivesWording words.now result }
+{
+    if flag_given(words, "json") {
+        Wording::Members
+    } else {
+        Wording::Words
+    }
+}
+
 /// How many records are to be added.
 pub fn more_given(words: &ArgMatches) -> u64
     ensures { GivesNumber words.now (codes "N") 0 result }
@@ -81,14 +91,20 @@ fn checked_given(words: &ArgMatches) -> Work
 fn laid_out_given(words: &ArgMatches) -> Work
     ensures { LaysOutAs LIMIT words.now result }
 {
-    let wording = if flag_given(words, "json") {
-        Wording::Members
-    } else {
-        Wording::Words
-    };
     Work::Layout {
         limit: LIMIT,
-        wording,
+        wording: wording_given(words),
+    }
+}
+
+/// What is asked of files by `list`.
+fn listed_given(words: &ArgMatches) -> Work
+    ensures { ListsAs LIMIT words.now result }
+{
+    Work::List {
+        limit: LIMIT,
+        style: style_given(words),
+        wording: wording_given(words),
     }
 }
 
@@ -97,7 +113,7 @@ pub fn work_given(command: &str, words: &ArgMatches) -> Work
     ensures check { command.now ≡ codes "check" → ChecksAs LIMIT words.now result }
     ensures layout { command.now ≡ codes "layout" → LaysOutAs LIMIT words.now result }
     ensures list { (command.now ≡ codes "check" → ⊥) → (command.now ≡ codes "layout" → ⊥)
-        → (style : FloatStyle) × (result ≡ Work.List LIMIT style) × GivesStyle words.now style }
+        → ListsAs LIMIT words.now result }
 {
     if command == "check" {
         return checked_given(words);
@@ -105,10 +121,7 @@ pub fn work_given(command: &str, words: &ArgMatches) -> Work
     if command == "layout" {
         return laid_out_given(words);
     }
-    Work::List {
-        limit: LIMIT,
-        style: style_given(words),
-    }
+    listed_given(words)
 }
 
 /// How files are shown by `check`.
@@ -122,9 +135,9 @@ fn check_form(words: &ArgMatches) -> Form
     if brief { Form::Brief } else { Form::Lines }
 }
 
-/// How files are shown by `layout`.
-fn layout_form(words: &ArgMatches) -> Form
-    ensures { ShowsLayout words.now result }
+/// How files are shown by `layout` and `list`.
+fn answer_form(words: &ArgMatches) -> Form
+    ensures { ShowsAnswer words.now result }
 {
     if flag_given(words, "json") {
         Form::Object
@@ -136,16 +149,12 @@ fn layout_form(words: &ArgMatches) -> Form
 /// How files are shown by `check`, `layout` or `list`.
 pub fn form_given(command: &str, words: &ArgMatches) -> Form
     ensures check { command.now ≡ codes "check" → ShowsCheck words.now result }
-    ensures layout { command.now ≡ codes "layout" → ShowsLayout words.now result }
-    ensures list { (command.now ≡ codes "check" → ⊥) → (command.now ≡ codes "layout" → ⊥) → result ≡ Form.Lines }
+    ensures others { (command.now ≡ codes "check" → ⊥) → ShowsAnswer words.now result }
 {
     if command == "check" {
         return check_form(words);
     }
-    if command == "layout" {
-        return layout_form(words);
-    }
-    Form::Lines
+    answer_form(words)
 }
 
 /// The version of this word.

@@ -11,3 +11,4 @@ mod ordering;
 mod telling;
 
 pub use laying::layout_engine;
+pub use telling::fault_object;

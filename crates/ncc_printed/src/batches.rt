@@ -94,7 +94,7 @@ impl<'a> Shelf for Two<'a> {
 }
 
 /// What each of three files is asked, and what is printed of them.
-const ROWS: [(Work, Form, Answer, &str); 6] = [
+const ROWS: [(Work, Form, Answer, &str); 7] = [
     (
         Work::Check {
             limit: LIMIT,
@@ -117,6 +117,7 @@ const ROWS: [(Work, Form, Answer, &str); 6] = [
         Work::List {
             limit: LIMIT,
             style: FloatStyle::Decimal,
+            wording: Wording::Words,
         },
         Form::Lines,
         Answer::Device,
@@ -126,6 +127,7 @@ const ROWS: [(Work, Form, Answer, &str); 6] = [
         Work::List {
             limit: 31,
             style: FloatStyle::Bits,
+            wording: Wording::Words,
         },
         Form::Brief,
         Answer::Device,
@@ -139,6 +141,16 @@ const ROWS: [(Work, Form, Answer, &str); 6] = [
         Form::Lines,
         Answer::Device,
         "a: file 32\na: header 0 32\na: after 0\nbb: fault EndsEarly at 28\nd: file 32\nd: header 0 32\nd: after 0\n",
+    ),
+    (
+        Work::List {
+            limit: LIMIT,
+            style: FloatStyle::Bits,
+            wording: Wording::Members,
+        },
+        Form::Object,
+        Answer::Device,
+        "{\"file\":\"a\",\"status\":0,\"version\":1,\"numrecs\":0,\"header_length\":32,\"dimensions\":[],\"attributes\":[],\"variables\":[]}\n{\"file\":\"bb\",\"status\":1,\"verdict\":\"fault\",\"fault\":\"EndsEarly\",\"offset\":28}\n{\"file\":\"ccc\",\"status\":3,\"verdict\":\"error\",\"error\":\"device\"}\n{\"file\":\"d\",\"status\":0,\"version\":1,\"numrecs\":0,\"header_length\":32,\"dimensions\":[],\"attributes\":[],\"variables\":[]}\n",
     ),
     (
         Work::Explain {

@@ -1,6 +1,7 @@
 //! Sources, stores and sinks that fail.
 
 use super::helpers::{ATTRIBUTES_TEXT, EACH_NOTE, EACH_NOTE_TEXT, pick_of};
+use ncc_batch::list_source;
 use ncc_engines::{Answer, check_engine, csv_engine, list_engine};
 use ncc_files::{ATTRIBUTES, FIXED, LIMIT, bytes_of};
 use ncc_header::{ReadSource, WriteSink};
@@ -70,6 +71,25 @@ fn failing_sources(rt: HostRuntime) -> Result<(), Fail> {
             list_engine(alloc, &mut source, LIMIT, FloatStyle::Bits, &mut sink) == Answer::Device
         );
         assert!(rt; sink.into_inner().is_empty());
+    }
+    Ok(())
+}
+
+/// As an object that is what goes out.
+#[test]
+fn failing_sources_as_objects(rt: HostRuntime) -> Result<(), Fail> {
+    let alloc = rt.alloc();
+    let input = bytes_of(alloc, &ATTRIBUTES)?;
+    let wanted = "{\"file\":\"-\",\"status\":3,\"verdict\":\"error\",\"error\":\"device\"}\n";
+    for left in 0..input.len() {
+        let mut source = ReadSource::new(FailingReader {
+            bytes: &input,
+            left,
+        });
+        let mut sink = WriteSink::new(Vec::new(alloc));
+        let answer = list_source(alloc, &mut source, b"-", LIMIT, FloatStyle::Bits, &mut sink);
+        assert!(rt; answer == Ok(Answer::Device));
+        assert!(rt; sink.into_inner().as_slice() == wanted.as_bytes());
     }
     Ok(())
 }

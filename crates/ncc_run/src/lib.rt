@@ -4,6 +4,7 @@
 mod converting_files;
 mod finishing;
 mod folder;
+mod input;
 mod limited;
 mod many;
 mod progress;

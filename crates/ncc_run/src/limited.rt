@@ -1,7 +1,7 @@
 //! The commands' engines with the program's limit of a header's bytes.
 
-ghost use Rattle.std.specs.Prelude.{◌≡◌, ◌≢◌, ◌⊎◌, ◌+◌, ◌<◌, ◌≤◌, max, List, ℕ, Some, length, true, IsTrue, IsSome, IfSome};
-ghost use Rattle.ncc_values.specs.Failures.{Rose};
+ghost use Rattle.std.specs.Prelude.{◌≡◌, ◌≢◌, ◌⊎◌, ◌+◌, ◌<◌, ◌≤◌, max, List, ℕ, Some, Ok, length, true, IsTrue, IsSome, IfOk, IfSome};
+ghost use Rattle.ncc_values.specs.Failures.{Counts, Rose};
 ghost use Rattle.ncc_schema.specs.Device.{AsksFew, LosesAtMost, Puts};
 ghost use Rattle.ncc_schema.specs.Schema.{Place};
 ghost use Rattle.ncc_schema.specs.declared.schema.Header.{Header};
@@ -27,10 +27,15 @@ ghost use Rattle.ncc_making.specs.Conversions.{ChecksAndCopies, IsRefused, Lasts
 ghost use Rattle.ncc_engines.specs.Extending.{ExtendsByFew, ExtendsInto, IsFilled, IsFrontOfRefusal, LeavesAtStop, LeavesBytes, Settles};
 ghost use Rattle.ncc_engines.specs.Listing.{IsFaultOf, Lists};
 ghost use Rattle.ncc_engines.specs.Selecting.{IsCsvText, SelectsByFew, SelectsInto};
+ghost use Rattle.ncc_json.specs.declared.wording.Wording.{Wording};
+ghost use Rattle.ncc_batch.specs.Answered.{SendsOne, TextFails};
+ghost use Rattle.ncc_batch.specs.declared.form.Form.{Form};
+ghost use Rattle.ncc_batch.specs.declared.work.Work.{Work};
 
+use ncc_batch::list_source;
 use ncc_commands::{Converting, Extending, LIMIT, Selecting};
 use ncc_engines::{Answer, csv_engine, extend_engine, list_engine};
-use ncc_header::{Sink, Source};
+use ncc_header::{Failed, Sink, Source};
 use ncc_lines::{FloatStyle, Progress};
 use ncc_making::{Target, convert_store};
 use ncc_store::{FileStore, Store, SystemFile};
@@ -54,6 +59,26 @@ pub fn listed<R: Source, W: Sink>(
     ensures fails { Fails W.Sink sink.old sink.new result (R.failures source.old) (R.failures source.new) }
 {
     list_engine(alloc, source, LIMIT, style, sink)
+}
+
+/// The same as an object with this path.
+pub fn listed_object<R: Source, W: Sink>(
+    alloc: Global,
+    source: &mut R,
+    path: &[u8],
+    style: FloatStyle,
+    sink: &mut W,
+) -> Result<Answer, Failed>
+    ensures sends { IfSome (R.left source.old) (λ input. SendsOne (Work.List LIMIT style Wording.Members) Form.Object
+        path.now (Some input) (W.put sink.old) (W.put sink.new) result) }
+    ensures exactly { result ≡ Ok Answer.Passed → IfSome (R.left source.old) (λ input.
+        (h : Header) × Begins input LIMIT h × IsLeft (R.left source.new) input h) }
+    ensures most { LosesAtMost (R.left source.old) (R.left source.new) LIMIT }
+    ensures calls { AsksFew (R.left source.old) (R.left source.new) (R.calls source.old) (R.calls source.new) }
+    ensures fails { IfOk result (λ a. TextFails a (R.failures source.old) (R.failures source.new)) }
+    ensures count { Counts (W.failures sink.old) (W.failures sink.new) result }
+{
+    list_source(alloc, source, path, LIMIT, style, sink)
 }
 
 /// Prints what is picked of a variable onto a sink, with the program's limit.

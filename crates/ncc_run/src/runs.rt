@@ -4,6 +4,7 @@ ghost use Rattle.std.specs.Prelude.{◌≤◌};
 
 use crate::converting_files::convert;
 use crate::finishing::{Ended, USAGE, end, explain, finish, shown};
+use crate::input::{input_style, list_input};
 use crate::many::{NoNames, answer_many, names_given};
 use crate::progress::{ProgressLine, Shown, Terminals};
 use crate::single::{check, extend, list, select};
@@ -114,10 +115,13 @@ fn run_files<'a, R: Files<File = File> + Clock + AllocGlobal, I: Read, O: Write,
             return end(Answer::Device, Some(trouble), None, shown.reasons, err);
         }
     };
+    let reads_input = words.get_str("files-from0").is_none();
+    if let Some(style) = input_style(&names, work, reads_input) {
+        return list_input(rt.alloc(), input, style, out, err, shown.reasons);
+    }
     let Some(name) = only_file(&names, form) else {
         return answer_all_of(rt, &names, work, form, out, err, shown);
     };
-    let reads_input = words.get_str("files-from0").is_none();
     answer_one_of(rt, &names, name, work, reads_input, input, out, err, shown)
 }
 

@@ -12,7 +12,7 @@ returns-in-Check-clause-memory g c = λ told text fault.
 
 pub returns-in-List-clause-memory : goal.returns-in-List-clause-memory
 returns-in-List-clause-memory g c = λ told text fault.
-    c.list_store_engine.ensures.memory told text
+    c.write_list.ensures.memory told text
     (subst (λ (w : Work). IsFaultIn w (g.S.Store.bytes c.args.store.now) text) c.in-List.is fault)
 
 pub returns-in-Explain-clause-once : goal.returns-in-Explain-clause-once

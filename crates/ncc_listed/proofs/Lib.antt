@@ -1,0 +1,2 @@
+mod DecimalNumbers
+mod OneList
