@@ -16,6 +16,7 @@ use crate::work::Work;
 use ncc_engines::{Answer, check_engine, list_store_engine};
 use ncc_explain::explain_engine;
 use ncc_header::{Sink, WriteSink};
+use ncc_picture::picture_engine;
 use ncc_places::layout_engine;
 use ncc_store::Store;
 use std::alloc::Global;
@@ -53,6 +54,7 @@ pub fn write_text<S: Store, W: Sink>(
         } => explain_engine(alloc, store, limit, strict, wording, sink),
         Work::List { limit, style } => list_store_engine(alloc, store, limit, style, sink),
         Work::Layout { limit, wording } => layout_engine(alloc, store, limit, wording, sink),
+        Work::Picture { limit } => picture_engine(alloc, store, limit, sink),
     }
 }
 

@@ -27,4 +27,8 @@ pub enum Work {
         limit: u64,
         wording: Wording,
     },
+    /// The same as a picture.
+    Picture {
+        limit: u64,
+    },
 }

@@ -2,7 +2,7 @@
 
 ghost use Rattle.std.specs.Prelude.{◌≡◌, Some, codes};
 ghost use Rattle.ncc_commands.specs.Given.{GivesFlag, GivesNumber, GivesStyle, given, word_or_none};
-ghost use Rattle.ncc_commands.specs.Tasks.{ChecksAs, LaysOutAs, ShowsCheck, ShowsLayout};
+ghost use Rattle.ncc_commands.specs.Tasks.{ChecksAs, LaysOutAs, ShowsCheck, ShowsLayout, TellsAs};
 ghost use Rattle.ncc_lines.specs.declared.style.FloatStyle.{FloatStyle};
 
 use crate::commands::LIMIT;
@@ -77,9 +77,9 @@ fn checked_given(words: &ArgMatches) -> Work
     Work::Check { limit, strict }
 }
 
-/// What is asked of files by `layout`.
-fn laid_out_given(words: &ArgMatches) -> Work
-    ensures { LaysOutAs LIMIT words.now result }
+/// What is asked of files by `layout` without a picture.
+fn told_given(words: &ArgMatches) -> Work
+    ensures { TellsAs LIMIT words.now result }
 {
     let wording = if flag_given(words, "json") {
         Wording::Members
@@ -89,6 +89,16 @@ fn laid_out_given(words: &ArgMatches) -> Work
     Work::Layout {
         limit: LIMIT,
         wording,
+    }
+}
+
+/// What is asked of files by `layout`.
+fn laid_out_given(words: &ArgMatches) -> Work
+    ensures { LaysOutAs LIMIT words.now result }
+{
+    match words.get_str("svg") {
+        Some(_) => Work::Picture { limit: LIMIT },
+        None => told_given(words),
     }
 }
 
