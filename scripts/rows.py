@@ -11,7 +11,8 @@ next line, `#` begins a comment. The calls:
     explain WORD..                 a verdict in words
     json COMMAND WORD..            the object of check or layout, with FILE for the path
     list [--decimal] WORD..        the lines of the header
-    layout WORD..                  where everything lies
+    layout WORD..                  where everything lies; --json and --svg must agree with it
+    picture WORD..                 the picture of layout
     fronts WORD..                  check and list: each shorter front ends early in the field that it cuts
     csv NAME VARIABLE OPTION..     the sheet of a variable, whose name may stand in double quotes
     extend NAME N                  records that are added; NAME is the file then
@@ -36,6 +37,7 @@ line for each number, for which `#` stands.
 """
 import collections, glob, json, os, re, struct, subprocess, sys, tempfile
 import objects
+import pictures
 
 KINDS = {"byte": "b", "char": "B", "short": "h", "int": "i", "float": "I", "double": "Q",
          "ubyte": "B", "ushort": "H", "uint": "I", "int64": "q", "uint64": "Q"}
@@ -196,6 +198,13 @@ class Bench:
             raise ValueError(line)
         return objects.told(found) if command == "check" else objects.laid(found)
 
+    def pictured(self, text):
+        """How the picture of the placed file differs from what layout says of it, or nothing."""
+        try:
+            return pictures.differs(self.say("layout", "--svg", self.path), text)
+        except (SyntaxError, AttributeError, TypeError) as error:
+            return f"no picture: {error}"
+
     def object(self, command, file):
         """An object, to the letter; its status is the program's."""
         self.place(file)
@@ -230,6 +239,8 @@ class Bench:
                 lines += ["layout", laid]
             if (said := self.agreed("layout", text=laid)) != laid:
                 lines += ["layout with --json", said]
+            if said := self.pictured(laid):
+                lines += ["layout with --svg", said]
         return "\n".join(lines) + self.kept(file)
 
     def fronts(self, words):
@@ -308,7 +319,11 @@ class Bench:
             case ["layout", *words]:
                 text = self.read(["layout", self.path], self.spelling.file(words))
                 said = self.agreed("layout", text=text)
-                return text if said == text else f"{text}\nwith --json\n{said}"
+                shown = self.pictured(text)
+                others = ["with --json", said] * (said != text) + ["with --svg", shown] * (shown != "")
+                return "\n".join([text, *others])
+            case ["picture", *words]:
+                return self.read(["layout", "--svg", self.path], self.spelling.file(words))
             case ["fronts", *words]:
                 return self.fronts(words)
             case ["csv", name, variable, *options]:
