@@ -66,6 +66,7 @@ refuse "$(cat "$top/examples/noted.listed")" list noted.nc
 refuse "$(cat "$top/examples/noted.checked")" check noted.nc
 refuse "$("$ncc" check --explain "$top/examples/noted.nc")" check --explain noted.nc
 refuse "$("$ncc" layout "$top/examples/ocean.nc")" layout ocean.nc
+refuse "$("$ncc" layout --svg "$top/examples/ocean.nc")" layout --svg ocean.nc
 other='{"file":"noted.nc","status":3,"verdict":"error","error":"memory"}'
 refuse "$(cd "$top/examples" && "$ncc" check --json noted.nc)" check --json noted.nc
 other='{"file":"ocean.nc","status":3,"verdict":"error","error":"memory"}'

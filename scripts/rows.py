@@ -11,7 +11,8 @@ next line, `#` begins a comment. The calls:
     explain WORD..                 a verdict in words
     json COMMAND WORD..            the object of check, layout, list or list --decimal, with FILE for the path
     list [--decimal] WORD..        the lines of the header; --json must agree with it
-    layout WORD..                  where everything lies
+    layout WORD..                  where everything lies; --json and --svg must agree with it
+    picture WORD..                 the picture of layout
     fronts WORD..                  check and list: each shorter front ends early in the field that it cuts
     csv NAME VARIABLE OPTION..     the sheet of a variable, whose name may stand in double quotes
     extend NAME N                  records that are added; NAME is the file then
@@ -36,6 +37,7 @@ line for each number, for which `#` stands.
 """
 import collections, glob, json, os, re, struct, subprocess, sys, tempfile
 import objects
+import pictures
 
 KINDS = {"byte": "b", "char": "B", "short": "h", "int": "i", "float": "I", "double": "Q",
          "ubyte": "B", "ushort": "H", "uint": "I", "int64": "q", "uint64": "Q"}
@@ -198,6 +200,13 @@ class Bench:
             return objects.listed(line, decimal="--decimal" in options)
         return objects.told(found) if command == "check" else objects.laid(found)
 
+    def pictured(self, text):
+        """How the picture of the placed file differs from what layout says of it, or nothing."""
+        try:
+            return pictures.differs(self.say("layout", "--svg", self.path), text)
+        except (SyntaxError, AttributeError, TypeError) as error:
+            return f"no picture: {error}"
+
     def with_object(self, command, *options, text):
         """What a command says of the placed file, and what its object stands for where that is something else."""
         said = self.agreed(command, *options, text=text)
@@ -239,6 +248,8 @@ class Bench:
                 lines += ["list with --json", said]
             if (said := self.agreed("layout", text=laid)) != laid:
                 lines += ["layout with --json", said]
+            if said := self.pictured(laid):
+                lines += ["layout with --svg", said]
         return "\n".join(lines) + self.kept(file)
 
     def fronts(self, words):
@@ -314,9 +325,15 @@ class Bench:
             case ["list", "--decimal", *words]:
                 text = self.read(["list", "--decimal", self.path], self.spelling.file(words))
                 return self.with_object("list", "--decimal", text=text)
-            case [("list" | "layout") as command, *words]:
-                text = self.read([command, self.path], self.spelling.file(words))
-                return self.with_object(command, text=text)
+            case ["list", *words]:
+                text = self.read(["list", self.path], self.spelling.file(words))
+                return self.with_object("list", text=text)
+            case ["layout", *words]:
+                text = self.read(["layout", self.path], self.spelling.file(words))
+                shown = self.pictured(text)
+                return self.with_object("layout", text=text) + (f"\nwith --svg\n{shown}" if shown else "")
+            case ["picture", *words]:
+                return self.read(["layout", "--svg", self.path], self.spelling.file(words))
             case ["fronts", *words]:
                 return self.fronts(words)
             case ["csv", name, variable, *options]:

@@ -114,6 +114,12 @@ wrong "error: the following required arguments were not provided:" list
 wrong "error: the following required arguments were not provided:" check
 wrong "error: the following required arguments were not provided:" layout
 wrong "error: the argument '--files-from0 <LIST>' cannot be used with '[FILE]...'" list --files-from0 names ocean.nc
+wrong "error: the argument '--svg <FILE>' cannot be used with '[FILE]...'" layout --svg tiny.nc ocean.nc
+wrong "error: the argument '--svg <FILE>' cannot be used with '--json'" layout --svg tiny.nc --json
+wrong "error: the argument '--svg <FILE>' cannot be used with '--files-from0 <LIST>'" layout --svg tiny.nc --files-from0 names
+wrong "error: a value is required for '--svg <FILE>' but none was supplied" layout --svg
+wrong "error: the argument '--svg <FILE>' cannot be used multiple times" layout --svg tiny.nc --svg ocean.nc
+wrong "error: unexpected argument '--svg' found" check --svg ocean.nc
 wrong "error: unexpected argument '--all' found" list --all ocean.nc
 wrong "error: invalid value 'x' for '--max-header <N>': invalid digit found in string" check --max-header x ocean.nc
 wrong "error: invalid value '18446744073709551616' for '--max-header <N>': number too large to fit in target type" \
@@ -154,7 +160,7 @@ check|Says whether files are sound, and what is unusual in them|--strict --brief
 convert|Writes what a file holds into a new file, in another version|--to --verbose --help
 csv|Prints the values of a variable, or of a selection of them|--start --count --stride --decimal --text --verbose --help
 extend|Adds records of fill values to a file|--verbose --help
-layout|Shows where everything in files lies|--json --files-from0 --verbose --help
+layout|Shows where everything in files lies|--json --svg --files-from0 --verbose --help
 list|Lists what the headers of files say|--decimal --json --files-from0 --verbose --help
 END
 expect_first "help by a word" 0 "Lists what the headers of files say" "" help list
@@ -802,6 +808,10 @@ expect "list of one file as an object" 0 "{\"file\":\"tiny.nc\",\"status\":0,$ti
 expect "list of several files, as objects" 3 "{\"file\":\"tiny.nc\",\"status\":0,$tiny_members}
 {\"file\":\"cut\",\"status\":1,\"verdict\":\"fault\",\"fault\":\"EndsEarly\",\"offset\":3}
 {\"file\":\"not_there.nc\",\"status\":3,\"verdict\":\"error\",\"error\":\"device\"}" "" list --json tiny.nc cut not_there.nc
+expect "a picture of a file that isn't there" 3 "" "error device
+ncc: not_there.nc: no such file or folder" layout --verbose --svg not_there.nc
+expect_first "a picture" 0 '<svg xmlns="http://www.w3.org/2000/svg" width="1080" height="156" viewBox="0 0 1080 156">' "" layout --svg tiny.nc
+expect "a file without a picture" 1 "fault EndsEarly at 3" "" layout --svg cut
 printf 'tiny.nc\0bad_truncated_1.nc\0' > names
 expect "names from a list" 1 "tiny.nc: ok CDF-1 records 0 variables 1
 bad_truncated_1.nc: fault Truncated at 60" "" check --files-from0 names

@@ -13,10 +13,11 @@ use Rattle.ncc_explain.specs.Explaining.{IsToldFault, IsToldText}
 use Rattle.ncc_json.specs.declared.wording.Wording.TheVariants.{Members, Words}
 use Rattle.ncc_listed.specs.Listed.{IsListedText, IsFaultOf as IsListedFault}
 use Rattle.ncc_places.specs.Layouts.{IsLayoutText, IsFaultOf as IsLayoutFault}
+use Rattle.ncc_picture.specs.Pictures.{IsPictureText, IsFaultOf as IsPictureFault}
 use Rattle.ncc_batch.specs.Shown.{shown, worst, devices}
 use Rattle.ncc_batch.specs.declared.form.Form.{Form}
 use Rattle.ncc_batch.specs.declared.work.Work.{Work}
-use Rattle.ncc_batch.specs.declared.work.Work.TheVariants.{Check, Explain, List as Listing, Layout}
+use Rattle.ncc_batch.specs.declared.work.Work.TheVariants.{Check, Explain, List as Listing, Layout, Picture}
 
 -- ---- one file
 
@@ -27,6 +28,7 @@ TextsOf (Explain limit strict wording) bytes = IsToldText wording bytes limit st
 TextsOf (Listing limit style Words) bytes = IsListText bytes limit style
 TextsOf (Listing limit style Members) bytes = IsListedText bytes limit style
 TextsOf (Layout limit wording) bytes = IsLayoutText wording bytes limit
+TextsOf (Picture limit) bytes = IsPictureText bytes limit
 
 -- the line of the fault that these bytes have, or what is told of it
 abbrev pub IsFaultIn : Work → (bytes : List ℕ) → (text : List ℕ) → Type 0
@@ -35,6 +37,7 @@ IsFaultIn (Explain limit strict wording) bytes text = IsToldFault wording bytes 
 IsFaultIn (Listing limit style Words) bytes text = IsListFault bytes limit text
 IsFaultIn (Listing limit style Members) bytes text = IsListedFault bytes limit text
 IsFaultIn (Layout limit wording) bytes text = IsLayoutFault wording bytes limit text
+IsFaultIn (Picture limit) bytes text = IsPictureFault bytes limit text
 
 -- all of its text is in memory before any of it is sent
 abbrev pub IsWhole : Work → Type 0
@@ -43,6 +46,7 @@ IsWhole (Explain limit strict wording) = Unit {0}
 IsWhole (Listing limit style Words) = ⊥
 IsWhole (Listing limit style Members) = Unit {0}
 IsWhole (Layout limit wording) = Unit {0}
+IsWhole (Picture limit) = Unit {0}
 
 -- how many bytes a header may have
 abbrev pub limit_of : Work → ℕ
@@ -50,6 +54,7 @@ limit_of (Check limit strict) = limit
 limit_of (Explain limit strict wording) = limit
 limit_of (Listing limit style wording) = limit
 limit_of (Layout limit wording) = limit
+limit_of (Picture limit) = limit
 
 -- the calls of the store: for a check in words one more than for a check
 abbrev pub calls_of : Work → (file : ℕ) → ℕ
@@ -57,6 +62,7 @@ calls_of (Check limit strict) file = calls_for file limit
 calls_of (Explain limit strict wording) file = 1 + calls_for file limit
 calls_of (Listing limit style wording) file = calls_for file limit
 calls_of (Layout limit wording) file = calls_for file limit
+calls_of (Picture limit) file = calls_for file limit
 
 -- those beside the reads of what may be the header
 abbrev pub other_calls : Work → ℕ
@@ -64,6 +70,7 @@ other_calls (Check limit strict) = 1
 other_calls (Explain limit strict wording) = 2
 other_calls (Listing limit style wording) = 1
 other_calls (Layout limit wording) = 1
+other_calls (Picture limit) = 1
 
 -- an answer and its text; of a store that failed, or without memory, it is empty
 abbrev pub IsTextIn : Work → (bytes : List ℕ) → Answer → (text : List ℕ) → Type 0

@@ -19,6 +19,7 @@ use ncc_header::{Sink, WriteSink};
 use ncc_json::Wording;
 use ncc_lines::FloatStyle;
 use ncc_listed::members_store_engine;
+use ncc_picture::picture_engine;
 use ncc_places::layout_engine;
 use ncc_store::Store;
 use std::alloc::Global;
@@ -85,6 +86,7 @@ pub fn write_text<S: Store, W: Sink>(
             wording,
         } => write_list(alloc, store, limit, style, wording, sink),
         Work::Layout { limit, wording } => layout_engine(alloc, store, limit, wording, sink),
+        Work::Picture { limit } => picture_engine(alloc, store, limit, sink),
     }
 }
 

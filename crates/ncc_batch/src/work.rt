@@ -28,4 +28,8 @@ pub enum Work {
         limit: u64,
         wording: Wording,
     },
+    /// The same as a picture.
+    Picture {
+        limit: u64,
+    },
 }

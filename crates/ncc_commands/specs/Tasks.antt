@@ -1,5 +1,5 @@
 -- What the words of a command line ask for.
-use Rattle.std.specs.Prelude.{◌≡◌, ℕ, Bool, true, false, List, Some, codes}
+use Rattle.std.specs.Prelude.{◌≡◌, ℕ, Bool, true, false, List, Some, IsSome, None, codes}
 use Rattle.clap.specs.declared.parser.matches.ArgMatches.{ArgMatches}
 use Rattle.ncc_values.specs.declared.version.Version.{Version}
 use Rattle.ncc_values.specs.declared.version.Version.TheVariants.{V1, V2, V5}
@@ -9,7 +9,7 @@ use Rattle.ncc_json.specs.declared.wording.Wording.TheVariants as wordings
 use Rattle.ncc_batch.specs.declared.form.Form.{Form}
 use Rattle.ncc_batch.specs.declared.form.Form.TheVariants.{Brief, Lines, Object}
 use Rattle.ncc_batch.specs.declared.work.Work.{Work}
-use Rattle.ncc_batch.specs.declared.work.Work.TheVariants.{Check, Explain, Layout, List as ListWork}
+use Rattle.ncc_batch.specs.declared.work.Work.TheVariants.{Check, Explain, Layout, List as ListWork, Picture}
 use Rattle.ncc_commands.specs.Given.{GivesFlag, GivesList, GivesNumber, GivesStyle, GivesWording, given, word_or_none}
 use Rattle.ncc_commands.specs.Words.{bytes_named}
 use Rattle.ncc_commands.specs.declared.task.Converting.{Converting}
@@ -57,14 +57,19 @@ ChecksAs limit words work = (most : ℕ) × (strict : Bool) × (told : Bool) × 
     × (members ≡ false → told ≡ true → work ≡ Explain most strict wordings.Words)
     × (members ≡ false → told ≡ false → work ≡ Check most strict)
 
--- a layout: as an object, or in lines
-abbrev pub LaysOutAs : (limit : ℕ) → ArgMatches → Work → Type 0
-LaysOutAs limit words work = (wording : Wording) × GivesWording words wording × (work ≡ Layout limit wording)
+-- a layout in words: as an object, or in lines
+abbrev pub TellsAs : (limit : ℕ) → ArgMatches → Work → Type 0
+TellsAs limit words work = (wording : Wording) × GivesWording words wording × (work ≡ Layout limit wording)
 
 -- what the headers say: as an object, or in lines, and how floats are shown
 abbrev pub ListsAs : (limit : ℕ) → ArgMatches → Work → Type 0
 ListsAs limit words work = (style : FloatStyle) × (wording : Wording) × GivesStyle words style × GivesWording words wording
     × (work ≡ ListWork limit style wording)
+
+-- a layout: as a picture where a file for one is given, or else in words
+abbrev pub LaysOutAs : (limit : ℕ) → ArgMatches → Work → Type 0
+LaysOutAs limit words work = (IsSome (given words (codes "svg")) → work ≡ Picture limit)
+    × (given words (codes "svg") ≡ None → TellsAs limit words work)
 
 -- how a check of a file is shown
 abbrev pub ShowsCheck : ArgMatches → Form → Type 0

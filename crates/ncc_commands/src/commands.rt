@@ -64,6 +64,11 @@ files each line has the path, a colon and a space before it, and the status is t
 --json the same is printed as an object for each file, in one line. A list of names has a NUL byte
 after each, as `find -print0` writes them.
 
+With --svg FILE a picture is printed in place of the lines, which a browser shows: the file as a bar
+from its first byte to its last, below it one record, and a line for each of the 40 variables with
+the most bytes. Gaps are white, bytes after all are grey, and what variables share or the file lacks
+is hatched in red.
+
 A header may have 67108864 bytes; a longer one is the fault HeaderTooLong.
 
 Status:
@@ -193,6 +198,11 @@ fn files_argument<'a>(alloc: Global) -> Result<Arg<'a>, AllocError> {
         .required_unless_present("files-from0")
 }
 
+/// Files, unless a list names them, or one is to be a picture.
+fn laid_out_argument<'a>(alloc: Global) -> Result<Arg<'a>, AllocError> {
+    files_argument(alloc)?.required_unless_present("svg")
+}
+
 /// A list of names of files.
 fn names_argument<'a>(alloc: Global) -> Result<Arg<'a>, AllocError> {
     Arg::new(alloc, "files-from0")
@@ -249,14 +259,27 @@ fn list_command<'a>(alloc: Global) -> Result<Command<'a>, AllocError> {
         .arg(files_argument(alloc)?)
 }
 
+/// The file of a picture.
+fn picture_argument<'a>(alloc: Global) -> Result<Arg<'a>, AllocError> {
+    Arg::new(alloc, "svg")
+        .long("svg")
+        .value_name("FILE")
+        .help("Prints a picture of this file, and of no other")
+        .action(ArgAction::Set)
+        .conflicts_with("FILE")?
+        .conflicts_with("files-from0")?
+        .conflicts_with("json")
+}
+
 fn layout_command<'a>(alloc: Global) -> Result<Command<'a>, AllocError> {
     Command::new(alloc, "layout")
         .about("Shows where everything in files lies")
         .after_help(LAYOUT_STATUSES)
         .arg(json_argument(alloc))?
+        .arg(picture_argument(alloc)?)?
         .arg(names_argument(alloc)?)?
         .arg(verbose_argument(alloc))?
-        .arg(files_argument(alloc)?)
+        .arg(laid_out_argument(alloc)?)
 }
 
 fn check_command<'a>(alloc: Global) -> Result<Command<'a>, AllocError> {

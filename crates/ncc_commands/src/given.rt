@@ -2,7 +2,8 @@
 
 ghost use Rattle.std.specs.Prelude.{◌≡◌, Some, codes};
 ghost use Rattle.ncc_commands.specs.Given.{GivesFlag, GivesNumber, GivesStyle, GivesWording, given, word_or_none};
-ghost use Rattle.ncc_commands.specs.Tasks.{ChecksAs, LaysOutAs, ListsAs, ShowsAnswer, ShowsCheck};
+ghost use Rattle.ncc_commands.specs.Tasks.{ChecksAs, LaysOutAs, ListsAs, ShowsAnswer, ShowsCheck, TellsAs};
+ghost use Rattle.ncc_lines.specs.declared.style.FloatStyle.{FloatStyle};
 
 use crate::commands::LIMIT;
 use clap::ArgMatches;
@@ -87,9 +88,9 @@ fn checked_given(words: &ArgMatches) -> Work
     Work::Check { limit, strict }
 }
 
-/// What is asked of files by `layout`.
-fn laid_out_given(words: &ArgMatches) -> Work
-    ensures { LaysOutAs LIMIT words.now result }
+/// What is asked of files by `layout` without a picture.
+fn told_given(words: &ArgMatches) -> Work
+    ensures { TellsAs LIMIT words.now result }
 {
     Work::Layout {
         limit: LIMIT,
@@ -105,6 +106,16 @@ fn listed_given(words: &ArgMatches) -> Work
         limit: LIMIT,
         style: style_given(words),
         wording: wording_given(words),
+    }
+}
+
+/// What is asked of files by `layout`.
+fn laid_out_given(words: &ArgMatches) -> Work
+    ensures { LaysOutAs LIMIT words.now result }
+{
+    match words.get_str("svg") {
+        Some(_) => Work::Picture { limit: LIMIT },
+        None => told_given(words),
     }
 }
 

@@ -1,3 +1,3 @@
-mod Ordered
+pub mod Ordered
 mod Ending
-mod OneLayout
+pub mod OneLayout

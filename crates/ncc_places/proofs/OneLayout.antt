@@ -16,11 +16,9 @@ use Rattle.ncc_layout.proofs.StandardPlaces.{record_sum_first}
 use Rattle.ncc_check.specs.declared.fault.FileFault.{FileFault}
 use Rattle.ncc_check.specs.declared.fault.FileFault.TheVariants as of
 use Rattle.ncc_check.specs.Faults.{Fails}
-use Rattle.ncc_engines.specs.declared.answer.Answer.{Answer}
 use Rattle.ncc_engines.specs.declared.answer.Answer.TheVariants.{Passed, Refused, Device, Memory}
 use Rattle.ncc_engines.proofs.Sent.{OneText}
-use Rattle.ncc_json.specs.declared.wording.Wording.{Wording}
-use Rattle.ncc_places.specs.Layouts.{IsFaultOf, IsLayoutOf, IsLayoutText, fault_told, layout_told}
+use Rattle.ncc_places.specs.Layouts.{IsToldFaultOf, IsToldOf, IsToldText}
 use Rattle.ncc_places.specs.Measuring.{Finds, HidesPlaces}
 use Rattle.ncc_places.specs.declared.measuring.Measured.{Measured}
 
@@ -46,26 +44,26 @@ fit_take dims vars n fit = record {
 fits_all : (s : Schema) (n : ℕ) → Fit s.dims s.vars → FirstTooLarge s n → ⊥
 fits_all s n fit first = first.here (fit_take s.dims s.vars (n + 1) fit)
 
-module _ (laws : Laws) (wording : Wording) (bytes : List ℕ) (limit : ℕ) where
-  same_layout : (t u : List ℕ) → IsLayoutOf wording bytes limit t → IsLayoutOf wording bytes limit u → t ≡ u
+module _ (laws : Laws) (told : Header → ℕ → List ℕ) (of_fault : FileFault → List ℕ) (bytes : List ℕ) (limit : ℕ) where
+  same_layout : (t u : List ℕ) → IsToldOf told bytes limit t → IsToldOf told bytes limit u → t ≡ u
   same_layout t u x y =
       let header = laws.one_header bytes limit x.header y.header x.begins y.begins in
-      x.text_is ∙ ap (λ (h : Header). layout_told wording h (length bytes)) header ∙ sym y.text_is
+      x.text_is ∙ ap (λ (h : Header). told h (length bytes)) header ∙ sym y.text_is
 
-  same_fault : (t u : List ℕ) → IsFaultOf wording bytes limit t → IsFaultOf wording bytes limit u → t ≡ u
-  same_fault t u x y = x.3 ∙ ap (fault_told wording) (laws.one_fault bytes limit x.0 y.0 x.1 y.1) ∙ sym y.3
+  same_fault : (t u : List ℕ) → IsToldFaultOf of_fault bytes limit t → IsToldFaultOf of_fault bytes limit u → t ≡ u
+  same_fault t u x y = x.3 ∙ ap of_fault (laws.one_fault bytes limit x.0 y.0 x.1 y.1) ∙ sym y.3
 
   too_large : (h : Header) (kind : LayoutFaultKind) (n : ℕ) → kind ≡ TooLarge → FirstFault h.schema (places_of h.places) h.length (length bytes) kind n → FirstTooLarge h.schema n
   too_large h kind n is first = subst (λ (k : LayoutFaultKind). FirstFault h.schema (places_of h.places) h.length (length bytes) k n) is first
 
-  not_both : (t : List ℕ) (f : FileFault) → IsLayoutOf wording bytes limit t → Fails bytes limit f → HidesPlaces f → ⊥
+  not_both : (t : List ℕ) (f : FileFault) → IsToldOf told bytes limit t → Fails bytes limit f → HidesPlaces f → ⊥
   not_both t (of.Header f) x fails hides = laws.begun_or_stopped bytes limit x.header f x.begins fails
   not_both t (of.Layout f) x fails hides =
       let header = laws.one_header bytes limit x.header fails.header x.begins fails.begins in
       let fit : Fit fails.header.schema.dims fails.header.schema.vars = subst (λ (h : Header). Fit h.schema.dims h.schema.vars) header x.fit in
       fits_all fails.header.schema fails.fault.number fit (too_large fails.header f.kind fails.fault.number hides fails.fault.first)
 
-  pub one_text : OneText (IsLayoutText wording bytes limit)
+  pub one_text : OneText (IsToldText told of_fault bytes limit)
   one_text Passed Passed t u x y = same_layout t u x y
   one_text Passed Refused t u x y = absurd (not_both t y.0 x y.1 y.2)
   one_text Refused Passed t u x y = absurd (not_both u x.0 y x.1 x.2)
@@ -77,13 +75,13 @@ module _ (laws : Laws) (wording : Wording) (bytes : List ℕ) (limit : ℕ) wher
 
 -- ---- what is found is such a text
 
-pub laid : (wording : Wording) (bytes : List ℕ) (limit : ℕ) (x : Measured) (text : List ℕ) → Finds bytes limit x → text ≡ layout_told wording x.header x.file_length → IsLayoutOf wording bytes limit text
-laid wording bytes limit x text finds is = record {
+pub laid : (told : Header → ℕ → List ℕ) (bytes : List ℕ) (limit : ℕ) (x : Measured) (text : List ℕ) → Finds bytes limit x → text ≡ told x.header x.file_length → IsToldOf told bytes limit text
+laid told bytes limit x text finds is = record {
   header = x.header;
   begins = finds.begins;
   fit = finds.sizes.fit;
-  text_is = is ∙ ap (layout_told wording x.header) finds.length_is;
+  text_is = is ∙ ap (told x.header) finds.length_is;
 }
 
-pub faulty : (wording : Wording) (bytes : List ℕ) (limit : ℕ) (f : FileFault) → Fails bytes limit f × HidesPlaces f → IsFaultOf wording bytes limit (fault_told wording f)
-faulty wording bytes limit f x = (f, x.0, x.1, refl)
+pub faulty : (of_fault : FileFault → List ℕ) (bytes : List ℕ) (limit : ℕ) (f : FileFault) → Fails bytes limit f × HidesPlaces f → IsToldFaultOf of_fault bytes limit (of_fault f)
+faulty of_fault bytes limit f x = (f, x.0, x.1, refl)

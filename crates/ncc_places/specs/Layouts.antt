@@ -28,23 +28,32 @@ fault_told Members f = print (file_fault_members f)
 
 -- ---- what is right of bytes
 
--- where everything lies in bytes that begin with a header none of whose variables is too large
-pub record IsLayoutOf (wording : Wording) (bytes : List ℕ) (limit : ℕ) (text : List ℕ) : Type 0 where
+-- what is told of bytes that begin with a header none of whose variables is too large, by the header and their length
+pub record IsToldOf (told : Header → (file : ℕ) → List ℕ) (bytes : List ℕ) (limit : ℕ) (text : List ℕ) : Type 0 where
   pub header : Header
   pub begins : Begins bytes limit header
   pub fit : Fit header.schema.dims header.schema.vars
-  pub text_is : text ≡ layout_told wording header (length bytes)
+  pub text_is : text ≡ told header (length bytes)
 
--- the line of the first fault of bytes, with which nothing has a place
-abbrev pub IsFaultOf : Wording → (bytes : List ℕ) (limit : ℕ) → (text : List ℕ) → Type 0
-IsFaultOf wording bytes limit text = (f : FileFault) × Fails bytes limit f × HidesPlaces f × (text ≡ fault_told wording f)
+-- what is told of the first fault of bytes, with which nothing has a place
+abbrev pub IsToldFaultOf : (told : FileFault → List ℕ) → (bytes : List ℕ) (limit : ℕ) → (text : List ℕ) → Type 0
+IsToldFaultOf told bytes limit text = (f : FileFault) × Fails bytes limit f × HidesPlaces f × (text ≡ told f)
 
 -- a layout passes, whatever its faults, and a fault with which nothing has a place is refused
+abbrev pub IsToldText : (told : Header → (file : ℕ) → List ℕ) → (faulty : FileFault → List ℕ)
+    → (bytes : List ℕ) (limit : ℕ) → Answer → (text : List ℕ) → Type 0
+IsToldText told faulty bytes limit Passed text = IsToldOf told bytes limit text
+IsToldText told faulty bytes limit Refused text = IsToldFaultOf faulty bytes limit text
+IsToldText told faulty bytes limit Device text = ⊥
+IsToldText told faulty bytes limit Memory text = ⊥
+
+-- the line of the first fault
+abbrev pub IsFaultOf : Wording → (bytes : List ℕ) (limit : ℕ) → (text : List ℕ) → Type 0
+IsFaultOf wording bytes limit text = IsToldFaultOf (fault_told wording) bytes limit text
+
+-- where everything lies, or that line
 abbrev pub IsLayoutText : Wording → (bytes : List ℕ) (limit : ℕ) → Answer → (text : List ℕ) → Type 0
-IsLayoutText wording bytes limit Passed text = IsLayoutOf wording bytes limit text
-IsLayoutText wording bytes limit Refused text = IsFaultOf wording bytes limit text
-IsLayoutText wording bytes limit Device text = ⊥
-IsLayoutText wording bytes limit Memory text = ⊥
+IsLayoutText wording bytes limit answer text = IsToldText (layout_told wording) (fault_told wording) bytes limit answer text
 
 -- what went out, by the answer
 abbrev pub LaysOut : Wording → (bytes : List ℕ) (limit : ℕ) → Answer → (out : List ℕ) → Type 0

@@ -1,6 +1,5 @@
 -- What is found of a file, before its places are told.
 use Rattle.std.specs.Prelude.{◌≡◌, ℕ, List, length, Result, Ok, Err}
-use Rattle.ncc_schema.specs.declared.schema.Header.{Header}
 use Rattle.ncc_header.specs.Answers.{Begins}
 use Rattle.ncc_layout.specs.declared.fault.LayoutFaultKind.TheVariants.{TooLarge}
 use Rattle.ncc_layout.specs.Sizes.{AreSizes}

@@ -48,7 +48,7 @@ fn end_of(extent: &Extent) -> u128
 }
 
 /// Where the last slab of the first record ends.
-fn slabs_end(extents: &[Extent]) -> u128
+pub fn slabs_end(extents: &[Extent]) -> u128
     ensures value { result ≡ greatest_end (records_of extents.now) }
     ensures small { result < 2 ^ 65 }
 {

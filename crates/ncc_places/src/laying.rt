@@ -20,7 +20,7 @@ use ncc_store::Store;
 use std::alloc::Global;
 
 /// Sends a text, and takes no memory. After an `Err` a front of it is sent.
-fn send_text<W: Sink>(text: &[u8], sink: &mut W) -> Result<(), Halt>
+pub fn send_text<W: Sink>(text: &[u8], sink: &mut W) -> Result<(), Halt>
     ensures sent { SendsAll (W.put sink.old) (W.put sink.new) text.now result }
     ensures count { Blames (W.failures sink.old) (W.failures sink.new) result }
     ensures never { result ≢ Err Halt.Memory }

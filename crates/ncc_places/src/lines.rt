@@ -13,7 +13,7 @@ use ncc_lines::{push_decimal, push_name};
 use std::alloc::AllocError;
 
 /// Adds a number of up to 128 bits.
-fn push_wide(out: &mut Vec<u8>, n: u128) -> Result<(), AllocError>
+pub fn push_wide(out: &mut Vec<u8>, n: u128) -> Result<(), AllocError>
     ensures { OnOk result (out.new.items ≡ out.old.items ++ decimal n) }
 {
     let mut buffer = Buffer::new();
@@ -47,7 +47,7 @@ fn kind_words(is_record: bool) -> &'static [u8]
 
 /// Adds where a variable begins and ends.
 #[tactic(auto, unfolding(crate::specs::Words::extent_words))]
-fn push_extent(out: &mut Vec<u8>, extent: &Extent) -> Result<(), AllocError>
+pub fn push_extent(out: &mut Vec<u8>, extent: &Extent) -> Result<(), AllocError>
     ensures { OnOk result (out.new.items ≡ out.old.items ++ extent_words extent.now) }
 {
     out.extend_from_slice(kind_words(extent.is_record))?;
@@ -58,7 +58,7 @@ fn push_extent(out: &mut Vec<u8>, extent: &Extent) -> Result<(), AllocError>
 
 /// Adds how far a variable begins after the end of all before it, or before that end.
 #[tactic(auto, unfolding(crate::specs::Words::between_words))]
-fn push_between(out: &mut Vec<u8>, past: u128, begin: u64) -> Result<(), AllocError>
+pub fn push_between(out: &mut Vec<u8>, past: u128, begin: u64) -> Result<(), AllocError>
     ensures { OnOk result (out.new.items ≡ out.old.items ++ between_words past begin) }
 {
     let begin = begin as u128;
@@ -143,7 +143,7 @@ fn push_size(out: &mut Vec<u8>, size: u64, end: u128) -> Result<(), AllocError>
 }
 
 /// Adds the line of records.
-fn push_record_line(out: &mut Vec<u8>, records: Records) -> Result<(), AllocError>
+pub fn push_record_line(out: &mut Vec<u8>, records: Records) -> Result<(), AllocError>
     ensures { OnOk result (out.new.items ≡ out.old.items ++ record_line records) }
 {
     push_count(out, records.count, records.begin)?;

@@ -24,14 +24,15 @@ use std::alloc::{AllocError, Global};
 
 /// What lies where in a file: its variables in their order, its records, and where all ends.
 #[derive(Drop)]
-struct Laid {
-    extents: Vec<Extent>,
-    records: Option<Records>,
-    past: u128,
+pub struct Laid {
+    pub extents: Vec<Extent>,
+    pub records: Option<Records>,
+    /// Where all ends that the header speaks of.
+    pub past: u128,
 }
 
 /// Finds what lies where.
-fn lay(alloc: Global, file: &Measured) -> Result<Laid, AllocError>
+pub fn lay(alloc: Global, file: &Measured) -> Result<Laid, AllocError>
     requires begun { IsBegun file.now.header }
     requires sizes { AreSizes file.now.header.schema file.now.sizes }
     ensures extents { IfOk result (λ x. x.extents.items ≡ by_begin (extents_in file.now.header)) }

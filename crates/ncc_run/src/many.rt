@@ -74,7 +74,12 @@ pub fn names_given<'a, R: Files<File = File> + AllocGlobal, I: Read>(
         return Ok(names_in(alloc, &bytes)?);
     }
     let mut names = Vec::new(alloc);
-    let texts: &[&str] = words.get_strs("FILE").unwrap_or(&[]);
+    let id = if words.get_str("svg").is_some() {
+        "svg"
+    } else {
+        "FILE"
+    };
+    let texts: &[&str] = words.get_strs(id).unwrap_or(&[]);
     for text in texts {
         names.push(Seq::from_vec(line.bytes_of(text).to_vec(alloc)?))?;
     }

@@ -67,9 +67,8 @@ fn answer_one_of<R: Files<File = File> + Clock + AllocGlobal, I: Read, O: Write,
 {
     let Ended { answer, trouble } = match work {
         _ if names.is_cut => cut_off(name),
-        Work::Check { .. } | Work::Explain { .. } | Work::Layout { .. } => {
-            check(rt, name, work, out)
-        }
+        Work::Check { .. } | Work::Explain { .. } | Work::Layout { .. } | Work::Picture { .. } =>
+            check(rt, name, work, out),
         Work::List { style, .. } => list(rt, name, style, reads_input, input, out),
     };
     end(answer, trouble, out.reason(), shown.reasons, err)

@@ -1,0 +1,10 @@
+pub mod Marks
+pub mod Spans
+pub mod Parts
+pub mod Words
+pub mod Variables
+pub mod Bands
+pub mod FileBar
+pub mod RecordBar
+pub mod Rows
+pub mod Pictures
