@@ -215,9 +215,11 @@ def pages(text: str, helps: Help, date: str) -> dict[str, str]:
 
 
 def named(text: str) -> dict[str, set[str]]:
-    """The options that each usage line of the manual has, by command."""
-    lines = usage(text, "ncc")
-    return {line.split()[1]: set(re.findall(r"--([a-z0-9-]+)", line)) for line in lines}
+    """The options that the usage lines of the manual have, by command."""
+    found: dict[str, set[str]] = {}
+    for line in usage(text, "ncc"):
+        found.setdefault(line.split()[1], set()).update(re.findall(r"--([a-z0-9-]+)", line))
+    return found
 
 
 def first_cells(text: str, headings: list[str]) -> set[str]:
