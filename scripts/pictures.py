@@ -48,10 +48,15 @@ def color(line):
     return "c9" if line is None else f"c{line % 9}"
 
 
-def bytes_of(far, y, origin, part):
-    """A variable in a bar that begins at an origin, and what it shares."""
-    _, _, begin, end, past, words, line = part
-    yield span(far, y, color(line), begin - origin, end - origin, words)
+def own_bytes(far, y, origin, part):
+    """A variable in a bar that begins at an origin."""
+    _, _, begin, end, _, words, line = part
+    return span(far, y, color(line), begin - origin, end - origin, words)
+
+
+def shared_bytes(far, y, origin, part):
+    """What it shares."""
+    _, _, begin, end, past, words, _ = part
     if begin < past:
         yield span(far, y, "bad", begin - origin, min(past, end) - origin, words)
 
@@ -70,9 +75,11 @@ def file_bar(found):
         yield span(far, 30, "records", begin, end, found["words"])
         for number in range(count if count <= 64 else 0):
             yield rect("cut", place(far, begin + number * size), 30, 1, BAR)
+    for part in found["parts"]:
+        if not part[1]:
+            yield own_bytes(far, 30, 0, part)
     for part in is_there:
-        shown = list(bytes_of(far, 30, 0, part))
-        yield from shown[1:] if part[1] else shown
+        yield from shared_bytes(far, 30, 0, part)
     if past > file:
         yield span(far, 30, "bad", file, past, found["rest"])
     elif past < file:
@@ -87,7 +94,9 @@ def record_bar(found):
         yield ("text", 0, 92, f"one record, bytes 0 to {far}")
         yield span(far, 100, "gap", 0, far, found["words"])
         for part in inside:
-            yield from bytes_of(far, 100, origin, part)
+            yield own_bytes(far, 100, origin, part)
+        for part in inside:
+            yield from shared_bytes(far, 100, origin, part)
         yield rect("cut", place(far, size), 100, 1, BAR)
 
 

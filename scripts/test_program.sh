@@ -834,6 +834,16 @@ count "list of standard input, as an object" "0 {\"file\":\"-\",\"status\":0,$ti
 count "list of standard input that is cut, as an object" \
   '1 {"file":"-","status":1,"verdict":"fault","fault":"EndsEarly","offset":3}' \
   "$("$ncc" list --json - < cut > out 2> err; echo "$?" "$(cat out err)")"
+# A header with one attribute of the file, the float 1.5.
+printf 'CDF\001\0\0\0\0\0\0\0\0\0\0\0\0\0\0\0\014\0\0\0\001\0\0\0\001f\0\0\0\0\0\0\005\0\0\0\001\077\300\0\0\0\0\0\0\0\0\0\0' > float.nc
+with_float() {
+  printf '0 {"file":"-","status":0,"version":1,"numrecs":0,"header_length":52,"dimensions":[],'
+  printf '"attributes":[{"name":"f","type":"float","values":[%s]}],"variables":[]}' "$1"
+}
+count "list of floats of standard input, as an object" "$(with_float '"0x3fc00000"')" \
+  "$("$ncc" list --json - < float.nc > out 2> err; echo "$?" "$(cat out err)")"
+count "list of floats of standard input, as an object in decimal" "$(with_float 1.5)" \
+  "$("$ncc" list --json --decimal - < float.nc > out 2> err; echo "$?" "$(cat out err)")"
 failed_input='{"file":"-","status":3,"verdict":"error","error":"device"}'
 count "list of a folder as standard input, as an object" "3 $failed_input" \
   "$("$ncc" list --json - > out 2> err < .; echo "$?" "$(cat out err)")"

@@ -66,8 +66,8 @@ after each, as `find -print0` writes them.
 
 With --svg FILE a picture is printed in place of the lines, which a browser shows: the file as a bar
 from its first byte to its last, below it one record, and a line for each of the 40 variables with
-the most bytes. Gaps are white, bytes after all are grey, and what variables share or the file lacks
-is hatched in red.
+the most bytes (of a record variable, in one record). Gaps are white, bytes after all are grey, and
+what variables share or the file lacks is hatched in red.
 
 A header may have 67108864 bytes; a longer one is the fault HeaderTooLong.
 

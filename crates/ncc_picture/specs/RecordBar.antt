@@ -14,14 +14,15 @@ use Rattle.ncc_picture.specs.Variables.{own_bytes, shared_bytes}
 abbrev pub record_far : Records → (slabs_end : ℕ) → ℕ
 record_far r slabs_end = max r.size (slabs_end - r.begin)
 
-abbrev pub record_part : Schema → (far from : ℕ) → Part → List ℕ
-record_part s far from p =
-    if p.extent.is_record
-    then own_bytes far 100 from p (part_words s p) ++ shared_bytes far 100 from p (part_words s p)
-    else []
+abbrev pub own_in_record : Schema → (far from : ℕ) → Part → List ℕ
+own_in_record s far from p = if p.extent.is_record then own_bytes far 100 from p (part_words s p) else []
 
+abbrev pub shared_in_record : Schema → (far from : ℕ) → Part → List ℕ
+shared_in_record s far from p = if p.extent.is_record then shared_bytes far 100 from p (part_words s p) else []
+
+-- what is shared is drawn over all variables
 abbrev pub record_parts : Schema → (far from : ℕ) → List Part → List ℕ
-record_parts s far from parts = flat_map (record_part s far from) parts
+record_parts s far from parts = flat_map (own_in_record s far from) parts ++ flat_map (shared_in_record s far from) parts
 
 -- how far it goes, and all of it in white
 abbrev pub record_ground : (far : ℕ) → Records → List ℕ

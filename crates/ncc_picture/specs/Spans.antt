@@ -6,7 +6,7 @@ use Rattle.ncc_picture.specs.Marks.{rect, titled}
 abbrev pub place : (far n : ℕ) → ℕ
 place far n = if ltb far (2 ^ 64) then min n far * 1000 / max 1 far else min n far / (far / 1000)
 
--- how wide the bytes between two places are drawn: what is there is seen
+-- how wide the bytes between two places are drawn: at least 1 unit
 abbrev pub width : (far from to : ℕ) → ℕ
 width far from to = max 1 (place far to - place far from)
 

@@ -33,11 +33,15 @@ gap s far has_records p =
 abbrev pub gaps : Schema → (far : ℕ) → (has_records : Bool) → List Part → List ℕ
 gaps s far has_records parts = flat_map (gap s far has_records) parts
 
--- a fixed variable, and what is shared of a record variable too
-abbrev pub file_part : Schema → (far : ℕ) → (has_records : Bool) → Part → List ℕ
-file_part s far has_records p =
-    (if p.extent.is_record then [] else own_bytes far 30 0 p (part_words s p))
-    ++ (if is_there has_records p.extent then shared_bytes far 30 0 p (part_words s p) else [])
+-- a fixed variable
+abbrev pub own_in_file : Schema → (far : ℕ) → Part → List ℕ
+own_in_file s far p = if p.extent.is_record then [] else own_bytes far 30 0 p (part_words s p)
 
+-- what is shared, of a record variable too
+abbrev pub shared_in_file : Schema → (far : ℕ) → (has_records : Bool) → Part → List ℕ
+shared_in_file s far has_records p =
+    if is_there has_records p.extent then shared_bytes far 30 0 p (part_words s p) else []
+
+-- what is shared is drawn over all variables
 abbrev pub file_parts : Schema → (far : ℕ) → (has_records : Bool) → List Part → List ℕ
-file_parts s far has_records parts = flat_map (file_part s far has_records) parts
+file_parts s far has_records parts = flat_map (own_in_file s far) parts ++ flat_map (shared_in_file s far has_records) parts

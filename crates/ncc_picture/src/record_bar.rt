@@ -1,7 +1,8 @@
 //! The bar of one record.
 
 ghost use Rattle.std.specs.Prelude.{◌≡◌, ◌++◌, OnOk};
-ghost use Rattle.ncc_picture.specs.RecordBar.{record_bar, record_end, record_far, record_ground, record_part, record_parts};
+ghost use Rattle.std.specs.List.{flat_map};
+ghost use Rattle.ncc_picture.specs.RecordBar.{own_in_record, record_bar, record_end, record_far, record_ground, record_parts, shared_in_record};
 
 use crate::marks::{push_bare, push_rect, push_text_at};
 use crate::parts::Part;
@@ -20,7 +21,7 @@ fn record_far(records: Records, slabs_end: u128) -> u128
 }
 
 /// Adds the part of a record variable.
-fn push_record_part(
+fn push_own_in_record(
     alloc: Global,
     out: &mut Vec<u8>,
     schema: &Schema,
@@ -28,17 +29,68 @@ fn push_record_part(
     from: u64,
     part: &Part,
 ) -> Result<(), AllocError>
-    ensures { OnOk result (out.new.items ≡ out.old.items ++ record_part schema.now far from part.now) }
+    ensures { OnOk result (out.new.items ≡ out.old.items ++ own_in_record schema.now far from part.now) }
 {
     if !part.extent.is_record {
         return Ok(());
     }
     let words = part_words(alloc, schema, part)?;
-    push_own(out, far, 100, from as u128, part, &words)?;
-    push_shared(out, far, 100, from as u128, part, &words)
+    push_own(out, far, 100, from as u128, part, &words)
 }
 
 /// Adds those of all record variables.
+fn push_owns_in_record(
+    alloc: Global,
+    out: &mut Vec<u8>,
+    schema: &Schema,
+    far: u128,
+    from: u64,
+    parts: &[Part],
+) -> Result<(), AllocError>
+    ensures { OnOk result (out.new.items ≡ out.old.items ++ flat_map (own_in_record schema.now far from) parts.now) }
+{
+    for part in parts {
+        push_own_in_record(alloc, out, schema, far, from, part)?;
+    }
+    Ok(())
+}
+
+/// Adds what a record variable shares.
+fn push_shared_in_record(
+    alloc: Global,
+    out: &mut Vec<u8>,
+    schema: &Schema,
+    far: u128,
+    from: u64,
+    part: &Part,
+) -> Result<(), AllocError>
+    ensures { OnOk result (out.new.items ≡ out.old.items ++ shared_in_record schema.now far from part.now) }
+{
+    if !part.extent.is_record {
+        return Ok(());
+    }
+    let words = part_words(alloc, schema, part)?;
+    push_shared(out, far, 100, from as u128, part, &words)
+}
+
+/// Adds what record variables share.
+fn push_all_shared_in_record(
+    alloc: Global,
+    out: &mut Vec<u8>,
+    schema: &Schema,
+    far: u128,
+    from: u64,
+    parts: &[Part],
+) -> Result<(), AllocError>
+    ensures { OnOk result (out.new.items ≡ out.old.items ++ flat_map (shared_in_record schema.now far from) parts.now) }
+{
+    for part in parts {
+        push_shared_in_record(alloc, out, schema, far, from, part)?;
+    }
+    Ok(())
+}
+
+/// Adds record variables, and what they share over them.
 fn push_record_parts(
     alloc: Global,
     out: &mut Vec<u8>,
@@ -49,10 +101,8 @@ fn push_record_parts(
 ) -> Result<(), AllocError>
     ensures { OnOk result (out.new.items ≡ out.old.items ++ record_parts schema.now far from parts.now) }
 {
-    for part in parts {
-        push_record_part(alloc, out, schema, far, from, part)?;
-    }
-    Ok(())
+    push_owns_in_record(alloc, out, schema, far, from, parts)?;
+    push_all_shared_in_record(alloc, out, schema, far, from, parts)
 }
 
 /// Adds how far the bar goes, and all of it in white.

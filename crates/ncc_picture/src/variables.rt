@@ -1,7 +1,8 @@
 //! Variables in a bar.
 
 ghost use Rattle.std.specs.Prelude.{◌≡◌, ◌++◌, OnOk};
-ghost use Rattle.ncc_picture.specs.Variables.{file_part, file_parts, gap, gaps, is_there, own_bytes, shared_bytes};
+ghost use Rattle.std.specs.List.{flat_map};
+ghost use Rattle.ncc_picture.specs.Variables.{file_parts, gap, gaps, is_there, own_bytes, own_in_file, shared_bytes, shared_in_file};
 
 use crate::parts::Part;
 use crate::spans::push_span;
@@ -96,8 +97,41 @@ pub fn push_gaps(
     Ok(())
 }
 
-/// Adds a fixed variable, and what is shared of a record variable too.
-fn push_file_part(
+/// Adds a fixed variable.
+fn push_own_in_file(
+    alloc: Global,
+    out: &mut Vec<u8>,
+    schema: &Schema,
+    far: u128,
+    part: &Part,
+) -> Result<(), AllocError>
+    ensures { OnOk result (out.new.items ≡ out.old.items ++ own_in_file schema.now far part.now) }
+{
+    if part.extent.is_record {
+        return Ok(());
+    }
+    let words = part_words(alloc, schema, part)?;
+    push_own(out, far, 30, 0, part, &words)
+}
+
+/// Adds the fixed variables.
+fn push_owns_in_file(
+    alloc: Global,
+    out: &mut Vec<u8>,
+    schema: &Schema,
+    far: u128,
+    parts: &[Part],
+) -> Result<(), AllocError>
+    ensures { OnOk result (out.new.items ≡ out.old.items ++ flat_map (own_in_file schema.now far) parts.now) }
+{
+    for part in parts {
+        push_own_in_file(alloc, out, schema, far, part)?;
+    }
+    Ok(())
+}
+
+/// Adds what a variable shares, of a record variable too.
+fn push_shared_in_file(
     alloc: Global,
     out: &mut Vec<u8>,
     schema: &Schema,
@@ -105,19 +139,34 @@ fn push_file_part(
     has_records: bool,
     part: &Part,
 ) -> Result<(), AllocError>
-    ensures { OnOk result (out.new.items ≡ out.old.items ++ file_part schema.now far has_records part.now) }
+    ensures { OnOk result (out.new.items ≡ out.old.items ++ shared_in_file schema.now far has_records part.now) }
 {
-    let words = part_words(alloc, schema, part)?;
-    if !part.extent.is_record {
-        push_own(out, far, 30, 0, part, &words)?;
-    }
     if is_there(has_records, &part.extent) {
+        let words = part_words(alloc, schema, part)?;
         return push_shared(out, far, 30, 0, part, &words);
     }
     Ok(())
 }
 
-/// Adds variables.
+/// Adds what variables share.
+fn push_all_shared_in_file(
+    alloc: Global,
+    out: &mut Vec<u8>,
+    schema: &Schema,
+    far: u128,
+    has_records: bool,
+    parts: &[Part],
+) -> Result<(), AllocError>
+    ensures { OnOk result (out.new.items
+        ≡ out.old.items ++ flat_map (shared_in_file schema.now far has_records) parts.now) }
+{
+    for part in parts {
+        push_shared_in_file(alloc, out, schema, far, has_records, part)?;
+    }
+    Ok(())
+}
+
+/// Adds variables, and what they share over them.
 pub fn push_file_parts(
     alloc: Global,
     out: &mut Vec<u8>,
@@ -128,8 +177,6 @@ pub fn push_file_parts(
 ) -> Result<(), AllocError>
     ensures { OnOk result (out.new.items ≡ out.old.items ++ file_parts schema.now far has_records parts.now) }
 {
-    for part in parts {
-        push_file_part(alloc, out, schema, far, has_records, part)?;
-    }
-    Ok(())
+    push_owns_in_file(alloc, out, schema, far, parts)?;
+    push_all_shared_in_file(alloc, out, schema, far, has_records, parts)
 }
