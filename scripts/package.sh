@@ -53,7 +53,7 @@ version_of() {
 link_program() {
   cc -static-pie -Wl,-z,relro,-z,now -o "$1" "$object" "$rattle/c/libos_c.a" "$rattle/c/liblibc_c.a" || fail "the program could not be linked"
   strip "$1"
-  "$top/scripts/stamp.py" "$1" "$commit" "$logic"
+  "$top/scripts/stamp.py" "$1" "$commit" "$logic" ${unproved:+unproved}
 }
 
 # The libraries in the folder $1.

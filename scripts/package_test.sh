@@ -71,8 +71,12 @@ try_program() {
   count 'csv' 'dim,vx 1,1 3,1' "$(inside "ncc csv $examples/tiny.nc vx --start 1 --stride 2" | xargs)"
   count 'extend' 'records 3' "$(inside "cp $examples/ocean.nc grows.nc && ncc extend grows.nc 1")"
   count 'convert' 'ok CDF-5' "$(inside "ncc convert --to 5 $examples/ocean.nc new.nc")"
-  count 'version' "ncc $(sed -n 's/^ncc //p' "$packages/MANIFEST.txt") (commit $(sed -n 's/^commit //p' "$packages/MANIFEST.txt"), logic $(sed -n 's/^kit .* //p' "$packages/MANIFEST.txt"))" \
-    "$(inside 'ncc --version')"
+  local version commit logic
+  version=$(sed -n 's/^ncc //p' "$packages/MANIFEST.txt")
+  commit="commit $(sed -n 's/^commit //p' "$packages/MANIFEST.txt")"
+  logic=$(sed -n 's/^kit .* //p' "$packages/MANIFEST.txt")
+  if compgen -G "$packages/*unproved*" > /dev/null; then commit="unproved, ${commit:0:37}"; fi
+  count 'version' "ncc $version ($commit, logic $logic)" "$(inside 'ncc --version')"
 }
 
 # The manual pages of all commands, and completions that name them all.

@@ -27,8 +27,9 @@ const LIST_STATUSES: &str = "Example:
 
 Of several files each line has the path, a colon and a space before it, and the status is the
 worst. A FILE - is standard input, where it is the only one. With --json the same is printed as an
-object for each file, in one line; with --decimal a float is a number in it, else a text with its
-bits. A list of names has a NUL byte after each, as `find -print0` writes them.
+object for each file, in one line; with --decimal a finite float is a number in it; NaN and the
+infinities are texts, and without --decimal all floats are, with their bits. A list of names has a
+NUL byte after each, as `find -print0` writes them.
 
 A header may have 67108864 bytes; a longer one is the fault HeaderTooLong.
 

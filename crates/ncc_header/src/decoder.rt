@@ -161,8 +161,8 @@ impl Decoder {
         }
     }
 
-    /// Where in a header the next field is, and the names that are known there; none where the header is whole or has
-    /// a fault that stays, and after want of memory.
+    /// Where in a header the next field is, and the names that are known there; none only where the header is whole
+    /// or has a fault that stays, or after want of memory.
     pub fn unfinished(self) -> Option<Unfinished>
         ensures exact { result ≡ unfinished_at self.standing }
         ensures settled { (taken : List ℕ) → Took self taken → ¬ HasFailed self HeaderError.Memory → result ≡ None
