@@ -8,6 +8,8 @@ NUMBERS = {
     "FixedAfterRecords": "it ends at {end}, and the records begin at {records_begin}",
     "Truncated": "it ends at {end}, and the file ends at {file_length}",
 }
+OF_HEADERS = {"value": "the number there is {value}", "limit": "the limit is {limit}",
+              "file_length": "the file ends at {file_length}"}
 OF_NOTES = {"vsize": "its vsize is {vsize}, and its size gives {due}", "begin": "it begins at {begin}",
             "numrecs": "it is {numrecs}", "length": "its length is {length}"}
 
@@ -45,8 +47,11 @@ def told(found):
     if found["verdict"] == "ok":
         first = "ok CDF-{version} records {records} variables {variables}".format(**found)
         return "\n".join([first, *(line for each in found["notes"] for line in note(each))])
-    text = NUMBERS.get(found["fault"]) if "begin" in found or "end" in found else None
-    return "\n".join([fault(found), *behind(found, [text.format(**found)] if text else [])])
+    if "begin" in found or "end" in found:
+        words = [NUMBERS[found["fault"]]]
+    else:
+        words = [text for key, text in OF_HEADERS.items() if key in found]
+    return "\n".join([fault(found), *behind(found, [text.format(**found) for text in words])])
 
 
 def variable(found):

@@ -1,6 +1,6 @@
 #!/usr/bin/env bash
 # Refuses each allocation, one in each run, of a run of each command and of the help, of `ncc check` over a file with a
-# note of each kind. Each run must write the whole text with status 0, and leave the files of a run with memory; or less than the text
+# note of each kind. Each run must write the whole text with the status of a run with memory, and leave the files of a run with memory; or less than the text
 # and `error memory` with status 3, and leave the files as they were. Then each sync: what wants one must write nothing and `error device` with status 3.
 # The program is the first word, or the one that scripts/test.sh left. It needs a C compiler.
 set -uo pipefail
@@ -30,17 +30,18 @@ is_refused() {
 
 # The runs that are to write this text, of the command line that follows.
 refuse() {
-  local text=$1 memory=0 count n out status
+  local text=$1 memory=0 count due=0 n out status
   shift
   rm -rf before && mkdir before && cp "$top"/examples/*.nc before
-  COUNTED=$folder/counted run "$@" || exit 1
+  COUNTED=$folder/counted run "$@" || due=$?
+  [ "$due" -le 1 ] || exit 1
   count=$(cat counted)
   rm -rf whole && mv run whole
   for n in $(seq "$count"); do
     REFUSED=$n run "$@"
     status=$?
     out=$(cat out)
-    if [ "$status" = 0 ] && [ "$out" = "$text" ] && diff -r run whole > differs; then continue; fi
+    if [ "$status" = "$due" ] && [ "$out" = "$text" ] && diff -r run whole > differs; then continue; fi
     if [ "$status" = 3 ] && is_refused "$out" "$text" && diff -r run before > differs; then
       memory=$((memory + 1))
       continue
@@ -65,6 +66,7 @@ unsynced() {
 refuse "$(cat "$top/examples/noted.listed")" list noted.nc
 refuse "$(cat "$top/examples/noted.checked")" check noted.nc
 refuse "$("$ncc" check --explain "$top/examples/noted.nc")" check --explain noted.nc
+refuse "$("$ncc" check --explain "$top/examples/bad_type_1.nc" || true)" check --explain bad_type_1.nc
 refuse "$("$ncc" layout "$top/examples/ocean.nc")" layout ocean.nc
 refuse "$("$ncc" layout --svg "$top/examples/ocean.nc")" layout --svg ocean.nc
 other='{"file":"noted.nc","status":3,"verdict":"error","error":"memory"}'

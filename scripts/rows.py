@@ -8,7 +8,7 @@ next line, `#` begins a comment. The calls:
     bytes NAME WORD..              the file NAME
     use FILE                       the rows of another file
     check [--max-header N] WORD..  a verdict; --strict, --explain, --json, list, layout and extend by 0 must agree with it
-    explain WORD..                 a verdict in words
+    explain [--max-header N] WORD.. a verdict in words; --json must agree with it
     json COMMAND WORD..            the object of check, layout, list or list --decimal, with FILE for the path
     list [--decimal] WORD..        the lines of the header; --json must agree with it
     layout WORD..                  where everything lies; --json and --svg must agree with it
@@ -220,7 +220,7 @@ class Bench:
 
     def check(self, words):
         """What check says; and what the others say that don't agree with it."""
-        limit = ["--max-header", str(number(words[1], {}))] if words[:1] == ["--max-header"] else []
+        limit = limit_of(words)
         file = self.spelling.file(words[len(limit) :])
         self.place(file)
         text = self.say("check", *limit, self.path)
@@ -316,8 +316,9 @@ class Bench:
             case ["check", *words]:
                 return self.check(words)
             case ["explain", *words]:
-                text = self.read(["check", "--explain", self.path], self.spelling.file(words))
-                return self.with_object("check", text=text)
+                limit = limit_of(words)
+                text = self.read(["check", "--explain", *limit, self.path], self.spelling.file(words[len(limit) :]))
+                return self.with_object("check", *limit, text=text)
             case ["json", "list", "--decimal", *words]:
                 return self.object("list", "--decimal", file=self.spelling.file(words))
             case ["json", command, *words]:
@@ -364,6 +365,11 @@ class Bench:
             return True
         print(f"{row.path}:{row.line}: {call}\nis      {indented(said)}\nwanted  {indented(wanted)}")
         return False
+
+
+def limit_of(words):
+    """The option for another limit of the header's length, as the program takes it, if the words begin with it."""
+    return ["--max-header", str(number(words[1], {}))] if words[:1] == ["--max-header"] else []
 
 
 def is_laid(text, passed):

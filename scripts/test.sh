@@ -1,11 +1,12 @@
 #!/usr/bin/env bash
 # All tests: what ncc.h has beside the crate (scripts/c_header.py); the gate `rt ci` (every proof from nothing, the
 # must-fail edits, the unit tests, the program's own run); then the program that it built (scripts/rows.py over
-# tests/*.rows, and scripts/test_program.sh), the examples of the pages (scripts/pages.sh), whether the manual has the
-# options and faults that the program has (packaging/man.py), and what the programs take (bench/count). Where `rt lib`
-# has left the library for C, its examples (scripts/c_library.sh) and the Python package (scripts/python.sh) follow. The
-# last line is `N passed, M failed` of all. If nothing failed and the tree has no changes that aren't committed,
-# target/gate.txt says of which tree and kit that is: scripts/package.sh asks for it.
+# tests/*.rows, scripts/faults.py over headers with faults, and scripts/test_program.sh), the examples of the pages (scripts/pages.sh), whether all is there that the
+# page of rules names (scripts/rules.py), whether the manual has the options and faults that the program has
+# (packaging/man.py), and what the programs take (bench/count). Where `rt lib` has left the library for C, its examples
+# (scripts/c_library.sh) and the Python package (scripts/python.sh) follow. The last line is `N passed, M failed` of
+# all. If nothing failed and the tree has no changes that aren't committed, target/gate.txt says of which tree and kit
+# that is: scripts/package.sh asks for it.
 set -uo pipefail
 top=$(cd "$(dirname "$0")/.." && pwd)
 log=$(mktemp)
@@ -55,8 +56,10 @@ rm -f target/gate.txt
 part scripts/c_header.py
 part rt ci
 part scripts/rows.py crates/ncc_cli/out/ncc_cli
+part scripts/faults.py crates/ncc_cli/out/ncc_cli
 part scripts/test_program.sh crates/ncc_cli/out/ncc_cli
 part scripts/pages.sh crates/ncc_cli/out/ncc_cli
+part scripts/rules.py
 part packaging/man.py --compare crates/ncc_cli/out/ncc_cli
 part bench/count
 if [ -f crates/ncc_c/out/libncc_c.a ]; then

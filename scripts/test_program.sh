@@ -605,10 +605,12 @@ if cc -O1 -shared -fPIC -o refuse.so "$top/scripts/refuse_calls.c" -ldl 2> /dev/
     FAILED="pread 1 13" LD_PRELOAD=$folder/refuse.so "$ncc" $words > out 2> err
     count "$words, a read fails" "3  error device ncc: two.nc: permission denied" "$? $(cat out) $(echo $(cat err))"
   done
-  # The first bytes are read once more.
-  FAILED="pread 2 13" LD_PRELOAD=$folder/refuse.so "$ncc" check --explain --verbose bad_magic_1.nc > out 2> err
-  count "check in words, the second read fails" "3  error device ncc: bad_magic_1.nc: permission denied" \
-    "$? $(cat out) $(echo $(cat err))"
+  # A header that has a fault is read once more up to the fault, and then the field there.
+  for fault in "2 bad_magic_1" "2 bad_type_1" "3 bad_type_1"; do
+    FAILED="pread ${fault% *} 13" LD_PRELOAD=$folder/refuse.so "$ncc" check --explain --verbose "${fault#* }.nc" > out 2> err
+    count "check in words, read $fault fails" "3  error device ncc: ${fault#* }.nc: permission denied" \
+      "$? $(cat out) $(echo $(cat err))"
+  done
   FAILED="pread 1 13" LD_PRELOAD=$folder/refuse.so "$ncc" check --verbose not_there.nc two.nc tiny.nc > out 2> err
   count "check of several files, a read fails" "3 tiny.nc: ok CDF-1 records 0 variables 1 not_there.nc: error device \
 ncc: not_there.nc: no such file or folder two.nc: error device ncc: two.nc: permission denied" "$? $(cat out) $(echo $(cat err))"

@@ -1,12 +1,10 @@
 //! A grid of 2 by 3 with two records: how it is written, and how a row of it is read.
 
 use crate::values::{ints, numbers, shorts, text};
-use ncc_check::NcFile;
-use ncc_schema::Sink;
-use ncc_slab::{Slab, SlabFault, read_slab};
-use ncc_store::Store;
-use ncc_values::{Values, Version, XType};
-use ncc_write::{Built, FileWriter, SchemaBuilder, WriteFault};
+use ncc::{
+    Built, FileWriter, NcFile, SchemaBuilder, Sink, Slab, SlabFault, Store, Values, Version,
+    WriteFault, XType, read_slab,
+};
 use std::alloc::Global;
 
 /// The dimensions, the attributes and the variables. A length of 0 makes the record dimension.

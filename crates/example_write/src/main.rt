@@ -6,10 +6,7 @@ mod grid;
 mod values;
 
 use anyhow::{Context, Result};
-use ncc_check::{NcFile, check, open};
-use ncc_schema::WriteSink;
-use ncc_store::{FileStore, MemStore, Store};
-use ncc_values::{Values, Version};
+use ncc::{FileStore, MemStore, NcFile, Store, Values, Version, WriteSink, check, open};
 use std::{env, fs};
 
 /// The longest header that is read.

@@ -1,6 +1,6 @@
 //! Values as the calls take them.
 
-use ncc_values::{Few, Seq, Values, XType};
+use ncc::{Few, Seq, Values, XType};
 use std::alloc::{AllocError, Global};
 
 pub fn text(alloc: Global, bytes: &[u8]) -> Result<Values, AllocError> {

@@ -3,13 +3,14 @@ use Rattle.std.specs.Prelude.{◌≡◌, ◌⊎◌, ℕ, ◌+◌, ◌≤◌, Lis
 use Rattle.ncc_values.specs.Failures.{last_count, Rose}
 use Rattle.ncc_schema.specs.Device.{Puts}
 use Rattle.ncc_schema.specs.declared.failed.Failed.{Failed}
-use Rattle.ncc_check.specs.FromStore.{calls_for}
-use Rattle.ncc_engines.specs.Answers.{Texts}
+use Rattle.ncc_store.specs.declared.store.Store.{Ghosts}
+use Rattle.ncc_check.specs.FromStore.{ReadsFew, calls_for}
+use Rattle.ncc_engines.specs.Answers.{Texts, Writes}
 use Rattle.ncc_engines.specs.Checking.{IsCheckText, IsFaultOf as IsCheckFault}
 use Rattle.ncc_engines.specs.Listing.{IsListText, IsFaultOf as IsListFault}
 use Rattle.ncc_engines.specs.declared.answer.Answer.{Answer}
 use Rattle.ncc_engines.specs.declared.answer.Answer.TheVariants.{Passed, Refused, Device, Memory}
-use Rattle.ncc_explain.specs.Explaining.{IsToldFault, IsToldText}
+use Rattle.ncc_explain.specs.Explaining.{ExplainsInto, IsToldFault, IsToldText, ReadsTwice, calls_twice}
 use Rattle.ncc_json.specs.declared.wording.Wording.TheVariants.{Members, Words}
 use Rattle.ncc_listed.specs.Listed.{IsListedText, IsFaultOf as IsListedFault}
 use Rattle.ncc_places.specs.Layouts.{IsLayoutText, IsFaultOf as IsLayoutFault}
@@ -29,6 +30,14 @@ TextsOf (Listing limit style Words) bytes = IsListText bytes limit style
 TextsOf (Listing limit style Members) bytes = IsListedText bytes limit style
 TextsOf (Layout limit wording) bytes = IsLayoutText wording bytes limit
 TextsOf (Picture limit) bytes = IsPictureText bytes limit
+
+-- what went out, by the answer
+abbrev pub WritesFor : Work → (bytes : List ℕ) → Answer → (out : List ℕ) → Type 0
+WritesFor (Check limit strict) bytes answer out = Writes (IsCheckText bytes limit strict) answer out
+WritesFor (Explain limit strict wording) bytes answer out = ExplainsInto wording bytes limit strict answer out
+WritesFor (Listing limit style wording) bytes answer out = Writes (TextsOf (Listing limit style wording) bytes) answer out
+WritesFor (Layout limit wording) bytes answer out = Writes (IsLayoutText wording bytes limit) answer out
+WritesFor (Picture limit) bytes answer out = Writes (IsPictureText bytes limit) answer out
 
 -- the line of the fault that these bytes have, or what is told of it
 abbrev pub IsFaultIn : Work → (bytes : List ℕ) → (text : List ℕ) → Type 0
@@ -56,21 +65,21 @@ limit_of (Listing limit style wording) = limit
 limit_of (Layout limit wording) = limit
 limit_of (Picture limit) = limit
 
--- the calls of the store: for a check in words one more than for a check
+-- the calls of the store: for a check in words, what may be the header may be read twice
 abbrev pub calls_of : Work → (file : ℕ) → ℕ
 calls_of (Check limit strict) file = calls_for file limit
-calls_of (Explain limit strict wording) file = 1 + calls_for file limit
+calls_of (Explain limit strict wording) file = calls_twice file limit
 calls_of (Listing limit style wording) file = calls_for file limit
 calls_of (Layout limit wording) file = calls_for file limit
 calls_of (Picture limit) file = calls_for file limit
 
--- those beside the reads of what may be the header
-abbrev pub other_calls : Work → ℕ
-other_calls (Check limit strict) = 1
-other_calls (Explain limit strict wording) = 2
-other_calls (Listing limit style wording) = 1
-other_calls (Layout limit wording) = 1
-other_calls (Picture limit) = 1
+-- how few reads there are, where few settle what the header is
+abbrev pub ReadsFor : {S : Type 0} → Ghosts S → (old new : S) → Work → (bytes : List ℕ) → Type 0
+ReadsFor g old new (Check limit strict) bytes = ReadsFew g old new bytes limit 1
+ReadsFor g old new (Explain limit strict wording) bytes = ReadsTwice g old new bytes limit
+ReadsFor g old new (Listing limit style wording) bytes = ReadsFew g old new bytes limit 1
+ReadsFor g old new (Layout limit wording) bytes = ReadsFew g old new bytes limit 1
+ReadsFor g old new (Picture limit) bytes = ReadsFew g old new bytes limit 1
 
 -- an answer and its text; of a store that failed, or without memory, it is empty
 abbrev pub IsTextIn : Work → (bytes : List ℕ) → Answer → (text : List ℕ) → Type 0
@@ -87,10 +96,10 @@ IsTextAt work None Refused text = ⊥
 IsTextAt work None Device text = text ≡ []
 IsTextAt work None Memory text = ⊥
 
--- which failures of the store an answer tells: Device only where its count rose; Passed and Refused that none changed it
+-- which failures of the store an answer tells: Device only where its count rose, and no other where it changed
 pub record TextFails (answer : Answer) (before after : ℕ) : Type 0 where
   pub device : answer ≡ Device → Rose before after
-  pub quiet : (answer ≡ Device → ⊥) → (answer ≡ Memory → ⊥) → after ≡ before
+  pub quiet : (answer ≡ Device → ⊥) → after ≡ before
 
 -- what is shown of a file
 abbrev pub IsAnswered : Work → Form → (path : List ℕ) → (bytes : Option (List ℕ)) → Answer → (out : List ℕ) → Type 0

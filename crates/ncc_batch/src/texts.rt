@@ -8,8 +8,8 @@ ghost use Rattle.ncc_check.specs.FromStore.{ReadsFew, calls_for};
 ghost use Rattle.ncc_check.specs.Passes.{HasOwnElements};
 ghost use Rattle.ncc_engines.specs.Answers.{Fails, Writes};
 ghost use Rattle.ncc_json.specs.declared.wording.Wording.{Wording};
-ghost use Rattle.ncc_explain.specs.Likeness.{HasOtherLetters};
-ghost use Rattle.ncc_batch.specs.Answered.{TextFails, TextsOf, IsFaultIn, IsWhole, IsTextIn, IsTextAt, calls_of, limit_of, other_calls};
+ghost use Rattle.ncc_explain.specs.Explaining.{HasHeaderFault};
+ghost use Rattle.ncc_batch.specs.Answered.{TextFails, TextsOf, IsFaultIn, IsWhole, IsTextIn, IsTextAt, ReadsFor, WritesFor, calls_of, limit_of};
 
 use crate::shelf::Shelf;
 use crate::work::Work;
@@ -57,7 +57,7 @@ pub fn write_text<S: Store, W: Sink>(
     sink: &mut W,
 ) -> Answer
     ensures told { IsTrue S.tells_bytes → (out : List ℕ) × Puts (W.put sink.old) (W.put sink.new) out
-        × Writes (TextsOf work (S.bytes store.old)) result out }
+        × WritesFor work (S.bytes store.old) result out }
     ensures memory { IsTrue S.tells_bytes → (text : List ℕ) → IsFaultIn work (S.bytes store.old) text
         → result ≡ Answer.Memory → sink.new ≡ sink.old }
     ensures whole { IsWhole work → result ≡ Answer.Memory → sink.new ≡ sink.old }
@@ -66,12 +66,12 @@ pub fn write_text<S: Store, W: Sink>(
         → HasOwnElements (S.bytes store.old) limit }
     ensures store { ReadsOnly S.Store store.old store.new (Fails W.Sink sink.old sink.new result) S.tells_bytes
         (calls_of work (length (S.bytes store.old))) (limit_of work) }
-    ensures calls { IsTrue S.tells_bytes → ¬ HasOtherLetters (S.bytes store.old) (limit_of work)
+    ensures calls { IsTrue S.tells_bytes → ¬ HasHeaderFault (S.bytes store.old) (limit_of work)
         → S.calls store.new ≤ S.calls store.old + calls_for (length (S.bytes store.old)) (limit_of work) }
-    ensures once { IsTrue S.tells_bytes → ¬ HasOtherLetters (S.bytes store.old) (limit_of work)
+    ensures once { IsTrue S.tells_bytes → ¬ HasHeaderFault (S.bytes store.old) (limit_of work)
         → ReadsFew S.Store store.old store.new (S.bytes store.old) (limit_of work) 1 }
     ensures settled { IsTrue S.tells_bytes
-        → ReadsFew S.Store store.old store.new (S.bytes store.old) (limit_of work) (other_calls work) }
+        → ReadsFor S.Store store.old store.new work (S.bytes store.old) }
 {
     match work {
         Work::Check { limit, strict } => check_engine(alloc, store, limit, strict, sink),
@@ -91,16 +91,17 @@ pub fn write_text<S: Store, W: Sink>(
 }
 
 /// What is asked of a store's file, and its text, which is empty where the store failed or there was no memory.
+#[tactic(auto, using(crate::proofs::Written::written))]
 fn text_in<S: Store>(alloc: Global, store: &mut S, work: Work) -> (Answer, Vec<u8>)
     ensures told { IsTrue S.tells_bytes → IsTextIn work (S.bytes store.old) result.0 result.1.items }
     ensures store { ReadsOnly S.Store store.old store.new (TextFails result.0) S.tells_bytes
         (calls_of work (length (S.bytes store.old))) (limit_of work) }
-    ensures calls { IsTrue S.tells_bytes → ¬ HasOtherLetters (S.bytes store.old) (limit_of work)
+    ensures calls { IsTrue S.tells_bytes → ¬ HasHeaderFault (S.bytes store.old) (limit_of work)
         → S.calls store.new ≤ S.calls store.old + calls_for (length (S.bytes store.old)) (limit_of work) }
-    ensures once { IsTrue S.tells_bytes → ¬ HasOtherLetters (S.bytes store.old) (limit_of work)
+    ensures once { IsTrue S.tells_bytes → ¬ HasHeaderFault (S.bytes store.old) (limit_of work)
         → ReadsFew S.Store store.old store.new (S.bytes store.old) (limit_of work) 1 }
     ensures settled { IsTrue S.tells_bytes
-        → ReadsFew S.Store store.old store.new (S.bytes store.old) (limit_of work) (other_calls work) }
+        → ReadsFor S.Store store.old store.new work (S.bytes store.old) }
 {
     let mut sink = WriteSink::new(Vec::new(alloc));
     let answer = write_text(alloc, store, work, &mut sink);

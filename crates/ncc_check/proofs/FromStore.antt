@@ -124,7 +124,7 @@ Apart = (input : List ℕ) (limit : ℕ) (h : Header) (f : HeaderFault) → Begi
 abbrev pub LimitCovers : Type 0
 LimitCovers = (input more : List ℕ) (limit : ℕ) (f : HeaderFault) → Stops input limit f → limit ≤ length input → Stops (input ++ more) limit f
 
-begins_more : (front more : List ℕ) (limit : ℕ) (h : Header) → Begins front limit h → Begins (front ++ more) limit h
+pub begins_more : (front more : List ℕ) (limit : ℕ) (h : Header) → Begins front limit h → Begins (front ++ more) limit h
 begins_more front more limit h b = record {
   front = b.front;
   rest = b.rest ++ more;

@@ -3,7 +3,6 @@
 use ncc_commands::Words;
 use ncc_disk::folder_of;
 use ncc_engines::Answer;
-use ncc_files::{EMPTY, TITLED, bytes_of, with_byte};
 use ncc_run::{Terminals, finish, run};
 use std::alloc::{AllocError, Global};
 use std::fs::File;
@@ -12,6 +11,7 @@ use std::process::Abort;
 use std::rt::{Clock, Files};
 use std::test::*;
 use std::{fs, io};
+use test_files::{EMPTY, TITLED, bytes_of, with_byte};
 
 const NO_TERMINALS: Terminals = Terminals {
     out: false,

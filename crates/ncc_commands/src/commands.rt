@@ -91,9 +91,9 @@ worst. With --brief there is one line for each: the status, the answer and the p
 between them. A list of names has a NUL byte after each, as `find -print0` writes them.
 
 With --explain each fault and note is followed by lines that begin with four spaces: the part of
-the header that it is in and its numbers, but for a fault of the header, and its rule, with the
-section of The NetCDF Classic Format Specification that it rests on in brackets. With --json the
-same is printed as an object for each file, in one line.
+the header that it is in, its numbers, and its rule, with the section of The NetCDF Classic
+Format Specification that it rests on in brackets. With --json the same is printed as an object
+for each file, in one line.
 
 A header may have 67108864 bytes, or as many as --max-header says; a longer one is the
 fault HeaderTooLong.

@@ -1,3 +1,4 @@
 mod Added
-mod Letters
-mod OneText
+mod Fronts
+mod Told
+mod Twice

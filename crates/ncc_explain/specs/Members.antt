@@ -12,7 +12,7 @@ use Rattle.ncc_schema.specs.Names.{name_of}
 use Rattle.ncc_schema.specs.Schema.{lengths}
 use Rattle.ncc_header.specs.declared.fault.Fault.{Fault}
 use Rattle.ncc_header.specs.declared.fault.FaultKind.{FaultKind}
-use Rattle.ncc_header.specs.declared.fault.FaultKind.TheVariants.{BadMagic}
+use Rattle.ncc_header.specs.declared.fault.FaultKind.TheVariants as faults
 use Rattle.ncc_layout.specs.declared.fault.LayoutFault.{LayoutFault}
 use Rattle.ncc_check.specs.declared.note.Note.{Note}
 use Rattle.ncc_check.specs.declared.note.NoteKind.{NoteKind}
@@ -26,11 +26,13 @@ use Rattle.ncc_parts.specs.declared.broken.Broken.{Broken}
 use Rattle.ncc_parts.specs.declared.broken.Broken.TheVariants.{InHeader, Overlap, RecordWindow, FixedAfterRecords, Truncated}
 use Rattle.ncc_header.specs.declared.part.Part.{Part}
 use Rattle.ncc_header.specs.declared.part.Part.TheVariants as parts
+use Rattle.ncc_header.specs.declared.unfinished.Unfinished.{Unfinished}
 use Rattle.ncc_parts.specs.Breaking.{broken_by}
 use Rattle.ncc_parts.specs.Parts.{part_at, parts_of}
+use Rattle.ncc_explain.specs.declared.site.Site.{Site}
 use Rattle.ncc_explain.specs.Likeness.{likeness}
 use Rattle.ncc_explain.specs.Rules.{header_rule, layout_rule, note_rule}
-use Rattle.ncc_explain.specs.Words.{part_words}
+use Rattle.ncc_explain.specs.Words.{name_in, owner_in, part_words}
 
 -- ---- a file that passes
 
@@ -58,10 +60,14 @@ note_number_members h notes.LargeCount parts.NumRecs = count_members h.schema.co
 note_number_members h notes.LargeCount (parts.Dim n) = number_member (codes "length") (get_or (lengths h.schema.dims) n 0)
 note_number_members h _ _ = []
 
+-- a part of the header in words, with the names that are known there
+unfoldable pub in_member : Part → (name owner : Option (List ℕ)) → List Token
+in_member part name owner = bytes_member (codes "in") (part_words part name owner)
+
 abbrev pub note_part_members : Header → NoteKind → Option Part → List Token
 note_part_members h kind None = []
 note_part_members h kind (Some part) =
-    bytes_member (codes "in") (part_words h.schema part) ++ note_number_members h kind part
+    in_member part (name_in h.schema part) (owner_in h.schema part) ++ note_number_members h kind part
 
 -- its name, its offset, the part of the header that this is in, its numbers and its rule
 unfoldable pub note_object : Header → Note → List Token
@@ -106,11 +112,28 @@ layout_fault_members h file f =
 abbrev pub like_members : (words : List ℕ) → List Token
 like_members words = if length words == 0 then [] else text_member (codes "looks_like") words
 
--- what is told of the letters, where they are at fault
-abbrev pub likeness_members : FaultKind → (letters : ℕ) → List Token
-likeness_members BadMagic n = like_members (likeness n)
-likeness_members _ n = []
+-- what the file looks like that begins with these letters
+abbrev pub letter_members : (value : Option ℕ) → List Token
+letter_members None = []
+letter_members (Some n) = like_members (likeness n)
 
-unfoldable pub header_fault_members : (letters : ℕ) → Fault → List Token
-header_fault_members n f =
-    fault_members (fault_word f.kind) f.offset ++ (likeness_members f.kind n ++ text_member (codes "rule") (header_rule f.kind))
+abbrev pub value_members : (value : Option ℕ) → List Token
+value_members None = []
+value_members (Some n) = number_member (codes "value") n
+
+-- the numbers of a fault of the header, by its kind
+abbrev pub site_members : FaultKind → (limit : ℕ) → Site → List Token
+site_members faults.BadMagic limit x = letter_members x.value
+site_members faults.HeaderTooLong limit x = wide_member (codes "limit") limit ++ wide_member (codes "file_length") x.file_length
+site_members faults.EndsEarly limit x = number_member (codes "file_length") x.file_length
+site_members _ limit x = value_members x.value
+
+-- the part of the header that goes on here
+abbrev pub place_members : Option Unfinished → List Token
+place_members None = []
+place_members (Some u) = in_member u.part u.name u.owner
+
+unfoldable pub header_fault_members : (limit : ℕ) → Fault → Site → List Token
+header_fault_members limit f x =
+    fault_members (fault_word f.kind) f.offset
+    ++ (place_members x.place ++ (site_members f.kind limit x ++ text_member (codes "rule") (header_rule f.kind)))

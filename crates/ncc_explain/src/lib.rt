@@ -2,13 +2,16 @@
 #![tactic(auto)]
 
 mod adding;
+mod examining;
 mod explaining;
+mod front;
 mod likeness;
 mod members;
 mod numbers;
 mod objects;
 mod parts;
 mod rules;
+mod site;
 mod telling;
 
 pub use explaining::explain_engine;

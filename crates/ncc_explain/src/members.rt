@@ -8,6 +8,7 @@ ghost use Rattle.ncc_lines.specs.Texts.{begin_of};
 ghost use Rattle.ncc_explain.specs.Members.{broken_numbers, count_members, note_number_members, variable_member, vsize_members};
 
 use crate::numbers::{begin_at, due_vsize, length_of, vsize_of};
+use crate::parts::variable_name;
 use json::Writer;
 use ncc_check::NoteKind;
 use ncc_header::{Count, Header, Schema};
@@ -71,16 +72,6 @@ pub fn put_note_numbers(
             )
         }
         _ => Ok(()),
-    }
-}
-
-/// The name of a variable, or an empty one where there are not so many.
-fn variable_name(schema: &Schema, number: usize) -> &[u8]
-    ensures { result.now ≡ name_of schema.now (of.Var number) }
-{
-    match schema.vars.as_slice().get(number) {
-        Some(var) => var.name.as_slice(),
-        None => &[],
     }
 }
 

@@ -5,12 +5,14 @@ ghost use Rattle.ncc_schema.specs.Schema.{lengths};
 ghost use Rattle.ncc_layout.specs.Sizes.{AreSizes};
 ghost use Rattle.ncc_check.specs.Notes.{vsize_words, vsizes};
 ghost use Rattle.ncc_lines.specs.Texts.{begin_of};
-ghost use Rattle.ncc_explain.specs.Words.{begin_line, broken_line, count_line, length_line, note_numbers, vsize_line};
+ghost use Rattle.ncc_explain.specs.Words.{begin_line, broken_line, count_line, end_line, length_line, letter_lines, limit_line, note_numbers, number_line, number_lines, site_lines, vsize_line};
 
+use crate::likeness::push_likeness;
 use crate::parts::push_variable;
+use crate::site::Site;
 use itoa::Buffer;
 use ncc_check::NoteKind;
-use ncc_header::{Count, Dim, Header, Schema, VarPlace};
+use ncc_header::{Count, Dim, FaultKind, Header, Schema, VarPlace};
 use ncc_layout::{Sizes, vsize_word};
 use ncc_lines::push_decimal;
 use ncc_parts::{Broken, Part};
@@ -223,5 +225,74 @@ pub fn push_note_numbers(
             push_length(out, length_of(header.schema.dims.as_slice(), number))
         }
         _ => Ok(()),
+    }
+}
+
+/// Adds what the file looks like that begins with these letters, if they are known.
+fn push_letters(out: &mut Vec<u8>, value: Option<u64>) -> Result<(), AllocError>
+    ensures { OnOk result (out.new.items ≡ out.old.items ++ letter_lines value) }
+{
+    match value {
+        Some(letters) => push_likeness(out, letters),
+        None => Ok(()),
+    }
+}
+
+/// Adds the number in a field.
+#[tactic(auto, unfolding(crate::specs::Words::number_line))]
+fn push_number(out: &mut Vec<u8>, n: u64) -> Result<(), AllocError>
+    ensures { OnOk result (out.new.items ≡ out.old.items ++ number_line n) }
+{
+    push_one(out, b"    the number there is ", n)
+}
+
+/// Adds the number in a field, if it is known.
+fn push_value(out: &mut Vec<u8>, value: Option<u64>) -> Result<(), AllocError>
+    ensures { OnOk result (out.new.items ≡ out.old.items ++ number_lines value) }
+{
+    match value {
+        Some(n) => push_number(out, n),
+        None => Ok(()),
+    }
+}
+
+/// Adds where the file ends.
+#[tactic(auto, unfolding(crate::specs::Words::end_line))]
+fn push_end(out: &mut Vec<u8>, file_length: u64) -> Result<(), AllocError>
+    ensures { OnOk result (out.new.items ≡ out.old.items ++ end_line file_length) }
+{
+    push_one(out, b"    the file ends at ", file_length)
+}
+
+/// Adds the limit of a header's length.
+#[tactic(auto, unfolding(crate::specs::Words::limit_line))]
+fn push_limit(out: &mut Vec<u8>, limit: u64) -> Result<(), AllocError>
+    ensures { OnOk result (out.new.items ≡ out.old.items ++ limit_line limit) }
+{
+    push_one(out, b"    the limit is ", limit)
+}
+
+/// Adds the limit of a header's length, and where the file ends.
+fn push_bounds(out: &mut Vec<u8>, limit: u64, file_length: u64) -> Result<(), AllocError>
+    ensures { OnOk result (out.new.items ≡ out.old.items ++ (limit_line limit ++ end_line file_length)) }
+{
+    push_limit(out, limit)?;
+    push_end(out, file_length)
+}
+
+/// Adds the numbers of a header's fault.
+pub fn push_site(
+    out: &mut Vec<u8>,
+    kind: FaultKind,
+    limit: u64,
+    site: &Site,
+) -> Result<(), AllocError>
+    ensures { OnOk result (out.new.items ≡ out.old.items ++ site_lines kind limit site.now) }
+{
+    match kind {
+        FaultKind::BadMagic => push_letters(out, site.value),
+        FaultKind::HeaderTooLong => push_bounds(out, limit, site.file_length),
+        FaultKind::EndsEarly => push_end(out, site.file_length),
+        _ => push_value(out, site.value),
     }
 }

@@ -1,27 +1,26 @@
 //! What is told of a file, as the members of an object.
 
-ghost use Rattle.std.specs.Prelude.{◌≡◌, ◌<◌, ◌++◌, ◌==◌, IfOk, OnOk, codes, length, position};
+ghost use Rattle.std.specs.Prelude.{◌≡◌, ◌<◌, ◌++◌, ◌==◌, IfOk, OnOk, length, option_map, position};
 ghost use Rattle.std.specs.List.{flat_map};
 ghost use Rattle.json.specs.Print.{print};
 ghost use Rattle.ncc_schema.specs.Schema.{Legal, places_of};
 ghost use Rattle.ncc_layout.specs.Sizes.{AreSizes};
 ghost use Rattle.ncc_check.specs.Examining.{HasSizes};
 ghost use Rattle.ncc_check.specs.FromStore.{IsBegun};
-ghost use Rattle.ncc_json.specs.Members.{bytes_member};
 ghost use Rattle.ncc_parts.specs.Breaking.{broken_by};
 ghost use Rattle.ncc_parts.specs.Parts.{ends_from, part_at, parts_of};
 ghost use Rattle.ncc_explain.specs.Likeness.{likeness};
-ghost use Rattle.ncc_explain.specs.Members.{broken_members, broken_part_members, header_fault_members, layout_fault_members, like_members, likeness_members, note_object, note_part_members, ok_members, report_members};
-ghost use Rattle.ncc_explain.specs.Words.{part_words};
+ghost use Rattle.ncc_explain.specs.Members.{broken_members, broken_part_members, header_fault_members, in_member, layout_fault_members, letter_members, like_members, note_object, note_part_members, ok_members, place_members, report_members, site_members, value_members};
 
 use crate::likeness::likeness;
 use crate::members::{put_broken, put_note_numbers, put_variable};
-use crate::parts::push_part;
+use crate::parts::{known, name_in, owner_in, push_part};
 use crate::rules::{header_rule, layout_rule, note_rule};
+use crate::site::Site;
 use json::Writer;
 use ncc_check::{Checked, Note, NoteKind, Report, Unplaced};
-use ncc_header::{Fault, FaultKind, Header, Schema};
-use ncc_json::{put_bytes_member, put_fault, put_list, put_number, put_text};
+use ncc_header::{Fault, FaultKind, Header, Unfinished};
+use ncc_json::{put_bytes_member, put_fault, put_list, put_number, put_text, put_two};
 use ncc_layout::{LayoutFault, Sizes};
 use ncc_lines::{fault_name, layout_name, note_name};
 use ncc_parts::{Part, Piece, broken_by, part_of, pieces_of, variable_at};
@@ -41,13 +40,20 @@ fn put_ok(out: &mut Writer, report: &Report) -> Result<(), AllocError>
 }
 
 /// Adds a part of the header in words.
-fn put_part(alloc: Global, out: &mut Writer, schema: &Schema, part: Part) -> Result<(), AllocError>
-    ensures tokens { OnOk result
-        (out.new.tokens ≡ out.old.tokens ++ bytes_member (codes "in") (part_words schema.now part)) }
+#[tactic(auto, unfolding(crate::specs::Members::in_member))]
+fn put_part(
+    alloc: Global,
+    out: &mut Writer,
+    part: Part,
+    name: Option<&[u8]>,
+    owner: Option<&[u8]>,
+) -> Result<(), AllocError>
+    ensures tokens { OnOk result (out.new.tokens ≡ out.old.tokens
+        ++ in_member part (option_map (λ n. n.now) name.entry) (option_map (λ n. n.now) owner.entry)) }
     ensures before { out.new.before ≡ out.old.before }
 {
     let mut words = Vec::new(alloc);
-    push_part(&mut words, schema, part)?;
+    push_part(&mut words, part, name, owner)?;
     put_bytes_member(alloc, out, "in", &words)
 }
 
@@ -67,7 +73,9 @@ fn put_note_part(
     let Some(part) = part else {
         return Ok(());
     };
-    put_part(alloc, out, &header.schema, part)?;
+    let schema = &header.schema;
+    let (name, owner) = (name_in(schema, part), owner_in(schema, part));
+    put_part(alloc, out, part, name, owner)?;
     put_note_numbers(out, header, sizes, kind, part)?;
     Ok(())
 }
@@ -272,35 +280,94 @@ fn put_like(out: &mut Writer, letters: u64) -> Result<(), AllocError>
     put_text(out, "looks_like", words)
 }
 
-/// Adds the same where these bytes are at fault.
-fn put_likeness(out: &mut Writer, kind: FaultKind, letters: u64) -> Result<(), AllocError>
-    ensures tokens { OnOk result (out.new.tokens ≡ out.old.tokens ++ likeness_members kind letters) }
+/// Adds the same where the letters are known.
+fn put_letters(out: &mut Writer, value: Option<u64>) -> Result<(), AllocError>
+    ensures tokens { OnOk result (out.new.tokens ≡ out.old.tokens ++ letter_members value) }
+    ensures before { out.new.before ≡ out.old.before }
+{
+    match value {
+        Some(letters) => put_like(out, letters),
+        None => Ok(()),
+    }
+}
+
+/// Adds the number in a field, if it is known.
+fn put_value(out: &mut Writer, value: Option<u64>) -> Result<(), AllocError>
+    ensures tokens { OnOk result (out.new.tokens ≡ out.old.tokens ++ value_members value) }
+    ensures before { out.new.before ≡ out.old.before }
+{
+    match value {
+        Some(n) => put_number(out, "value", n),
+        None => Ok(()),
+    }
+}
+
+/// Adds the numbers of a header's fault.
+fn put_site(out: &mut Writer, kind: FaultKind, limit: u64, site: &Site) -> Result<(), AllocError>
+    ensures tokens { OnOk result (out.new.tokens ≡ out.old.tokens ++ site_members kind limit site.now) }
     ensures before { out.new.before ≡ out.old.before }
 {
     match kind {
-        FaultKind::BadMagic => put_like(out, letters),
-        _ => Ok(()),
+        FaultKind::BadMagic => put_letters(out, site.value),
+        FaultKind::HeaderTooLong => put_two(
+            out,
+            "limit",
+            limit as u128,
+            "file_length",
+            site.file_length as u128,
+        ),
+        FaultKind::EndsEarly => put_number(out, "file_length", site.file_length),
+        _ => put_value(out, site.value),
     }
+}
+
+/// Adds the part in which a header goes on.
+fn put_place(alloc: Global, out: &mut Writer, place: &Option<Unfinished>) -> Result<(), AllocError>
+    ensures tokens { OnOk result (out.new.tokens ≡ out.old.tokens ++ place_members place.now) }
+    ensures before { out.new.before ≡ out.old.before }
+{
+    let Some(place) = place else {
+        return Ok(());
+    };
+    put_part(
+        alloc,
+        out,
+        place.part,
+        known(&place.name),
+        known(&place.owner),
+    )
 }
 
 /// Adds all that is told of a file whose header has a fault.
 #[tactic(auto, unfolding(crate::specs::Members::header_fault_members))]
-fn put_header_fault(out: &mut Writer, fault: Fault, letters: u64) -> Result<(), AllocError>
-    ensures tokens { OnOk result (out.new.tokens ≡ out.old.tokens ++ header_fault_members letters fault) }
+fn put_header_fault(
+    alloc: Global,
+    out: &mut Writer,
+    limit: u64,
+    fault: Fault,
+    site: &Site,
+) -> Result<(), AllocError>
+    ensures tokens { OnOk result
+        (out.new.tokens ≡ out.old.tokens ++ header_fault_members limit fault site.now) }
     ensures before { out.new.before ≡ out.old.before }
 {
     put_fault(out, fault_name(fault.kind), fault.offset)?;
-    put_likeness(out, fault.kind, letters)?;
+    put_place(alloc, out, &site.place)?;
+    put_site(out, fault.kind, limit, site)?;
     put_text(out, "rule", header_rule(fault.kind))?;
     Ok(())
 }
 
-/// The text of what is told of a file whose header has a fault, and that begins with these three bytes, if they are at
-/// fault.
-pub fn header_fault_object(alloc: Global, fault: Fault, letters: u64) -> Result<Vec<u8>, AllocError>
-    ensures { IfOk result (λ v. v.items ≡ print (header_fault_members letters fault)) }
+/// The text of what is told of a file whose header has a fault.
+pub fn header_fault_object(
+    alloc: Global,
+    limit: u64,
+    fault: Fault,
+    site: &Site,
+) -> Result<Vec<u8>, AllocError>
+    ensures { IfOk result (λ v. v.items ≡ print (header_fault_members limit fault site.now)) }
 {
     let mut out = Writer::new(Vec::new(alloc));
-    put_header_fault(&mut out, fault, letters)?;
+    put_header_fault(alloc, &mut out, limit, fault, site)?;
     Ok(out.into_inner())
 }

@@ -11,12 +11,12 @@ ghost use Rattle.ncc_parts.specs.Parts.{ends_from, parts_of};
 ghost use Rattle.ncc_explain.specs.Words.{broken_lines, broken_part_lines, note_part_lines, rule_line, told_header_fault, told_layout_fault, told_note, told_report};
 
 use crate::adding::push_words;
-use crate::likeness::push_likeness;
-use crate::numbers::{push_broken, push_note_numbers};
-use crate::parts::push_part_line;
+use crate::numbers::{push_broken, push_note_numbers, push_site};
+use crate::parts::{push_part_line, push_place};
 use crate::rules::{header_rule, layout_rule, note_rule};
+use crate::site::Site;
 use ncc_check::{Checked, Note, NoteKind, Unplaced};
-use ncc_header::{Fault, FaultKind, Header};
+use ncc_header::{Fault, Header};
 use ncc_layout::{LayoutFault, Sizes};
 use ncc_lines::{fault_name, layout_name, note_name, push_at, push_ok};
 use ncc_parts::{Part, Piece, broken_by, part_of, pieces_of, variable_at};
@@ -171,16 +171,19 @@ pub fn told_layout_fault(alloc: Global, found: &Unplaced) -> Result<Vec<u8>, All
     Ok(out)
 }
 
-/// What is told of a file whose header has a fault, and that begins with these three bytes, if they are at fault.
-pub fn told_header_fault(alloc: Global, fault: Fault, letters: u64) -> Result<Vec<u8>, AllocError>
-    ensures { IfOk result (λ v. v.items ≡ told_header_fault letters fault) }
+/// What is told of a file whose header has a fault.
+pub fn told_header_fault(
+    alloc: Global,
+    limit: u64,
+    fault: Fault,
+    site: &Site,
+) -> Result<Vec<u8>, AllocError>
+    ensures { IfOk result (λ v. v.items ≡ told_header_fault limit fault site.now) }
 {
     let mut out = Vec::new(alloc);
     push_at(&mut out, b"fault ", fault_name(fault.kind), fault.offset)?;
-    match fault.kind {
-        FaultKind::BadMagic => push_likeness(&mut out, letters)?,
-        _ => {}
-    }
+    push_place(&mut out, &site.place)?;
+    push_site(&mut out, fault.kind, limit, site)?;
     push_rule(&mut out, header_rule(fault.kind))?;
     Ok(out)
 }

@@ -1,6 +1,6 @@
 //! `list --json`: what the header alone says, as the members of an object.
 
-ghost use Rattle.std.specs.Prelude.{◌≡◌, ◌≢◌, ℕ, List, length, Err, IfSome, IsTrue};
+ghost use Rattle.std.specs.Prelude.{◌≡◌, ℕ, List, length, Err, IfSome, IsTrue};
 ghost use Rattle.json.specs.Print.{print};
 ghost use Rattle.ncc_schema.specs.Device.{AsksFew, LosesAtMost, Puts};
 ghost use Rattle.ncc_schema.specs.declared.schema.Header.{Header as TheHeader};
@@ -16,21 +16,11 @@ ghost use Rattle.ncc_listed.specs.Members.{list_members};
 use crate::telling::header_told;
 use ncc_check::{FileFault, Refusal, header_in};
 use ncc_engines::{Answer, answered};
-use ncc_header::{Header, HeaderError, Sink, Source, laws, read_header, write_all};
+use ncc_header::{Header, HeaderError, Sink, Source, laws, read_header};
 use ncc_lines::{FloatStyle, Halt};
-use ncc_places::fault_object;
+use ncc_places::{fault_object, send_text};
 use ncc_store::Store;
 use std::alloc::Global;
-
-/// Sends a text, and takes no memory. After an `Err` a front of it is sent.
-fn send_text<W: Sink>(text: &[u8], sink: &mut W) -> Result<(), Halt>
-    ensures sent { SendsAll (W.put sink.old) (W.put sink.new) text.now result }
-    ensures count { Blames (W.failures sink.old) (W.failures sink.new) result }
-    ensures never { result ≢ Err Halt.Memory }
-{
-    write_all(sink, text)?;
-    Ok(())
-}
 
 /// Sends the members of a header, all of them in memory before any is sent. After an `Err` a front of them is sent.
 fn send_members<W: Sink>(

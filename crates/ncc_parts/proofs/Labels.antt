@@ -283,3 +283,66 @@ module _ (s : Schema) where
         ∙ to_var_of_all v i o s.vars lt
         ∙ ap (λ vs. part_at o (from_var v i vs)) n.2
         ∙ at_place v i o m n.0 n.1 (omega (arith, few, size)) some (omega (arith, few))
+
+    -- ---- the heads of lists, by what comes after them
+
+    pub dims_head : (m : ℕ) → 0 < m → m ≤ list_size v → part_at (name_at s places (of.Dim 0) - m) (parts_of s) ≡ Some parts.DimList
+    dims_head m some few =
+        let w = count_width_of v in
+        let number = big_endian w (counted v s.count) in
+        let head = canon_head v nc_dimension (length s.dims) in
+        let dims = dims_from v 0 s.dims ++ globals_part in
+        let o = list_size v - m in
+        past (name_at s places (of.Dim 0) - m) (w + o) parts.Magic (magic_bytes v) ((parts.NumRecs, number) ∷ (parts.DimList, head) ∷ dims) (omega (arith, some, few, length-big_endian 1 (byte_of v), nothing (canon_dim v) s.dims 0))
+        ∙ past (w + o) o parts.NumRecs number ((parts.DimList, head) ∷ dims) (omega (arith, length-big_endian w (counted v s.count)))
+        ∙ here o parts.DimList head dims (omega (arith, some, few, length-canon_head v nc_dimension (length s.dims)))
+
+    pub globals_head : (m : ℕ) → 0 < m → m ≤ list_size v → part_at (name_at s places (of.Global 0) - m) (parts_of s) ≡ Some parts.GlobalList
+    globals_head m some few =
+        let dims = length (flat_map (canon_dim v) s.dims) in
+        let head = canon_head v nc_attribute (length s.gatts) in
+        let o = list_size v - m in
+        to_dims (name_at s places (of.Global 0) - m) (dims + o) (omega (arith, some, few, length-canon_list v nc_dimension (canon_dim v) s.dims, nothing (canon_attr v) s.gatts 0))
+        ∙ past_all (dims + o) o (dims_from v 0 s.dims) globals_part (omega (arith, ap length (dims_spell v 0 s.dims)))
+        ∙ here o parts.GlobalList head (globals_from v 0 s.gatts ++ vars_part) (omega (arith, some, few, length-canon_head v nc_attribute (length s.gatts)))
+
+    pub vars_head : (m : ℕ) → 0 < m → m ≤ list_size v → part_at (var_at s places 0 - m) (parts_of s) ≡ Some parts.VarList
+    vars_head m some few =
+        let dims = length (flat_map (canon_dim v) s.dims) in
+        let globals = length (flat_map (canon_attr v) s.gatts) in
+        let head = canon_head v nc_variable (length s.vars) in
+        let o = list_size v - m in
+        to_globals (var_at s places 0 - m) (globals + o) (omega (arith, some, few, length-canon_list v nc_dimension (canon_dim v) s.dims, length-canon_list v nc_attribute (canon_attr v) s.gatts, before-placed v 0 s.vars places long, nothing (canon_unplaced v) s.vars 0))
+        ∙ past_all (globals + o) o (globals_from v 0 s.gatts) vars_part (omega (arith, ap length (globals_spell v 0 s.gatts)))
+        ∙ here o parts.VarList head (vars_from v 0 s.vars) (omega (arith, some, few, length-canon_head v nc_variable (length s.vars)))
+
+    pub attrs_head : (i m : ℕ) → i < length s.vars → 0 < m → m ≤ list_size v → part_at (name_at s places (of.Attr i 0) - m) (parts_of s) ≡ Some (parts.AttrList i)
+    attrs_head i m lt some few =
+        let n = before_next v i s.vars lt in
+        let x = n.0 in
+        let named = canon_name v x.name ++ canon_dimids v x.dims in
+        let head = canon_head v nc_attribute (length x.attrs) in
+        let rest = vars_from v (suc i) n.1 in
+        let o = list_size v - m in
+        let none = nothing (canon_attr v) x.attrs 0 in
+        let alone : attrs_in v x + before (canon_attr v) 0 x.attrs ≡ attrs_in v x = omega (arith, none) in
+        let first : attr_in v 0 (drop i s.vars) ≡ attrs_in v x = ap (attr_in v 0) n.2 ∙ alone in
+        to_vars places (name_at s places (of.Attr i 0) - m) (length named + o) i long (omega (arith, some, few, first, length-append (canon_name v x.name) (canon_dimids v x.dims)))
+        ∙ to_var_of_all v i (length named + o) s.vars lt
+        ∙ ap (λ vs. part_at (length named + o) (from_var v i vs)) n.2
+        ∙ past (length named + o) o (parts.Var i) named (var_rest v i x ++ rest) refl
+        ∙ here o (parts.AttrList i) head ((attrs_from v i 0 x.attrs ++ (parts.Place i, place_fields v x no_place) ∷ []) ++ rest) (omega (arith, some, few, length-canon_head v nc_attribute (length x.attrs)))
+
+  pub magic : (o : ℕ) → o < 4 → part_at o (parts_of s) ≡ Some parts.Magic
+  magic o few =
+      let number = big_endian (count_width_of v) (counted v s.count) in
+      let rest = (parts.NumRecs, number) ∷ (parts.DimList, canon_head v nc_dimension (length s.dims)) ∷ (dims_from v 0 s.dims ++ globals_part) in
+      here o parts.Magic (magic_bytes v) rest (omega (arith, few, length-big_endian 1 (byte_of v)))
+
+  pub numrecs : (o : ℕ) → o < count_width_of v → part_at (4 + o) (parts_of s) ≡ Some parts.NumRecs
+  numrecs o few =
+      let w = count_width_of v in
+      let number = big_endian w (counted v s.count) in
+      let rest = (parts.DimList, canon_head v nc_dimension (length s.dims)) ∷ (dims_from v 0 s.dims ++ globals_part) in
+      past (4 + o) o parts.Magic (magic_bytes v) ((parts.NumRecs, number) ∷ rest) (omega (arith, length-big_endian 1 (byte_of v)))
+      ∙ here o parts.NumRecs number rest (omega (arith, few, length-big_endian w (counted v s.count)))

@@ -7,7 +7,8 @@ ghost use Rattle.ncc_schema.specs.declared.schema.Schema.{Schema};
 ghost use Rattle.ncc_schema.specs.declared.schema.Header.{Header};
 ghost use Rattle.ncc_schema.specs.Header.{canon};
 ghost use Rattle.ncc_schema.specs.declared.names.NameOf.{NameOf};
-ghost use Rattle.ncc_schema.specs.Names.{HasName, name_at, unplaced, var_at};
+ghost use Rattle.ncc_schema.specs.declared.names.NameOf.TheVariants as of;
+ghost use Rattle.ncc_schema.specs.Names.{HasName, list_size, name_at, unplaced, var_at};
 ghost use Rattle.ncc_schema.specs.Schema.{Legal, Place, places_of};
 ghost use Rattle.ncc_header.specs.Answers.{Begins};
 ghost use Rattle.ncc_layout.specs.declared.fault.LayoutFault.{LayoutFault};
@@ -32,6 +33,24 @@ pub fn parts_have_their_labels()
     ensures places { (s : Schema) (places : List Place) (i m : ℕ) → length places ≡ length s.vars
         → i < length s.vars → 0 < m → m ≤ 4 + count_width_of s.version + offset_width_of s.version
         → part_at (var_at s places (suc i) - m) (parts_of s) ≡ Some (parts.Place i) }
+{}
+
+/// The bytes before the first item of a list, as many as the list's head has, are in the part of that head. So are those
+/// of the letters and the version, and of the number of records, in theirs.
+pub fn heads_have_their_labels()
+    ensures dims { (s : Schema) (places : List Place) (m : ℕ) → length places ≡ length s.vars → 0 < m
+        → m ≤ list_size s.version → part_at (name_at s places (of.Dim 0) - m) (parts_of s) ≡ Some parts.DimList }
+    ensures globals { (s : Schema) (places : List Place) (m : ℕ) → length places ≡ length s.vars → 0 < m
+        → m ≤ list_size s.version
+        → part_at (name_at s places (of.Global 0) - m) (parts_of s) ≡ Some parts.GlobalList }
+    ensures vars { (s : Schema) (places : List Place) (m : ℕ) → length places ≡ length s.vars → 0 < m
+        → m ≤ list_size s.version → part_at (var_at s places 0 - m) (parts_of s) ≡ Some parts.VarList }
+    ensures attrs { (s : Schema) (places : List Place) (i m : ℕ) → length places ≡ length s.vars
+        → i < length s.vars → 0 < m → m ≤ list_size s.version
+        → part_at (name_at s places (of.Attr i 0) - m) (parts_of s) ≡ Some (parts.AttrList i) }
+    ensures magic { (s : Schema) (o : ℕ) → o < 4 → part_at o (parts_of s) ≡ Some parts.Magic }
+    ensures numrecs { (s : Schema) (o : ℕ) → o < count_width_of s.version
+        → part_at (4 + o) (parts_of s) ≡ Some parts.NumRecs }
 {}
 
 /// The numbers by which a rule is told to fail are those of that rule and variable, and the variable breaks the rule.
