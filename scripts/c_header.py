@@ -79,7 +79,7 @@ def main():
     text = without_comments((CRATE / "include" / "ncc.h").read_text())
     numbers = {name: int(n) for name, n in re.findall(r"(NCC_\w+) = (\d+)", text)}
     expect("numbers", dict(sorted(numbers.items())), dict(sorted(numbers_of_the_crate().items())))
-    limit = re.search(r"const LIMIT: u64 = ([\d_]+);", (CRATE.parent / "ncc_commands" / "src" / "commands.rt").read_text())[1]
+    limit = re.search(r"const LIMIT: u64 = ([\d_]+);", (CRATE.parent / "ncc_tasks" / "src" / "given.rt").read_text())[1]
     expect("NCC_LIMIT", re.search(r"NCC_LIMIT (\d+)u", text)[1], limit.replace("_", ""))
     structs = structs_of_the_crate()
     declared = {name: body for body, name in re.findall(r"typedef struct \{(.*?)\} (\w+);", text, re.S)}

@@ -1,7 +1,8 @@
 #!/usr/bin/env bash
 # All tests: what ncc.h has beside the crate (scripts/c_header.py); the gate `rt ci` (every proof from nothing, the
 # must-fail edits, the unit tests, the program's own run); then the program that it built (scripts/rows.py over
-# tests/*.rows, scripts/faults.py over headers with faults, and scripts/test_program.sh), the examples of the pages (scripts/pages.sh), whether all is there that the
+# tests/*.rows, scripts/headers.py and scripts/faults.py over headers that are changed, scripts/selections.py over
+# selections, and scripts/test_program.sh), the examples of the pages (scripts/pages.sh), whether all is there that the
 # page of rules names (scripts/rules.py), whether the manual has the options and faults that the program has
 # (packaging/man.py), and what the programs take (bench/count). Where `rt lib` has left the library for C, its examples
 # (scripts/c_library.sh) and the Python package (scripts/python.sh) follow. The last line is `N passed, M failed` of
@@ -51,12 +52,25 @@ note_tree() {
   printf '%s\n' "tree $(git rev-parse 'HEAD^{tree}')" "kit $(rt version)" "result $passed passed, $failed failed" > target/gate.txt
 }
 
+# How many things `rt ci` does at once: one for each processor that has 5 GB of free memory. Left to itself it lets a
+# large crate wait until next to nothing else runs.
+jobs_here() {
+  local processors memory
+  processors=$(nproc)
+  memory=$(awk '/^MemAvailable:/ { print int($2 / 5000000) }' /proc/meminfo)
+  if [ "$memory" -lt "$processors" ]; then processors=$memory; fi
+  echo $((processors > 0 ? processors : 1))
+}
+
 cd "$top" || exit 1
 rm -f target/gate.txt
+export RT_JOBS=${RT_JOBS:-$(jobs_here)}
 part scripts/c_header.py
 part rt ci
 part scripts/rows.py crates/ncc_cli/out/ncc_cli
+part scripts/headers.py crates/ncc_cli/out/ncc_cli
 part scripts/faults.py crates/ncc_cli/out/ncc_cli
+part scripts/selections.py crates/ncc_cli/out/ncc_cli
 part scripts/test_program.sh crates/ncc_cli/out/ncc_cli
 part scripts/pages.sh crates/ncc_cli/out/ncc_cli
 part scripts/rules.py

@@ -82,6 +82,10 @@ expect "an empty file to check" 1 "fault EndsEarly at 0" "" check nothing.nc
 } > counted.nc
 counted=$(printf 'status 1\nfault EndsEarly at 432\n')
 count "34 attributes of 2,147,483,647, in 32 megabytes" "$counted" "$(ulimit -v 32000 && seen check counted.nc)"
+printf 'CDF\1\0\0\0\0\0\0\0\0\0\0\0\0\0\0\0\x0c\0\0\0\1\0\0\0\1a\0\0\0\0\0\0\2\3\0\0\0' > long_text.nc
+truncate -s 60000000 long_text.nc
+refused=$(printf 'status 3\n\nerror memory')
+count "a text of 48 MiB, in 32 megabytes" "$refused" "$(ulimit -v 32000 && seen check long_text.nc)"
 rows=$(printf 'status 0\ndim,vx\n0,3\n1,1\n2,4\n3,1\n4,5\n')
 count "csv in 32 megabytes" "$rows" "$(ulimit -v 32000 && seen csv tiny.nc vx)"
 expect "a header of the given limit" 0 "ok CDF-1 records 0 variables 0" "" check --max-header 32 empty.nc
@@ -232,8 +236,12 @@ count "convert of a fault makes no file, full output" absent "$([ -e new_bad_mag
 rm -f new_ocean.nc
 "$ncc" list --help > /dev/full 2> err
 count "help, full output" "3 error device" "$? $(cat err)"
+"$ncc" --version > /dev/full 2> err
+count "version, full output" "3 error device" "$? $(cat err)"
 "$ncc" list not_there.nc > out 2> /dev/full
 count "full error" "3 " "$? $(cat out)"
+"$ncc" list > out 2> /dev/full
+count "a wrong command line, full error" "2 " "$? $(cat out)"
 "$ncc" list ocean.nc 2>&- > out
 count "closed error" 0 $?
 "$ncc" list ocean.nc | head -c 1 > out

@@ -7,11 +7,11 @@ use Rattle.ncc_schema.specs.declared.failed.Failed.{Failed}
 use Rattle.ncc_schema.specs.Device.{Puts}
 use Rattle.ncc_schema.proofs.Writing.{puts_both}
 use Rattle.ncc_values.specs.Failures.{last_count, Rose}
-use Rattle.ncc_engines.specs.declared.answer.Answer.{Answer}
-use Rattle.ncc_engines.specs.declared.answer.Answer.TheVariants.{Passed, Refused, Device, Memory}
-use Rattle.ncc_batch.specs.declared.form.Form.{Form}
-use Rattle.ncc_batch.specs.declared.work.Work.{Work}
-use Rattle.ncc_batch.specs.Shown.{worse, worst, worst_from, devices}
+use Rattle.ncc_answers.specs.declared.answer.Answer.{Answer}
+use Rattle.ncc_answers.specs.declared.answer.Answer.TheVariants.{Passed, Refused, Device, Memory}
+use Rattle.ncc_answers.specs.declared.form.Form.{Form}
+use Rattle.ncc_answers.specs.declared.work.Work.{Work}
+use Rattle.ncc_answers.specs.Shown.{worse, worst, worst_from, devices}
 use Rattle.ncc_batch.specs.Answered.{IsAnswered, AreAnswered, AreFewer, AreCounted, IsBatch, SendsOne}
 
 -- ---- what is shown

@@ -1,5 +1,3 @@
-pub mod Lines
-pub mod Fronts
 pub mod Batches
 mod Sources
 mod Written

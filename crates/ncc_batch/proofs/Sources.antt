@@ -5,11 +5,11 @@ use Rattle.std.specs.Result.{IsErrAnd}
 use Rattle.std.proofs.lemmas.Result.{err_from_is_err_and}
 use Rattle.ncc_schema.specs.declared.failed.Failed.{Failed}
 use Rattle.ncc_schema.specs.Device.{WritesAll}
-use Rattle.ncc_engines.specs.declared.answer.Answer.{Answer}
-use Rattle.ncc_batch.specs.declared.form.Form.{Form}
-use Rattle.ncc_batch.specs.declared.work.Work.{Work}
+use Rattle.ncc_answers.specs.declared.answer.Answer.{Answer}
+use Rattle.ncc_answers.specs.declared.form.Form.{Form}
+use Rattle.ncc_answers.specs.declared.work.Work.{Work}
 use Rattle.ncc_batch.specs.Answered.{IsTextIn, SendsOne}
-use Rattle.ncc_batch.specs.Shown.{shown}
+use Rattle.ncc_answers.specs.Shown.{shown}
 
 fails_one : (work : Work) (form : Form) (path : List ℕ) (left old new : Option (List ℕ)) (a : Answer) (text : List ℕ) (e f : Failed) → IfSome left (λ input. IsTextIn work input a text)
     → WritesAll old new (Err e) (shown form path a text) → IfSome left (λ input. SendsOne work form path (Some input) old new (Err f))

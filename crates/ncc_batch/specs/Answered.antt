@@ -5,20 +5,20 @@ use Rattle.ncc_schema.specs.Device.{Puts}
 use Rattle.ncc_schema.specs.declared.failed.Failed.{Failed}
 use Rattle.ncc_store.specs.declared.store.Store.{Ghosts}
 use Rattle.ncc_check.specs.FromStore.{ReadsFew, calls_for}
-use Rattle.ncc_engines.specs.Answers.{Texts, Writes}
+use Rattle.ncc_answers.specs.Answers.{Texts, Writes}
 use Rattle.ncc_engines.specs.Checking.{IsCheckText, IsFaultOf as IsCheckFault}
 use Rattle.ncc_engines.specs.Listing.{IsListText, IsFaultOf as IsListFault}
-use Rattle.ncc_engines.specs.declared.answer.Answer.{Answer}
-use Rattle.ncc_engines.specs.declared.answer.Answer.TheVariants.{Passed, Refused, Device, Memory}
+use Rattle.ncc_answers.specs.declared.answer.Answer.{Answer}
+use Rattle.ncc_answers.specs.declared.answer.Answer.TheVariants.{Passed, Refused, Device, Memory}
 use Rattle.ncc_explain.specs.Explaining.{ExplainsInto, IsToldFault, IsToldText, ReadsTwice, calls_twice}
 use Rattle.ncc_json.specs.declared.wording.Wording.TheVariants.{Members, Words}
 use Rattle.ncc_listed.specs.Listed.{IsListedText, IsFaultOf as IsListedFault}
 use Rattle.ncc_places.specs.Layouts.{IsLayoutText, IsFaultOf as IsLayoutFault}
 use Rattle.ncc_picture.specs.Pictures.{IsPictureText, IsFaultOf as IsPictureFault}
-use Rattle.ncc_batch.specs.Shown.{shown, worst, devices}
-use Rattle.ncc_batch.specs.declared.form.Form.{Form}
-use Rattle.ncc_batch.specs.declared.work.Work.{Work}
-use Rattle.ncc_batch.specs.declared.work.Work.TheVariants.{Check, Explain, List as Listing, Layout, Picture}
+use Rattle.ncc_answers.specs.Shown.{shown, worst, devices}
+use Rattle.ncc_answers.specs.declared.form.Form.{Form}
+use Rattle.ncc_answers.specs.declared.work.Work.{Work}
+use Rattle.ncc_answers.specs.declared.work.Work.TheVariants.{Check, Explain, List as Listing, Layout, Picture}
 
 -- ---- one file
 

@@ -1,3 +1,1 @@
-pub mod Shown
 pub mod Answered
-pub mod Names

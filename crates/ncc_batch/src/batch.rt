@@ -4,12 +4,9 @@ ghost use Rattle.std.specs.Prelude.{◌≡◌, ◌⊎◌, ◌≤◌, ◌∷◌, 
 ghost use Rattle.ncc_values.specs.Failures.{Rose, Counts};
 ghost use Rattle.ncc_batch.specs.Answered.{IsBatch, SendsOne};
 
-use crate::form::Form;
-use crate::sending::send_shown;
 use crate::shelf::Shelf;
-use crate::statuses::worse;
 use crate::texts::text_at;
-use crate::work::Work;
+use ncc_answers::{Form, Work, send_shown, worse};
 use ncc_engines::Answer;
 use ncc_header::{Failed, Sink};
 use ncc_values::Seq;

@@ -6,12 +6,11 @@ ghost use Rattle.ncc_schema.specs.Device.{AsksFew, LosesAtMost};
 ghost use Rattle.ncc_schema.specs.declared.schema.Header.{Header};
 ghost use Rattle.ncc_header.specs.Answers.{Begins, IsLeft};
 ghost use Rattle.ncc_batch.specs.Answered.{IsTextIn, SendsOne, TextFails};
-ghost use Rattle.ncc_batch.specs.declared.form.Form.{Form};
-ghost use Rattle.ncc_batch.specs.declared.work.Work.{Work};
+ghost use Rattle.ncc_answers.specs.declared.form.Form.{Form};
+ghost use Rattle.ncc_answers.specs.declared.work.Work.{Work};
 ghost use Rattle.ncc_json.specs.declared.wording.Wording.{Wording};
 
-use crate::form::Form;
-use crate::sending::send_shown;
+use ncc_answers::{Form, send_shown};
 use ncc_engines::Answer;
 use ncc_header::{Failed, Sink, Source, WriteSink};
 use ncc_lines::FloatStyle;

@@ -6,13 +6,13 @@ ghost use Rattle.ncc_schema.specs.Device.{Puts};
 ghost use Rattle.ncc_store.specs.Reading.{ReadsOnly};
 ghost use Rattle.ncc_check.specs.FromStore.{ReadsFew, calls_for};
 ghost use Rattle.ncc_check.specs.Passes.{HasOwnElements};
-ghost use Rattle.ncc_engines.specs.Answers.{Fails, Writes};
+ghost use Rattle.ncc_answers.specs.Answers.{Fails, Writes};
 ghost use Rattle.ncc_json.specs.declared.wording.Wording.{Wording};
 ghost use Rattle.ncc_explain.specs.Explaining.{HasHeaderFault};
 ghost use Rattle.ncc_batch.specs.Answered.{TextFails, TextsOf, IsFaultIn, IsWhole, IsTextIn, IsTextAt, ReadsFor, WritesFor, calls_of, limit_of};
 
 use crate::shelf::Shelf;
-use crate::work::Work;
+use ncc_answers::Work;
 use ncc_engines::{Answer, check_engine, list_store_engine};
 use ncc_explain::explain_engine;
 use ncc_header::{Sink, WriteSink};

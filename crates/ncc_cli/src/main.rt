@@ -1,12 +1,9 @@
 //! `ncc`: checks, lists, reads, extends and converts netCDF classic files.
 #![tactic(auto)]
 
-#[cfg(test)]
-mod tests;
-
-use ncc_commands::read_words;
 use ncc_engines::Answer;
 use ncc_run::{Terminals, finish, run};
+use ncc_tasks::read_words;
 use std::io::IsTerminal;
 use std::process::ExitCode;
 

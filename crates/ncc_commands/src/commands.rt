@@ -4,9 +4,6 @@ use crate::version::VERSION;
 use clap::{Arg, ArgAction, Command, value_parser};
 use std::alloc::{AllocError, Global};
 
-/// How long a header may be, in bytes, where the command line doesn't say.
-pub const LIMIT: u64 = 67_108_864;
-
 /// What the help of `ncc` says of its statuses.
 const STATUSES: &str = "Example:
   ncc check ocean.nc

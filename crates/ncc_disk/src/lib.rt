@@ -7,6 +7,6 @@ mod reasons;
 mod watched;
 
 pub use new_file::NewFile;
-pub use paths::{folder_of, open_file, open_store};
+pub use paths::{folder_of, open_file, open_to_extend, open_to_read};
 pub use reasons::{Reason, Trouble, reason_in, reason_of, tell_name, tell_trouble};
 pub use watched::Watched;

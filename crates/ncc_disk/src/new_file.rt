@@ -10,8 +10,8 @@ use crate::paths::{
 use crate::reasons::{PART, Reason, reason_of};
 use crate::watched::Watched;
 use ncc_header::WriteSink;
-use ncc_making::{Entries, Entry, Linked, Target};
 use ncc_store::Device;
+use ncc_target::{Entries, Entry, Linked, Target};
 use ncc_values::count_failure;
 use std::alloc::{AllocError, Global};
 use std::fs::File;

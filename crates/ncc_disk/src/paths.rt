@@ -1,6 +1,6 @@
 //! Opening files by their names.
 
-ghost use Rattle.std.specs.Prelude.{◌≡◌, true, IfOk};
+ghost use Rattle.std.specs.Prelude.{◌≡◌, ◌<◌, true, false, IfOk};
 ghost use Rattle.std.specs.Fs.{new_options, with_write, with_create_new};
 ghost use Rattle.ncc_store.specs.File.{file_of, file_ready, file_failures};
 ghost use Rattle.ncc_store.specs.DiskFile.{is_writable};
@@ -44,11 +44,7 @@ fn refusal<R: Files<File = File>>(rt: &R, path: &str, write: bool) -> Reason {
 
 /// Opens a file that is there as a store; one that is to be written is locked, so that no other `ncc` writes it
 /// meanwhile. A pipe or device isn't waited for.
-pub fn open_store<R: Files<File = File>>(
-    rt: &R,
-    name: &[u8],
-    write: bool,
-) -> Result<FileStore, Reason>
+fn open_store<R: Files<File = File>>(rt: &R, name: &[u8], write: bool) -> Result<FileStore, Reason>
     ensures ready { IfOk result (λ f. file_ready f ≡ write) }
     ensures writable { IfOk result (λ f. is_writable (file_of f) ≡ write) }
     ensures count { IfOk result (λ f. file_failures f ≡ 0) }
@@ -59,6 +55,28 @@ pub fn open_store<R: Files<File = File>>(
         Ok(store) => Ok(store),
         Err(_) => Err(refusal(rt, path, write)),
     }
+}
+
+/// Opens a file that is there as a store that can't be written.
+pub fn open_to_read<R: Files<File = File>>(rt: &R, name: &[u8]) -> Result<FileStore, Reason>
+    ensures reads { IfOk result (λ f. is_writable (file_of f) ≡ false) }
+    ensures count { IfOk result (λ f. file_failures f ≡ 0) }
+{
+    open_store(rt, name, false)
+}
+
+/// Opens a file to which so many records are to be added: with its lock, unless there are none.
+pub fn open_to_extend<R: Files<File = File>>(
+    rt: &R,
+    name: &[u8],
+    more: u64,
+) -> Result<FileStore, Reason>
+    ensures ready { 0 < more → IfOk result (λ f. file_ready f ≡ true) }
+    ensures writable { 0 < more → IfOk result (λ f. is_writable (file_of f) ≡ true) }
+    ensures reads { more ≡ 0 → IfOk result (λ f. is_writable (file_of f) ≡ false) }
+    ensures count { IfOk result (λ f. file_failures f ≡ 0) }
+{
+    open_store(rt, name, more > 0)
 }
 
 /// Opens a file that is there for reading. A pipe or device isn't waited for.

@@ -27,9 +27,9 @@ use Rattle.ncc_write.specs.Additions.{HoldsAll}
 use Rattle.ncc_write.specs.Extends.{ExtendsAs, HoldsSome, IsFullFor, LeavesFills, filled_bytes}
 use Rattle.ncc_write.proofs.MoreRecords.{as_first, can_grow as can_grow_on, full_now, full_then, no_records}
 use Rattle.ncc_write.specs.Records.{followed_by}
-use Rattle.ncc_engines.specs.declared.answer.Answer.{Answer}
-use Rattle.ncc_engines.specs.declared.answer.Answer.TheVariants.{Passed, Refused, Device, Memory}
-use Rattle.ncc_engines.specs.Answers.{Texts, answer_of}
+use Rattle.ncc_answers.specs.declared.answer.Answer.{Answer}
+use Rattle.ncc_answers.specs.declared.answer.Answer.TheVariants.{Passed, Refused, Device, Memory}
+use Rattle.ncc_answers.specs.Answers.{Texts, answer_of}
 use Rattle.ncc_engines.specs.Extending.{ExtendsInto, IsExtendText, IsFilled, IsFilledSome, IsFilledUp, IsFilledWhole, IsFrontOfRefusal, IsFrontOfText, Tells, TellsText}
 
 -- these went out

@@ -1,5 +1,3 @@
-pub mod Checked
-pub mod Sent
 pub mod SentList
 pub mod SentVerdict
 pub mod SentTable

@@ -15,11 +15,11 @@ use Rattle.ncc_check.specs.FromStore.{ReadsHeader}
 use Rattle.ncc_lines.specs.Verdicts.{file_fault_line}
 use Rattle.ncc_lines.specs.Sends.{SendsAll}
 use Rattle.ncc_lines.specs.declared.style.FloatStyle.{FloatStyle}
-use Rattle.ncc_engines.specs.declared.answer.Answer.{Answer}
-use Rattle.ncc_engines.specs.declared.answer.Answer.TheVariants.{Passed, Refused, Device, Memory}
-use Rattle.ncc_engines.specs.Answers.{answer_of}
+use Rattle.ncc_answers.specs.declared.answer.Answer.{Answer}
+use Rattle.ncc_answers.specs.declared.answer.Answer.TheVariants.{Passed, Refused, Device, Memory}
+use Rattle.ncc_answers.specs.Answers.{answer_of}
 use Rattle.ncc_engines.specs.Listing.{IsListOf, IsFaultOf, IsListText}
-use Rattle.ncc_engines.proofs.Sent.{Gone, OneText, sent}
+use Rattle.ncc_answers.proofs.Sent.{Gone, OneText, sent}
 
 -- the laws of headers that make the text of an input one
 pub record Laws : Type 0 where

@@ -24,12 +24,12 @@ use Rattle.ncc_csv.specs.Named.{IsFirstNamed}
 use Rattle.ncc_csv.specs.Refusals.{refused_line}
 use Rattle.ncc_csv.specs.Sheets.{SendsSheet, sheet_or_line}
 use Rattle.ncc_csv.specs.declared.pick.Pick.{Pick}
-use Rattle.ncc_engines.specs.declared.answer.Answer.{Answer}
-use Rattle.ncc_engines.specs.declared.answer.Answer.TheVariants.{Passed, Refused, Device, Memory}
-use Rattle.ncc_engines.specs.Answers.{BeginsEach, Texts, Writes, answer_of}
+use Rattle.ncc_answers.specs.declared.answer.Answer.{Answer}
+use Rattle.ncc_answers.specs.declared.answer.Answer.TheVariants.{Passed, Refused, Device, Memory}
+use Rattle.ncc_answers.specs.Answers.{BeginsEach, Texts, Writes, answer_of}
 use Rattle.ncc_engines.specs.Checking.{IsFaultOf}
 use Rattle.ncc_engines.specs.Selecting.{Contents, contents_in, contents_of, refusal, table, answer_to, sheet_answer, IsSelection, IsSelectionOf, IsCsvText}
-use Rattle.ncc_engines.proofs.Sent.{Gone, OneText, sent}
+use Rattle.ncc_answers.proofs.Sent.{Gone, OneText, sent}
 
 -- ---- one text
 

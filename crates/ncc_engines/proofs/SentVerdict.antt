@@ -9,11 +9,12 @@ use Rattle.ncc_check.specs.Passes.{Passes}
 use Rattle.ncc_lines.specs.declared.halt.Halt.{Halt}
 use Rattle.ncc_lines.specs.Verdicts.{report_text, file_fault_line}
 use Rattle.ncc_lines.specs.Sends.{SendsAll}
-use Rattle.ncc_engines.specs.declared.answer.Answer.{Answer}
-use Rattle.ncc_engines.specs.declared.answer.Answer.TheVariants.{Passed, Refused, Device, Memory}
-use Rattle.ncc_engines.specs.Answers.{Writes, answer_of}
-use Rattle.ncc_engines.specs.Checking.{verdict_on, verdict, IsFaultOf, IsCheckText}
-use Rattle.ncc_engines.proofs.Sent.{Gone, OneText, sent}
+use Rattle.ncc_answers.specs.declared.answer.Answer.{Answer}
+use Rattle.ncc_answers.specs.declared.answer.Answer.TheVariants.{Passed, Refused, Device, Memory}
+use Rattle.ncc_answers.specs.Answers.{Writes, answer_of}
+use Rattle.ncc_answers.specs.Judged.{verdict_on, verdict}
+use Rattle.ncc_engines.specs.Checking.{IsFaultOf, IsCheckText}
+use Rattle.ncc_answers.proofs.Sent.{Gone, OneText, sent}
 
 -- the laws of bytes that pass that make their text one
 pub record Laws : Type 0 where

@@ -1,23 +1,14 @@
 -- What the check engine writes.
-use Rattle.std.specs.Prelude.{◌≡◌, ◌⊎◌, ℕ, Bool, true, false, List, [], ◌∷◌, Ok}
+use Rattle.std.specs.Prelude.{◌≡◌, ◌⊎◌, ℕ, Bool, List, Ok}
 use Rattle.ncc_check.specs.declared.fault.FileFault.{FileFault}
-use Rattle.ncc_check.specs.declared.note.Note.{Note}
 use Rattle.ncc_check.specs.declared.report.Report.{Report}
 use Rattle.ncc_check.specs.Checks.{Checks}
 use Rattle.ncc_check.specs.Faults.{Fails}
 use Rattle.ncc_lines.specs.Verdicts.{report_text, file_fault_line}
-use Rattle.ncc_engines.specs.declared.answer.Answer.{Answer}
-use Rattle.ncc_engines.specs.declared.answer.Answer.TheVariants.{Passed, Refused, Device, Memory}
-use Rattle.ncc_engines.specs.Answers.{Writes}
-
--- a file that passes is refused only where notes are faults and it has one
-abbrev pub verdict_on : (strict : Bool) → List Note → Answer
-verdict_on false notes = Passed
-verdict_on true [] = Passed
-verdict_on true (n ∷ notes) = Refused
-
-abbrev pub verdict : (strict : Bool) → Report → Answer
-verdict strict r = verdict_on strict r.notes
+use Rattle.ncc_answers.specs.declared.answer.Answer.{Answer}
+use Rattle.ncc_answers.specs.declared.answer.Answer.TheVariants.{Passed, Refused, Device, Memory}
+use Rattle.ncc_answers.specs.Answers.{Writes}
+use Rattle.ncc_answers.specs.Judged.{verdict}
 
 -- bytes that pass, with this answer, and the lines of their report
 abbrev pub IsReportOf : (bytes : List ℕ) (limit : ℕ) (strict : Bool) → Answer → (text : List ℕ) → Type 0

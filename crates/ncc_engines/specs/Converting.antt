@@ -13,8 +13,8 @@ use Rattle.ncc_convert.specs.Converting.{HasFile}
 use Rattle.ncc_convert.specs.Lines.{converted_line, plan_line}
 use Rattle.ncc_engines.specs.Checking.{IsFaultOf}
 use Rattle.ncc_engines.specs.Planning.{IsAgainst, IsConvertible}
-use Rattle.ncc_engines.specs.declared.answer.Answer.{Answer}
-use Rattle.ncc_engines.specs.declared.answer.Answer.TheVariants.{Passed, Refused, Device, Memory}
+use Rattle.ncc_answers.specs.declared.answer.Answer.{Answer}
+use Rattle.ncc_answers.specs.declared.answer.Answer.TheVariants.{Passed, Refused, Device, Memory}
 
 -- exactly the file of the dataset, or a beginning of it; it is never refused
 abbrev pub ConvertsInto : (told : Bool) → (file : List ℕ) → Placed → (planned : Schema)

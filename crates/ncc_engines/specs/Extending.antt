@@ -19,9 +19,9 @@ use Rattle.ncc_check.specs.AppendLaws.{CanGrow}
 use Rattle.ncc_build.specs.Dataset.{Dataset, IsDataset}
 use Rattle.ncc_write.specs.Additions.{HoldsAll}
 use Rattle.ncc_write.specs.Extends.{ExtendsAs, HasFillsOrNot, HoldsSome, IsFullFor, TakesRecords, filled_bytes, with_fills}
-use Rattle.ncc_engines.specs.declared.answer.Answer.{Answer}
-use Rattle.ncc_engines.specs.declared.answer.Answer.TheVariants.{Passed, Refused, Device, Memory}
-use Rattle.ncc_engines.specs.Answers.{Texts}
+use Rattle.ncc_answers.specs.declared.answer.Answer.{Answer}
+use Rattle.ncc_answers.specs.declared.answer.Answer.TheVariants.{Passed, Refused, Device, Memory}
+use Rattle.ncc_answers.specs.Answers.{Texts}
 use Rattle.ncc_engines.specs.Checking.{IsFaultOf}
 
 -- ---- an open file

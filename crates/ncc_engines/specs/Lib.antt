@@ -1,4 +1,3 @@
-pub mod Answers
 pub mod Listing
 pub mod Checking
 pub mod Selecting

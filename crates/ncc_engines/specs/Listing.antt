@@ -5,9 +5,9 @@ use Rattle.ncc_schema.specs.declared.schema.Header.{Header}
 use Rattle.ncc_header.specs.Answers.{Begins, Stops}
 use Rattle.ncc_lines.specs.Texts.{list_text, fault_line}
 use Rattle.ncc_lines.specs.declared.style.FloatStyle.{FloatStyle}
-use Rattle.ncc_engines.specs.declared.answer.Answer.{Answer}
-use Rattle.ncc_engines.specs.declared.answer.Answer.TheVariants.{Passed, Refused, Device, Memory}
-use Rattle.ncc_engines.specs.Answers.{Writes}
+use Rattle.ncc_answers.specs.declared.answer.Answer.{Answer}
+use Rattle.ncc_answers.specs.declared.answer.Answer.TheVariants.{Passed, Refused, Device, Memory}
+use Rattle.ncc_answers.specs.Answers.{Writes}
 
 -- the lines of the header that begins the input, with its floats in this style
 abbrev pub IsListOf : (input : List ℕ) (limit : ℕ) → FloatStyle → (text : List ℕ) → Type 0

@@ -8,8 +8,8 @@ use Rattle.ncc_build.specs.Building.{RebuildsAs}
 use Rattle.ncc_build.specs.declared.fault.WriteFault.{WriteFault}
 use Rattle.ncc_build.specs.declared.fault.WriteFault.TheVariants as faults
 use Rattle.ncc_convert.specs.Lines.{converted_line, plan_line}
-use Rattle.ncc_engines.specs.declared.answer.Answer.{Answer}
-use Rattle.ncc_engines.specs.declared.answer.Answer.TheVariants.{Passed, Refused, Device, Memory}
+use Rattle.ncc_answers.specs.declared.answer.Answer.{Answer}
+use Rattle.ncc_answers.specs.declared.answer.Answer.TheVariants.{Passed, Refused, Device, Memory}
 
 -- what is against the schema, with so many records, in this version
 abbrev pub IsAgainst : Version → Schema → (records : ℕ) → WriteFault → Type 0

@@ -26,9 +26,9 @@ use Rattle.ncc_csv.specs.Picks.{picked}
 use Rattle.ncc_csv.specs.Sheets.{sheet_or_line}
 use Rattle.ncc_csv.specs.Texts.{printed_text}
 use Rattle.ncc_csv.specs.declared.pick.Pick.{Pick}
-use Rattle.ncc_engines.specs.declared.answer.Answer.{Answer}
-use Rattle.ncc_engines.specs.declared.answer.Answer.TheVariants.{Passed, Refused, Device, Memory}
-use Rattle.ncc_engines.specs.Answers.{Writes}
+use Rattle.ncc_answers.specs.declared.answer.Answer.{Answer}
+use Rattle.ncc_answers.specs.declared.answer.Answer.TheVariants.{Passed, Refused, Device, Memory}
+use Rattle.ncc_answers.specs.Answers.{Writes}
 use Rattle.ncc_engines.specs.Checking.{IsFaultOf}
 
 -- ---- a file

@@ -5,25 +5,15 @@ ghost use Rattle.ncc_schema.specs.Device.{Puts};
 ghost use Rattle.ncc_store.specs.Reading.{ReadsOnly};
 ghost use Rattle.ncc_check.specs.FromStore.{calls_for, ReadsFew};
 ghost use Rattle.ncc_check.specs.Passes.{HasOwnElements};
-ghost use Rattle.ncc_engines.specs.Answers.{Fails};
-ghost use Rattle.ncc_engines.specs.Checking.{verdict, ChecksInto, IsFaultOf};
+ghost use Rattle.ncc_answers.specs.Answers.{Fails};
+ghost use Rattle.ncc_engines.specs.Checking.{ChecksInto, IsFaultOf};
 
-use crate::answer::{Answer, answered};
-use ncc_check::{Refusal, Report, check, laws};
+use ncc_answers::{Answer, answered, judged};
+use ncc_check::{Refusal, check, laws};
 use ncc_header::Sink;
 use ncc_lines::{send_file_fault, send_report};
 use ncc_store::Store;
 use std::alloc::Global;
-
-/// What a report comes to: notes are faults where the check is strict.
-pub fn judged(strict: bool, report: &Report) -> Answer
-    ensures { result ≡ verdict strict report.now }
-{
-    if strict && !report.notes.is_empty() {
-        return Answer::Refused;
-    }
-    Answer::Passed
-}
 
 /// Writes the line of a file that passes, of at most `limit` bytes of header, and those of its notes; or
 /// the line of its first fault. A file with a note is refused where the check is strict.

@@ -12,7 +12,7 @@ ghost use Rattle.ncc_convert.specs.Copying.{pieces_of};
 ghost use Rattle.ncc_write.specs.Planned.{IsPlanned};
 ghost use Rattle.ncc_engines.specs.Converting.{ConversionCounts, ConvertsInto};
 
-use crate::answer::{Answer, answered};
+use ncc_answers::{Answer, answered};
 use ncc_check::NcFile;
 use ncc_convert::convert;
 use ncc_header::Sink;

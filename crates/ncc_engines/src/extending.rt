@@ -13,10 +13,10 @@ ghost use Rattle.ncc_check.specs.declared.append_error.AppendError.TheVariants a
 ghost use Rattle.ncc_build.specs.Dataset.{Dataset, IsDataset};
 ghost use Rattle.ncc_write.specs.Additions.{HoldsAll};
 ghost use Rattle.ncc_write.specs.Extends.{HoldsSome, with_fills};
-ghost use Rattle.ncc_engines.specs.Answers.{ChecksBy, Fails};
+ghost use Rattle.ncc_answers.specs.Answers.{ChecksBy, Fails};
 ghost use Rattle.ncc_engines.specs.Extending.{ExtendsByFew, ExtendsInto, IsFilled, IsFrontOfRefusal, LeavesAtStop, LeavesBytes, Settles, Tells};
 
-use crate::answer::{Answer, answered};
+use ncc_answers::{Answer, answered};
 use ncc_check::laws::appending::opens_as_one;
 use ncc_check::{AppendError, Refusal, laws as check_laws, open};
 use ncc_header::Sink;

@@ -1,7 +1,6 @@
 //! What each command of `ncc` does, over any source, store and sink.
 #![tactic(auto)]
 
-mod answer;
 mod checking;
 mod converting;
 mod extending;
@@ -9,10 +8,10 @@ mod listing;
 mod planning;
 mod selecting;
 
-pub use answer::{Answer, answered};
-pub use checking::{check_engine, judged};
+pub use checking::check_engine;
 pub use converting::convert_engine;
 pub use extending::{extend_engine, extend_file};
 pub use listing::{list_engine, list_store_engine};
+pub use ncc_answers::{Answer, answered, judged};
 pub use planning::plan;
 pub use selecting::csv_engine;

@@ -6,10 +6,10 @@ ghost use Rattle.ncc_store.specs.Reading.{ReadsOnly};
 ghost use Rattle.ncc_check.specs.FromStore.{calls_for, ReadsFew};
 ghost use Rattle.ncc_schema.specs.declared.schema.Header.{Header as TheHeader};
 ghost use Rattle.ncc_header.specs.Answers.{Begins, IsLeft};
-ghost use Rattle.ncc_engines.specs.Answers.{Fails};
+ghost use Rattle.ncc_answers.specs.Answers.{Fails};
 ghost use Rattle.ncc_engines.specs.Listing.{IsFaultOf, Lists};
 
-use crate::answer::{Answer, answered};
+use ncc_answers::{Answer, answered};
 use ncc_check::{Refusal, header_in};
 use ncc_header::{HeaderError, Sink, Source, laws, read_header};
 use ncc_lines::{FloatStyle, send_fault, send_file_fault, send_header};

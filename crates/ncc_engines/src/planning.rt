@@ -8,7 +8,7 @@ ghost use Rattle.ncc_build.specs.Builds.{schema_of as planned_schema};
 ghost use Rattle.ncc_write.specs.Planned.{IsPlanned};
 ghost use Rattle.ncc_engines.specs.Planning.{PlansInto};
 
-use crate::answer::{Answer, answered};
+use ncc_answers::{Answer, answered};
 use ncc_check::NcFile;
 use ncc_convert::send_plan_refusal;
 use ncc_header::Sink;

@@ -9,14 +9,14 @@ ghost use Rattle.ncc_csv.specs.Named.{IsFirstNamed};
 ghost use Rattle.ncc_csv.specs.Picks.{pick_fault};
 ghost use Rattle.ncc_layout.specs.Elements.{var_at};
 ghost use Rattle.ncc_layout.specs.Placed.{vars_of};
-ghost use Rattle.ncc_engines.specs.Answers.{Blames, ChecksBy, Writes};
+ghost use Rattle.ncc_answers.specs.Answers.{Blames, ChecksBy, Writes};
 ghost use Rattle.ncc_engines.specs.Selecting.{contents_in, refusal, value_calls, sheet_answer, IsCsvText, IsSelection, SelectsByFew, SelectsInto};
-ghost use Rattle.ncc_engines.specs.declared.answer.Answer.{Answer as GivenAnswer};
+ghost use Rattle.ncc_answers.specs.declared.answer.Answer.{Answer as GivenAnswer};
 ghost use Rattle.ncc_csv.specs.declared.pick.Pick.{Pick as GivenPick};
 ghost use Rattle.ncc_slab.specs.declared.fault.SlabFault.{SlabFault as GivenFault};
 ghost use Rattle.ncc_lines.specs.declared.style.FloatStyle.{FloatStyle as GivenStyle};
 
-use crate::answer::{Answer, answered};
+use ncc_answers::{Answer, answered};
 use ncc_check::{NcFile, Refusal, laws as check_laws, open};
 use ncc_csv::{Pick, laws as csv_laws, send_refusal, send_sheet, var_named};
 use ncc_header::Sink;

@@ -6,9 +6,9 @@ use Rattle.ncc_json.specs.declared.wording.Wording.{Wording}
 use Rattle.ncc_lines.specs.declared.halt.Halt.{Halt}
 use Rattle.ncc_lines.specs.declared.halt.Halt.TheVariants as halts
 use Rattle.ncc_lines.specs.Sends.{SendsAll}
-use Rattle.ncc_engines.specs.declared.answer.Answer.{Answer}
-use Rattle.ncc_engines.specs.declared.answer.Answer.TheVariants.{Passed, Refused, Device, Memory}
-use Rattle.ncc_engines.specs.Answers.{answer_of}
+use Rattle.ncc_answers.specs.declared.answer.Answer.{Answer}
+use Rattle.ncc_answers.specs.declared.answer.Answer.TheVariants.{Passed, Refused, Device, Memory}
+use Rattle.ncc_answers.specs.Answers.{answer_of}
 use Rattle.ncc_explain.specs.Explaining.{ExplainsInto, IsToldText}
 
 module _ (wording : Wording) (bytes : List ℕ) (limit : ℕ) (strict : Bool) where

@@ -15,9 +15,9 @@ use Rattle.ncc_check.specs.FromStore.{IsBegun, SettledBy, reads_for}
 use Rattle.ncc_check.specs.Passes.{PassesWith}
 use Rattle.ncc_lines.specs.declared.halt.Halt.{Halt}
 use Rattle.ncc_lines.specs.declared.halt.Halt.TheVariants as halts
-use Rattle.ncc_engines.specs.declared.answer.Answer.{Answer}
-use Rattle.ncc_engines.specs.declared.answer.Answer.TheVariants.{Passed, Refused, Device, Memory}
-use Rattle.ncc_engines.specs.Checking.{verdict}
+use Rattle.ncc_answers.specs.declared.answer.Answer.{Answer}
+use Rattle.ncc_answers.specs.declared.answer.Answer.TheVariants.{Passed, Refused, Device, Memory}
+use Rattle.ncc_answers.specs.Judged.{verdict}
 use Rattle.json.specs.Print.{print}
 use Rattle.ncc_json.specs.declared.wording.Wording.{Wording}
 use Rattle.ncc_json.specs.declared.wording.Wording.TheVariants.{Members, Words}

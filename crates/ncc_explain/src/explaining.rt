@@ -8,15 +8,15 @@ ghost use Rattle.ncc_layout.specs.Sizes.{AreSizes};
 ghost use Rattle.ncc_check.specs.Examining.{HasSizes};
 ghost use Rattle.ncc_check.specs.FromStore.{IsBegun, ReadsFew, calls_for};
 ghost use Rattle.ncc_check.specs.Passes.{HasOwnElements};
-ghost use Rattle.ncc_engines.specs.Answers.{Fails};
+ghost use Rattle.ncc_answers.specs.Answers.{Fails};
 ghost use Rattle.ncc_explain.specs.Explaining.{AreExamined, ExplainsInto, HasHeaderFault, IsExamined, IsToldText, ReadsTwice, calls_twice, header_fault_told, layout_fault_told, report_told};
 
 use crate::examining::{Examined, examine};
 use crate::objects::{header_fault_object, layout_fault_object, report_object};
 use crate::site::Site;
 use crate::telling::{told_header_fault, told_layout_fault, told_report};
+use ncc_answers::{Answer, answered, judged};
 use ncc_check::{Checked, Unplaced, laws};
-use ncc_engines::{Answer, answered, judged};
 use ncc_header::{Fault, Sink};
 use ncc_json::Wording;
 use ncc_lines::Halt;

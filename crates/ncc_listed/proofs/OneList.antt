@@ -14,10 +14,10 @@ use Rattle.ncc_check.specs.FromStore.{ReadsHeader}
 use Rattle.ncc_lines.specs.Sends.{SendsAll}
 use Rattle.ncc_lines.specs.declared.halt.Halt.{Halt}
 use Rattle.ncc_lines.specs.declared.style.FloatStyle.{FloatStyle}
-use Rattle.ncc_engines.specs.declared.answer.Answer.{Answer}
-use Rattle.ncc_engines.specs.declared.answer.Answer.TheVariants.{Passed, Refused, Device, Memory}
-use Rattle.ncc_engines.specs.Answers.{answer_of}
-use Rattle.ncc_engines.proofs.Sent.{Gone, OneText, sent}
+use Rattle.ncc_answers.specs.declared.answer.Answer.{Answer}
+use Rattle.ncc_answers.specs.declared.answer.Answer.TheVariants.{Passed, Refused, Device, Memory}
+use Rattle.ncc_answers.specs.Answers.{answer_of}
+use Rattle.ncc_answers.proofs.Sent.{Gone, OneText, sent}
 use Rattle.ncc_places.specs.Members.{file_fault_members}
 use Rattle.ncc_listed.specs.Listed.{IsListedText}
 use Rattle.ncc_listed.specs.Members.{list_members}

@@ -8,14 +8,14 @@ ghost use Rattle.ncc_store.specs.Reading.{ReadsOnly};
 ghost use Rattle.ncc_header.specs.Answers.{Begins, IsLeft};
 ghost use Rattle.ncc_check.specs.FromStore.{ReadsFew, calls_for};
 ghost use Rattle.ncc_lines.specs.Sends.{Blames, SendsAll};
-ghost use Rattle.ncc_engines.specs.Answers.{Fails};
+ghost use Rattle.ncc_answers.specs.Answers.{Fails};
 ghost use Rattle.ncc_places.specs.Members.{file_fault_members};
 ghost use Rattle.ncc_listed.specs.Listed.{ListsMembers};
 ghost use Rattle.ncc_listed.specs.Members.{list_members};
 
 use crate::telling::header_told;
+use ncc_answers::{Answer, answered};
 use ncc_check::{FileFault, Refusal, header_in};
-use ncc_engines::{Answer, answered};
 use ncc_header::{Header, HeaderError, Sink, Source, laws, read_header};
 use ncc_lines::{FloatStyle, Halt};
 use ncc_places::{fault_object, send_text};

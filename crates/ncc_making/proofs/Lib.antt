@@ -1,3 +1,2 @@
 pub mod Against
 pub mod Made
-pub mod Naming

@@ -6,8 +6,8 @@ use Rattle.ncc_layout.specs.declared.placed_file.Placed.{Placed}
 use Rattle.ncc_build.specs.File.{file_of, header_of}
 use Rattle.ncc_write.specs.Writing.{Went}
 use Rattle.ncc_convert.specs.Converting.{HasFile, IsSomeFile, ReadsAs}
-use Rattle.ncc_engines.specs.declared.answer.Answer.{Answer}
-use Rattle.ncc_engines.specs.declared.answer.Answer.TheVariants.{Passed}
+use Rattle.ncc_answers.specs.declared.answer.Answer.{Answer}
+use Rattle.ncc_answers.specs.declared.answer.Answer.TheVariants.{Passed}
 use Rattle.ncc_engines.specs.Converting.{ConvertsInto}
 use Rattle.std.proofs.Math.Logic.{∥∥₁_map}
 use Rattle.std.specs.Prelude.{IsTrue}

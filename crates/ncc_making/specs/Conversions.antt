@@ -11,12 +11,12 @@ use Rattle.ncc_build.specs.declared.fault.WriteFault.{WriteFault}
 use Rattle.ncc_convert.specs.Lines.{converted_line, plan_line}
 use Rattle.ncc_engines.specs.Converting.{IsRefusalLine, HasConvertedFront, HasRefusalFront}
 use Rattle.ncc_engines.specs.Planning.{IsAgainst, HaltsLine}
-use Rattle.ncc_engines.specs.declared.answer.Answer.{Answer}
-use Rattle.ncc_engines.specs.declared.answer.Answer.TheVariants.{Passed, Refused, Device, Memory}
+use Rattle.ncc_answers.specs.declared.answer.Answer.{Answer}
+use Rattle.ncc_answers.specs.declared.answer.Answer.TheVariants.{Passed, Refused, Device, Memory}
 use Rattle.ncc_making.specs.Making.{FewCalls}
-use Rattle.ncc_making.specs.Names.{MayLeave, IsUnnamed, IsNoneOrWhole, IsPublished}
-use Rattle.ncc_making.specs.declared.entries.Entry.TheVariants.{Made}
-use Rattle.ncc_making.specs.declared.target.Target.{Ghosts}
+use Rattle.ncc_target.specs.Names.{MayLeave, IsUnnamed, IsNoneOrWhole, IsPublished}
+use Rattle.ncc_target.specs.declared.entries.Entry.TheVariants.{Made}
+use Rattle.ncc_target.specs.declared.target.Target.{Ghosts}
 
 -- why a file isn't converted
 abbrev pub IsRefused : (bytes : List ℕ) (limit : ℕ) → Version → Type 0

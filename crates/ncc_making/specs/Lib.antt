@@ -1,3 +1,2 @@
 pub mod Conversions
 pub mod Making
-pub mod Names

@@ -12,8 +12,8 @@ use Rattle.ncc_write.specs.Planned.{found_schema}
 use Rattle.ncc_convert.specs.Converting.{IsSomeFile, ReadsAs}
 use Rattle.ncc_convert.specs.Copying.{pieces_of}
 use Rattle.ncc_convert.specs.Found.{IsOf}
-use Rattle.ncc_engines.specs.declared.answer.Answer.{Answer}
-use Rattle.ncc_engines.specs.declared.answer.Answer.TheVariants.{Device}
+use Rattle.ncc_answers.specs.declared.answer.Answer.{Answer}
+use Rattle.ncc_answers.specs.declared.answer.Answer.TheVariants.{Device}
 
 -- the schema of an open file, in this version
 abbrev pub in_version : Version → Schema → Placed → Schema

@@ -5,8 +5,8 @@ use Rattle.ncc_schema.specs.declared.schema.Schema.{Schema}
 use Rattle.ncc_layout.specs.Extents.{greatest_end, records_of}
 use Rattle.ncc_check.specs.Notes.{extents_in}
 use Rattle.ncc_lines.specs.Verdicts.{file_fault_line}
-use Rattle.ncc_engines.specs.declared.answer.Answer.{Answer}
-use Rattle.ncc_engines.specs.Answers.{Writes}
+use Rattle.ncc_answers.specs.declared.answer.Answer.{Answer}
+use Rattle.ncc_answers.specs.Answers.{Writes}
 use Rattle.ncc_places.specs.Ends.{end_of_all, records_in}
 use Rattle.ncc_places.specs.Layouts.{IsToldFaultOf, IsToldText}
 use Rattle.ncc_places.specs.Order.{by_begin}

@@ -4,12 +4,12 @@ ghost use Rattle.std.specs.Prelude.{◌≡◌, ℕ, List, length, IsTrue};
 ghost use Rattle.ncc_schema.specs.Device.{Puts};
 ghost use Rattle.ncc_store.specs.Reading.{ReadsOnly};
 ghost use Rattle.ncc_check.specs.FromStore.{ReadsFew, calls_for};
-ghost use Rattle.ncc_engines.specs.Answers.{Fails};
+ghost use Rattle.ncc_answers.specs.Answers.{Fails};
 ghost use Rattle.ncc_picture.specs.Pictures.{Pictures};
 
 use crate::whole::picture_text;
+use ncc_answers::{Answer, answered};
 use ncc_check::{Refusal, laws};
-use ncc_engines::{Answer, answered};
 use ncc_header::Sink;
 use ncc_header::laws::header_or_stop;
 use ncc_lines::send_file_fault;

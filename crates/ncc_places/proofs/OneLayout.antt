@@ -16,8 +16,8 @@ use Rattle.ncc_layout.proofs.StandardPlaces.{record_sum_first}
 use Rattle.ncc_check.specs.declared.fault.FileFault.{FileFault}
 use Rattle.ncc_check.specs.declared.fault.FileFault.TheVariants as of
 use Rattle.ncc_check.specs.Faults.{Fails}
-use Rattle.ncc_engines.specs.declared.answer.Answer.TheVariants.{Passed, Refused, Device, Memory}
-use Rattle.ncc_engines.proofs.Sent.{OneText}
+use Rattle.ncc_answers.specs.declared.answer.Answer.TheVariants.{Passed, Refused, Device, Memory}
+use Rattle.ncc_answers.proofs.Sent.{OneText}
 use Rattle.ncc_places.specs.Layouts.{IsToldFaultOf, IsToldOf, IsToldText}
 use Rattle.ncc_places.specs.Measuring.{Finds, HidesPlaces}
 use Rattle.ncc_places.specs.declared.measuring.Measured.{Measured}

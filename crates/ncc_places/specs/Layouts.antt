@@ -6,9 +6,9 @@ use Rattle.ncc_layout.specs.Sizes.{Fit}
 use Rattle.ncc_check.specs.declared.fault.FileFault.{FileFault}
 use Rattle.ncc_check.specs.Faults.{Fails}
 use Rattle.ncc_lines.specs.Verdicts.{file_fault_line}
-use Rattle.ncc_engines.specs.declared.answer.Answer.{Answer}
-use Rattle.ncc_engines.specs.declared.answer.Answer.TheVariants.{Passed, Refused, Device, Memory}
-use Rattle.ncc_engines.specs.Answers.{Writes}
+use Rattle.ncc_answers.specs.declared.answer.Answer.{Answer}
+use Rattle.ncc_answers.specs.declared.answer.Answer.TheVariants.{Passed, Refused, Device, Memory}
+use Rattle.ncc_answers.specs.Answers.{Writes}
 use Rattle.ncc_places.specs.Measuring.{HidesPlaces}
 use Rattle.json.specs.Print.{print}
 use Rattle.ncc_json.specs.declared.wording.Wording.{Wording}

@@ -5,13 +5,13 @@ ghost use Rattle.ncc_schema.specs.Device.{Puts};
 ghost use Rattle.ncc_store.specs.Reading.{ReadsOnly};
 ghost use Rattle.ncc_check.specs.FromStore.{ReadsFew, calls_for};
 ghost use Rattle.ncc_lines.specs.Sends.{Blames, SendsAll};
-ghost use Rattle.ncc_engines.specs.Answers.{Fails};
+ghost use Rattle.ncc_answers.specs.Answers.{Fails};
 ghost use Rattle.ncc_places.specs.Layouts.{LaysOut, fault_told};
 
 use crate::measuring::measure;
 use crate::telling::{fault_object, layout_told};
+use ncc_answers::{Answer, answered};
 use ncc_check::{FileFault, Refusal, laws};
-use ncc_engines::{Answer, answered};
 use ncc_header::laws::header_or_stop;
 use ncc_header::{Sink, write_all};
 use ncc_json::Wording;

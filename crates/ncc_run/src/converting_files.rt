@@ -1,13 +1,13 @@
 //! Converting a file into a new one.
 
-use crate::finishing::{Ended, flushed};
 use crate::limited::converted;
-use ncc_commands::Converting;
-use ncc_disk::{NewFile, Reason, Trouble, folder_of, open_store, reason_in};
+use ncc_disk::{NewFile, Reason, Trouble, folder_of, open_to_read, reason_in};
 use ncc_engines::Answer;
 use ncc_header::WriteSink;
 use ncc_lines::Progress;
+use ncc_status::{Ended, flushed};
 use ncc_store::AheadStore;
+use ncc_tasks::Converting;
 use std::fs::File;
 use std::io::{BufWriter, Write};
 use std::rt::{Clock, Files};
@@ -24,7 +24,7 @@ pub fn convert<'a, R: Files<File = File> + AllocGlobal, O: Write, P: Progress>(
         name: from,
         reason: Reason::Other,
     };
-    let store = match open_store(rt, from, false) {
+    let store = match open_to_read(rt, from) {
         Ok(store) => store,
         Err(reason) => {
             trouble.reason = reason;

@@ -5,12 +5,12 @@ ghost use Rattle.ncc_store.specs.DiskFile.{is_writable};
 ghost use Rattle.ncc_store.specs.File.{file_failures, file_of};
 ghost use Rattle.ncc_values.specs.Failures.{last_count};
 
-use crate::finishing::finish;
 use crate::progress::ProgressLine;
 use ncc_batch::Shelf;
-use ncc_disk::{Reason, Trouble, open_store, reason_in, tell_trouble};
+use ncc_disk::{Reason, Trouble, open_to_read, reason_in, tell_trouble};
 use ncc_engines::Answer;
 use ncc_lines::Progress;
+use ncc_status::finish;
 use ncc_store::FileStore;
 use ncc_values::count_failure;
 use std::fs::File;
@@ -79,7 +79,7 @@ impl<'a, R: Files<File = File> + Clock, E: Write> Folder<'a, R, E> {
         if self.cut == Some(number) {
             return Err(Reason::CutName);
         }
-        open_store(self.files, path, false)
+        open_to_read(self.files, path)
     }
 }
 

@@ -2,14 +2,14 @@
 
 ghost use Rattle.std.specs.Prelude.{◌≤◌};
 
-use crate::finishing::{all_told, end};
 use crate::limited::listed_object;
-use ncc_batch::{FileNames, Work, status};
+use ncc_answers::{FileNames, Work, status};
 use ncc_disk::{Reason, Trouble, Watched, tell_trouble};
 use ncc_engines::Answer;
 use ncc_header::{ReadSource, WriteSink};
 use ncc_json::Wording;
 use ncc_lines::FloatStyle;
+use ncc_status::{all_told, end};
 use std::alloc::Global;
 use std::io::{BufReader, BufWriter, Read, Write};
 

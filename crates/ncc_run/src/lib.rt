@@ -2,7 +2,6 @@
 #![tactic(auto)]
 
 mod converting_files;
-mod finishing;
 mod folder;
 mod input;
 mod limited;
@@ -10,8 +9,7 @@ mod many;
 mod progress;
 mod runs;
 mod single;
-mod word_faults;
 
-pub use finishing::finish;
+pub use ncc_status::finish;
 pub use progress::Terminals;
 pub use runs::run;

@@ -21,24 +21,24 @@ ghost use Rattle.ncc_layout.specs.declared.placed_file.Placed.{Placed};
 ghost use Rattle.ncc_schema.specs.declared.schema.Schema.{Schema};
 ghost use Rattle.ncc_engines.specs.Planning.{IsConvertible};
 ghost use Rattle.ncc_making.specs.Making.{IsConverted, FailsAny};
-ghost use Rattle.ncc_making.specs.Names.{Rests};
-ghost use Rattle.ncc_engines.specs.Answers.{Blames, ChecksBy, Fails};
+ghost use Rattle.ncc_target.specs.Names.{Rests};
+ghost use Rattle.ncc_answers.specs.Answers.{Blames, ChecksBy, Fails};
 ghost use Rattle.ncc_making.specs.Conversions.{ChecksAndCopies, IsRefused, Lasts, Leaves, Names, Prints, Stops};
 ghost use Rattle.ncc_engines.specs.Extending.{ExtendsByFew, ExtendsInto, IsFilled, IsFrontOfRefusal, LeavesAtStop, LeavesBytes, Settles};
 ghost use Rattle.ncc_engines.specs.Listing.{IsFaultOf, Lists};
 ghost use Rattle.ncc_engines.specs.Selecting.{IsCsvText, SelectsByFew, SelectsInto};
 ghost use Rattle.ncc_json.specs.declared.wording.Wording.{Wording};
 ghost use Rattle.ncc_batch.specs.Answered.{SendsOne, TextFails};
-ghost use Rattle.ncc_batch.specs.declared.form.Form.{Form};
-ghost use Rattle.ncc_batch.specs.declared.work.Work.{Work};
+ghost use Rattle.ncc_answers.specs.declared.form.Form.{Form};
+ghost use Rattle.ncc_answers.specs.declared.work.Work.{Work};
 
 use ncc_batch::list_source;
-use ncc_commands::{Converting, Extending, LIMIT, Selecting};
 use ncc_engines::{Answer, csv_engine, extend_engine, list_engine};
 use ncc_header::{Failed, Sink, Source};
 use ncc_lines::{FloatStyle, Progress};
 use ncc_making::{Target, convert_store};
 use ncc_store::{FileStore, Store, SystemFile};
+use ncc_tasks::{Converting, Extending, LIMIT, Selecting};
 use std::alloc::Global;
 
 /// Lists a source onto a sink, with the program's limit.

@@ -1,14 +1,15 @@
 //! One file, or several in one call.
 
-use crate::finishing::all_told;
 use crate::folder::{Folder, Telling};
 use crate::progress::{ProgressLine, Shown};
 use clap::ArgMatches;
-use ncc_batch::{FileNames, Form, Work, answer_all, names_in};
-use ncc_commands::Words;
+use ncc_answers::{FileNames, Form, Work, names_in};
+use ncc_batch::answer_all;
 use ncc_disk::{Trouble, open_file, reason_of};
 use ncc_engines::Answer;
 use ncc_header::WriteSink;
+use ncc_status::all_told;
+use ncc_tasks::Words;
 use ncc_values::Seq;
 use std::alloc::{AllocError, AllocFailed, Global};
 use std::fs::File;

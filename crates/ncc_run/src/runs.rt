@@ -3,18 +3,18 @@
 ghost use Rattle.std.specs.Prelude.{◌≤◌};
 
 use crate::converting_files::convert;
-use crate::finishing::{Ended, USAGE, end, explain, finish, shown};
 use crate::input::{input_style, list_input};
 use crate::many::{NoNames, answer_many, names_given};
 use crate::progress::{ProgressLine, Shown, Terminals};
 use crate::single::{check, extend, list, select};
-use crate::word_faults::refuse_words;
 use clap::ArgMatches;
-use ncc_batch::{FileNames, Form, Work, status};
-use ncc_commands::{FAULTS, Selecting, Task, Words, asks_for_faults, command, task_given};
+use ncc_answers::{FileNames, Form, Work, status};
+use ncc_commands::{FAULTS, asks_for_faults, command};
 use ncc_disk::{Reason, Trouble, Watched};
 use ncc_engines::Answer;
 use ncc_lines::Progress;
+use ncc_status::{Ended, USAGE, end, explain, finish, refuse_words, shown};
+use ncc_tasks::{Selecting, Task, Words, task_given};
 use std::fs::File;
 use std::io::{Read, Write};
 use std::rt::{Clock, Files};

@@ -1,14 +1,15 @@
 //! The commands over one file of the system.
 
-use crate::finishing::{Ended, flushed};
 use crate::limited::{extended_file, listed, selected};
-use ncc_batch::{Work, write_text};
-use ncc_commands::{Extending, Selecting};
-use ncc_disk::{Reason, Trouble, Watched, open_file, open_store, reason_in};
+use ncc_answers::Work;
+use ncc_batch::write_text;
+use ncc_disk::{Reason, Trouble, Watched, open_file, open_to_extend, open_to_read, reason_in};
 use ncc_engines::Answer;
 use ncc_header::{ReadSource, WriteSink};
 use ncc_lines::{FloatStyle, Progress};
+use ncc_status::{Ended, flushed};
 use ncc_store::AheadStore;
+use ncc_tasks::{Extending, Selecting};
 use std::alloc::Global;
 use std::fs::File;
 use std::io::{BufReader, BufWriter, Read, Write};
@@ -80,7 +81,7 @@ pub fn check<'a, R: Files<File = File> + AllocGlobal, O: Write>(
     work: Work,
     out: &mut O,
 ) -> Ended<'a> {
-    let mut store = match open_store(rt, name, false) {
+    let mut store = match open_to_read(rt, name) {
         Ok(store) => store,
         Err(reason) => return ended(name, Answer::Device, reason),
     };
@@ -101,7 +102,7 @@ pub fn select<'a, R: Files<File = File> + AllocGlobal, O: Write, P: Progress>(
     progress: &mut P,
 ) -> Ended<'a> {
     let name = selecting.file;
-    let store = match open_store(rt, name, false) {
+    let store = match open_to_read(rt, name) {
         Ok(store) => store,
         Err(reason) => return ended(name, Answer::Device, reason),
     };
@@ -128,7 +129,7 @@ pub fn extend<'a, R: Files<File = File> + AllocGlobal, O: Write>(
     out: &mut O,
 ) -> Ended<'a> {
     let name = extending.file;
-    let store = match open_store(rt, name, extending.more > 0) {
+    let store = match open_to_extend(rt, name, extending.more) {
         Ok(store) => store,
         Err(reason) => return ended(name, Answer::Device, reason),
     };

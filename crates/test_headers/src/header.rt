@@ -1,16 +1,6 @@
-//! Headers: the answer to each piece, marks, places and names, sources that fail, headers that are cut
-//! or changed, what is written, and decoding where memory is refused.
+//! Headers: sources that fail, decoding where memory is refused, the text of a fault, and the laws.
 
-mod answers;
-mod cuts;
-mod encoding;
-mod feeding;
-pub mod helpers;
+mod helpers;
 mod laws;
-mod lengths;
-mod limits;
 mod memory;
-mod names;
-mod pieces;
-pub mod plain;
 mod sources;

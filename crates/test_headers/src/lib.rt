@@ -1,11 +1,7 @@
-//! Tests of values, of headers, and of files by their words, with what is said of them.
+//! Tests of headers and of files: sources and stores that fail, how often they are called, and memory that is refused.
 #![tactic(auto)]
 
 #[cfg(test)]
 mod check;
 #[cfg(test)]
 mod header;
-#[cfg(test)]
-mod layout;
-#[cfg(test)]
-mod values;

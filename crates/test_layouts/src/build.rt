@@ -2,9 +2,7 @@
 
 mod helpers;
 mod items;
-mod many;
 mod memory;
 mod names;
 mod plans;
-mod rebuilt;
 mod steps;

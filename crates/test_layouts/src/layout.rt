@@ -1,10 +1,6 @@
-//! Layouts of schemas that stand in memory.
+//! Layouts of schemas that stand in memory: many variables, memory that is refused, and the laws.
 
-mod counts;
 mod laws;
 mod many;
 mod memory;
-mod packing;
-mod plans;
 mod schemas;
-mod sizes;

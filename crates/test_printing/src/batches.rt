@@ -3,7 +3,8 @@
 ghost use Rattle.std.specs.Prelude.{◌≤◌, ◌==◌, ◌≡◌, true, length, Some, None, IfOk, if◌then◌else◌};
 ghost use Rattle.ncc_values.specs.Failures.{last_count};
 
-use ncc_batch::{Form, Shelf, Work, answer_all, names_in};
+use ncc_answers::{Form, Work, names_in};
+use ncc_batch::{Shelf, answer_all};
 use ncc_engines::Answer;
 use ncc_header::{FuseSink, Seq, WriteSink};
 use ncc_json::Wording;

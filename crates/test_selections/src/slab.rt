@@ -1,17 +1,8 @@
-//! Selections of files that are given by their bytes: values that were worked by hand, parts, calls of the
-//! store, stores that fail, whole slabs, and a sweep over selections of all kinds.
+//! Selections of files that are given by their bytes: parts, calls of the store, stores that fail, and memory that is
+//! refused.
 
 mod failing;
 mod files;
 mod helpers;
-mod many;
 mod memory;
 mod parts;
-mod plans;
-mod readers;
-mod records;
-mod rows;
-mod slabs;
-mod sweep;
-mod types;
-mod wanted;

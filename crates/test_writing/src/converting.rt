@@ -1,7 +1,6 @@
-//! Files in another version: sinks that fail, and what a version can't tell.
+//! Files in another version: sinks that fail, and memory that is refused.
 
 mod memory;
-mod plans;
 
 use ncc_check::open;
 use ncc_convert::convert;

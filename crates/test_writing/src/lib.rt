@@ -8,17 +8,11 @@ mod appending;
 #[cfg(test)]
 mod converting;
 #[cfg(test)]
-mod expecting;
-#[cfg(test)]
-mod extending;
-#[cfg(test)]
 mod failing;
 #[cfg(test)]
 mod failing_once;
 #[cfg(test)]
 mod filled_pages;
-#[cfg(test)]
-mod fills;
 #[cfg(test)]
 mod full;
 #[cfg(test)]
@@ -28,8 +22,6 @@ mod laws;
 #[cfg(test)]
 mod memory;
 #[cfg(test)]
-mod mixed_files;
-#[cfg(test)]
 mod mixes;
 #[cfg(test)]
 mod open_files;
@@ -37,10 +29,6 @@ mod open_files;
 mod pages;
 #[cfg(test)]
 mod plans;
-#[cfg(test)]
-mod reading;
-#[cfg(test)]
-mod reading_on;
 #[cfg(test)]
 mod round_trips;
 #[cfg(test)]

@@ -48,7 +48,7 @@ fn header_with(alloc: Global, vars: Seq<Var>, places: Seq<VarPlace>) -> Header {
 }
 
 /// The number of records in a file of this length with this header, or the fault.
-pub fn judged(alloc: Global, header: &Header, length: u64) -> Result<u64, PlaceError> {
+fn judged(alloc: Global, header: &Header, length: u64) -> Result<u64, PlaceError> {
     if !legal(&header.schema, header.places.as_slice()) {
         return Err(PlaceError::Memory);
     }

@@ -2,10 +2,9 @@
 //! refuses one allocation after another.
 
 use super::many::said_of_scalars;
-use super::plans::last_place;
 use super::schemas::one;
-use ncc_layout::{PlaceError, PlanFault};
-use ncc_schema::VarPlace;
+use ncc_layout::{PlaceError, PlanFault, standard};
+use ncc_schema::{Count, Schema, VarPlace, sound};
 use ncc_values::{Version, XType};
 use std::alloc::Global;
 use std::test::*;
@@ -16,6 +15,18 @@ fn places_without_memory(rt: HostRuntime) {
         Ok(records) => assert!(rt; records == 0),
         Err(error) => assert!(rt; error == PlaceError::Memory),
     }
+}
+
+/// The place of the last variable.
+fn last_place(alloc: Global, schema: &Schema) -> Result<VarPlace, PlanFault> {
+    let Count::Known(_) = schema.count else {
+        return Err(PlanFault::Memory);
+    };
+    if !sound(schema) {
+        return Err(PlanFault::Memory);
+    }
+    let places = standard(alloc, schema)?;
+    places.last().copied().ok_or(PlanFault::Memory)
 }
 
 fn last_begin(alloc: Global) -> Result<VarPlace, PlanFault> {

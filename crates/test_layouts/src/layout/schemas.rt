@@ -1,4 +1,4 @@
-//! Schemas of a few variables, whose names all have one letter.
+//! Schemas of one variable, whose names all have one letter.
 
 use ncc_schema::{Count, Dim, Schema, Var};
 use ncc_values::{Name, Seq, Version, XType};
@@ -8,7 +8,7 @@ fn letter(alloc: Global) -> Result<Name, AllocError> {
     Name::from_slice(alloc, b"v")
 }
 
-pub fn var(alloc: Global, ids: &[usize], xtype: XType) -> Result<Var, AllocError> {
+fn var(alloc: Global, ids: &[usize], xtype: XType) -> Result<Var, AllocError> {
     Ok(Var {
         name: letter(alloc)?,
         dims: Seq::from_vec(ids.to_vec(alloc)?),
@@ -18,7 +18,7 @@ pub fn var(alloc: Global, ids: &[usize], xtype: XType) -> Result<Var, AllocError
 }
 
 /// These variables over dimensions of these lengths.
-pub fn schema(
+fn schema(
     alloc: Global,
     version: Version,
     lengths: &[u64],
@@ -54,39 +54,4 @@ pub fn one(
     let mut vars = Vec::new(alloc);
     vars.push(var(alloc, &ids, xtype)?)?;
     schema(alloc, version, lengths, vars)
-}
-
-/// The variables a(x) and b(x).
-pub fn two(
-    alloc: Global,
-    version: Version,
-    length: u64,
-    xtype: XType,
-) -> Result<Schema, AllocError> {
-    let mut vars = Vec::new(alloc);
-    vars.push(var(alloc, &[0], xtype)?)?;
-    vars.push(var(alloc, &[0], xtype)?)?;
-    schema(alloc, version, &[length], vars)
-}
-
-/// The variables byte a(t, x) and b(t, y), with t the record dimension.
-pub fn two_records(
-    alloc: Global,
-    version: Version,
-    first: u64,
-    second: u64,
-) -> Result<Schema, AllocError> {
-    let mut vars = Vec::new(alloc);
-    vars.push(var(alloc, &[0, 1], XType::Byte)?)?;
-    vars.push(var(alloc, &[0, 2], XType::Byte)?)?;
-    schema(alloc, version, &[0, first, second], vars)
-}
-
-/// The variables byte f(x), a(t, x) and b(t), with t the record dimension.
-pub fn records(alloc: Global, version: Version, length: u64) -> Result<Schema, AllocError> {
-    let mut vars = Vec::new(alloc);
-    vars.push(var(alloc, &[1], XType::Byte)?)?;
-    vars.push(var(alloc, &[0, 1], XType::Byte)?)?;
-    vars.push(var(alloc, &[0], XType::Byte)?)?;
-    schema(alloc, version, &[0, length], vars)
 }

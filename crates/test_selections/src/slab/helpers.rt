@@ -53,17 +53,6 @@ pub fn parts_of(alloc: Global, file: &File, slab: &Slab) -> Result<SlabParts, Sl
     SlabParts::new(alloc, file.placed(), 0, slab)
 }
 
-/// Whether these are the values of a selection of the first variable that are read at once.
-pub fn reads<S: Store>(
-    alloc: Global,
-    file: &mut NcFile<S>,
-    slab: &Slab,
-    these: &Values,
-) -> Result<bool, SlabFault> {
-    let values = read_slab(alloc, file, 0, slab)?;
-    Ok(values == *these)
-}
-
 /// Adds the next part. The values are of the type of the parts, and the file is no shorter than theirs.
 pub fn add_next<S: Store>(
     parts: &mut SlabParts,

@@ -1,16 +1,24 @@
 //! Selections where memory may be refused. scripts/refuse_test_memory.sh refuses one allocation after another.
 
-use super::files::open_file;
+use super::files::{File, open_file};
 use super::helpers::{read_next, slab};
-use super::rows::TABLE;
-use super::wanted::Wanted::Ints;
-use super::wanted::are;
 use ncc_check::NcFile;
 use ncc_slab::{Slab, SlabFault, SlabReader, read_slab, slab_of};
 use ncc_store::MemStore;
 use ncc_values::{Few, Values};
 use std::alloc::{AllocError, Global};
 use std::test::*;
+
+/// The variable int m(y, x) of lengths 2 and 3, with the values 1 to 6.
+const TABLE: File = File {
+    records: 0,
+    lengths: &[2, 3],
+    vars: &[(&[0, 1], 4, 0)],
+    data: &[
+        0, 0, 0, 1, 0, 0, 0, 2, 0, 0, 0, 3, 0, 0, 0, 4, 0, 0, 0, 5, 0, 0, 0, 6,
+    ],
+    places: 0,
+};
 
 /// What is done with the last row of int m(y, x), of the values 4, 5 and 6.
 #[derive(Clone, Copy)]
@@ -22,7 +30,10 @@ enum Case {
 }
 
 fn is_last(values: &Values) -> bool {
-    are(values, Ints(&[4, 5, 6]))
+    match values {
+        Values::Ints(items) => items.as_slice() == [4, 5, 6].as_slice(),
+        _ => false,
+    }
 }
 
 /// Whether the row is read, or memory was refused.

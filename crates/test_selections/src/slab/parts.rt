@@ -8,7 +8,7 @@ use ncc_values::Values;
 use std::alloc::Global;
 use std::test::*;
 
-pub const DOUBLES: File = File {
+const DOUBLES: File = File {
     records: 0,
     lengths: &[10_000],
     vars: &[(&[0], 6, 0)],
@@ -24,7 +24,7 @@ const INTS: File = File {
     places: 400_000,
 };
 
-pub const HUNDRED: File = File {
+const HUNDRED: File = File {
     records: 0,
     lengths: &[100],
     vars: &[(&[0], 4, 0)],

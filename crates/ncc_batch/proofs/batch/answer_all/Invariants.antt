@@ -1,7 +1,7 @@
 use Rattle.std.proofs.Common.{◌≡◌, ◌≤◌, take, drop}
 use Rattle.std.specs.Prelude.{IsTrue}
 use Rattle.ncc_values.specs.Failures.{Rose}
-use Rattle.ncc_engines.specs.declared.answer.Answer.TheVariants.{Device}
+use Rattle.ncc_answers.specs.declared.answer.Answer.TheVariants.{Device}
 use Rattle.ncc_batch.proofs.Batches.{Answered, IsFine}
 use Rattle.ncc_batch.proofs.batch.answer_all.Given as goal
 

@@ -1,9 +1,9 @@
 use Rattle.std.proofs.Common.{Err, List, ℕ, subst}
 use Rattle.ncc_json.specs.declared.wording.Wording.TheVariants.{Members}
 use Rattle.ncc_schema.specs.Device.{WritesAll}
-use Rattle.ncc_batch.specs.Shown.{shown}
-use Rattle.ncc_batch.specs.declared.form.Form.TheVariants.{Object}
-use Rattle.ncc_batch.specs.declared.work.Work.TheVariants as works
+use Rattle.ncc_answers.specs.Shown.{shown}
+use Rattle.ncc_answers.specs.declared.form.Form.TheVariants.{Object}
+use Rattle.ncc_answers.specs.declared.work.Work.TheVariants as works
 use Rattle.ncc_batch.proofs.Sources.{fails_source}
 use Rattle.ncc_batch.proofs.source.list_source.Goals as goal
 

@@ -1,7 +1,7 @@
 use Rattle.std.proofs.Common.{subst}
 use Rattle.ncc_json.specs.declared.wording.Wording.{Wording}
 use Rattle.ncc_batch.specs.Answered.{IsFaultIn}
-use Rattle.ncc_batch.specs.declared.work.Work.TheVariants as works
+use Rattle.ncc_answers.specs.declared.work.Work.TheVariants as works
 use Rattle.ncc_batch.proofs.texts.write_list.Goals as goal
 
 pub returns-in-Words-clause-memory : goal.returns-in-Words-clause-memory

@@ -2,7 +2,7 @@ use Rattle.std.proofs.Common.{sym, subst}
 use Rattle.ncc_check.specs.FromStore.{ReadsFew}
 use Rattle.ncc_explain.specs.Explaining.{HasHeaderFault}
 use Rattle.ncc_batch.specs.Answered.{IsFaultIn, limit_of}
-use Rattle.ncc_batch.specs.declared.work.Work.{Work}
+use Rattle.ncc_answers.specs.declared.work.Work.{Work}
 use Rattle.ncc_batch.proofs.texts.write_text.Goals as goal
 
 pub returns-in-Check-clause-memory : goal.returns-in-Check-clause-memory

@@ -16,9 +16,9 @@ use Rattle.ncc_write.specs.Additions.{HoldsAll}
 use Rattle.ncc_write.specs.Extends.{Contains, ExtendsAs, HoldsSome, LeavesFills, filled_bytes, with_fills}
 use Rattle.ncc_schema.specs.Schema.{places_of}
 use Rattle.ncc_write.proofs.MoreFills.{at_start, from_what_was}
-use Rattle.ncc_engines.specs.declared.answer.Answer.{Answer}
+use Rattle.ncc_answers.specs.declared.answer.Answer.{Answer}
 use Rattle.ncc_engines.proofs.Extended.{Told, fault_went, filled_up, is_full, nothing_added, some_filled, refused_for, none_more, takes_none, takes_none_too, whole_filled, passed_ok, went, nothing_put, refused_or_filled, fault_front}
-use Rattle.ncc_engines.proofs.Checked.{checked_by}
+use Rattle.ncc_answers.proofs.Checked.{checked_by}
 use Rattle.ncc_engines.proofs.extending.extend_engine.Goals as goal
 
 pub returns-in-Ok-clause-extends : goal.returns-in-Ok-clause-extends

@@ -3,9 +3,9 @@ use Rattle.ncc_check.specs.declared.append_error.AppendError.TheVariants as erro
 use Rattle.ncc_lines.specs.Refusals.{append_line}
 use Rattle.ncc_schema.specs.declared.schema.Count.TheVariants.{Known}
 use Rattle.ncc_lines.specs.Texts.{records_line}
-use Rattle.ncc_engines.specs.Answers.{answer_of}
-use Rattle.ncc_engines.specs.declared.answer.Answer.{Answer}
-use Rattle.ncc_engines.specs.declared.answer.Answer.TheVariants.{Passed, Refused}
+use Rattle.ncc_answers.specs.Answers.{answer_of}
+use Rattle.ncc_answers.specs.declared.answer.Answer.{Answer}
+use Rattle.ncc_answers.specs.declared.answer.Answer.TheVariants.{Passed, Refused}
 use Rattle.ncc_engines.proofs.Extended.{Told, told_sent}
 use Rattle.ncc_engines.proofs.extending.tell.Goals as goal
 

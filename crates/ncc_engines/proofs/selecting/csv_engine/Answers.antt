@@ -7,9 +7,9 @@ use Rattle.ncc_check.specs.Files.{store_of, schema_of, placed_of}
 use Rattle.ncc_check.specs.Passes.{PassesWith}
 use Rattle.ncc_csv.specs.Named.{IsFirstNamed}
 use Rattle.ncc_engines.specs.Selecting.{Contents, contents_in, contents_of, refusal, value_calls, IsCsvText, IsSelection}
-use Rattle.ncc_engines.specs.declared.answer.Answer.TheVariants.{Refused}
-use Rattle.ncc_engines.proofs.Checked.{checked_by}
-use Rattle.ncc_engines.proofs.Sent.{Gone}
+use Rattle.ncc_answers.specs.declared.answer.Answer.TheVariants.{Refused}
+use Rattle.ncc_answers.proofs.Checked.{checked_by}
+use Rattle.ncc_answers.proofs.Sent.{Gone}
 use Rattle.ncc_engines.proofs.SentTable.{Laws, OneAnswer, opened_contents, refused_in, sent_opened, sent_fault}
 use Rattle.ncc_engines.proofs.selecting.csv_engine.Goals as goal
 

@@ -17,7 +17,7 @@ use Rattle.ncc_csv.specs.Picks.{picked, PicksAs}
 use Rattle.ncc_csv.specs.Sheets.{SendsSheet, sheet_text}
 use Rattle.ncc_engines.specs.Selecting.{contents_in, refusal, value_calls, IsSelection}
 use Rattle.ncc_engines.proofs.Picked.{pick_refused}
-use Rattle.ncc_engines.proofs.Sent.{nothing}
+use Rattle.ncc_answers.proofs.Sent.{nothing}
 use Rattle.ncc_engines.proofs.SentTable.{fault_of, not_memory, one_number, sent_refusal, sent_sheet}
 use Rattle.ncc_engines.proofs.selecting.select.Goals as goal
 

@@ -2,9 +2,9 @@ use Rattle.std.proofs.Common.{◌≡◌, Result, Ok, Err, sym, subst, ◌∙◌}
 use Rattle.ncc_lines.specs.declared.halt.Halt.{Halt}
 use Rattle.ncc_lines.specs.declared.halt.Halt.TheVariants as halts
 use Rattle.ncc_lines.specs.Sends.{SendsAll}
-use Rattle.ncc_engines.specs.declared.answer.Answer.{Answer}
-use Rattle.ncc_engines.specs.declared.answer.Answer.TheVariants.{Passed}
-use Rattle.ncc_engines.specs.Answers.{answer_of}
+use Rattle.ncc_answers.specs.declared.answer.Answer.{Answer}
+use Rattle.ncc_answers.specs.declared.answer.Answer.TheVariants.{Passed}
+use Rattle.ncc_answers.specs.Answers.{answer_of}
 use Rattle.ncc_explain.proofs.Told.{Gone, gone, passes}
 use Rattle.ncc_explain.proofs.explaining.explain_engine.Goals as goal
 

@@ -2,11 +2,11 @@ use Rattle.std.proofs.Common.{◌≡◌, sym, ap, ◌∙◌, ℕ, List, Option, 
 use denote.Enum.Bare.{sameb, same_true}
 use Rattle.ncc_build.specs.Builds.{schema_of as planned_schema}
 use Rattle.ncc_check.specs.Files.{store_of, placed_of}
-use Rattle.ncc_engines.specs.contracts.answer.Answer.{the_type}
-use Rattle.ncc_engines.specs.declared.answer.Answer.TheVariants.{Passed}
+use Rattle.ncc_answers.specs.contracts.answer.Answer.{the_type}
+use Rattle.ncc_answers.specs.declared.answer.Answer.TheVariants.{Passed}
 use Rattle.ncc_making.specs.Making.{IsFileOf}
 use Rattle.ncc_making.proofs.Made.{whole}
-use Rattle.ncc_making.proofs.Naming.{named_later, unnamed_by}
+use Rattle.ncc_target.proofs.Naming.{named_later, unnamed_by}
 use Rattle.ncc_making.proofs.converting.convert_into.Goals as goal
 
 pub returns-in-Ok-close-clause-made : goal.returns-in-Ok-close-clause-made

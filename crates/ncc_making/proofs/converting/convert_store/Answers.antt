@@ -7,10 +7,10 @@ use Rattle.ncc_check.specs.declared.fault.Refusal.TheVariants as refusals
 use Rattle.ncc_convert.specs.Lines.{plan_line}
 use Rattle.ncc_lines.specs.Verdicts.{file_fault_line}
 use Rattle.ncc_making.specs.Making.{in_version, IsFileOf, IsConverted}
-use Rattle.ncc_engines.proofs.Checked.{checked_by}
+use Rattle.ncc_answers.proofs.Checked.{checked_by}
 use Rattle.ncc_making.proofs.Against.{against_opened}
 use Rattle.ncc_making.proofs.Made.{converted_is}
-use Rattle.ncc_making.proofs.Naming.{none_or_whole, none_or_whole_else, unnamed_as}
+use Rattle.ncc_target.proofs.Naming.{none_or_whole, none_or_whole_else, unnamed_as}
 use Rattle.ncc_making.proofs.converting.convert_store.Goals as goal
 
 -- a refusal is of one of three kinds

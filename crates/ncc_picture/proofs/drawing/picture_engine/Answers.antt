@@ -3,8 +3,8 @@ use Rattle.std.specs.Prelude.{Err}
 use Rattle.ncc_check.specs.declared.fault.Refusal.{Refusal}
 use Rattle.ncc_lines.specs.Sends.{SendsAll}
 use Rattle.ncc_lines.specs.Verdicts.{file_fault_line}
-use Rattle.ncc_engines.specs.declared.answer.Answer.TheVariants.{Passed, Refused}
-use Rattle.ncc_engines.proofs.Sent.{Gone, sent}
+use Rattle.ncc_answers.specs.declared.answer.Answer.TheVariants.{Passed, Refused}
+use Rattle.ncc_answers.proofs.Sent.{Gone, sent}
 use Rattle.ncc_places.specs.Measuring.{Measures}
 use Rattle.ncc_places.proofs.OneLayout.{Laws, laid, faulty, one_text}
 use Rattle.ncc_picture.specs.Pictures.{IsPictureText, picture_text}

@@ -2,8 +2,8 @@ use Rattle.std.proofs.Common.{sym, subst}
 use Rattle.std.specs.Prelude.{Err}
 use Rattle.ncc_check.specs.declared.fault.Refusal.{Refusal}
 use Rattle.ncc_lines.specs.Sends.{SendsAll}
-use Rattle.ncc_engines.specs.declared.answer.Answer.TheVariants.{Passed, Refused}
-use Rattle.ncc_engines.proofs.Sent.{Gone, sent}
+use Rattle.ncc_answers.specs.declared.answer.Answer.TheVariants.{Passed, Refused}
+use Rattle.ncc_answers.proofs.Sent.{Gone, sent}
 use Rattle.ncc_places.specs.Layouts.{IsLayoutText, fault_told, layout_told}
 use Rattle.ncc_places.specs.Measuring.{Measures}
 use Rattle.ncc_places.proofs.OneLayout.{Laws, laid, faulty, one_text}

@@ -1,0 +1,4 @@
+pub mod Answers
+pub mod Judged
+pub mod Shown
+pub mod Names

@@ -1,6 +1,0 @@
-use Rattle.std.proofs.Common.{◌≡◌, drop}
-use Rattle.ncc_commands.specs.Words.{bytes_among}
-use Rattle.ncc_commands.proofs.words.Words.bytes_of.Given as goal
-
-abbrev pub invariant-loop-alias : goal.invariant-loop-alias
-invariant-loop-alias l = bytes_among (drop l.alias-index l.alias-items) l.text ≡ bytes_among l.alias-items l.text

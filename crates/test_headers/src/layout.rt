@@ -1,4 +1,0 @@
-//! Files by their words, and the layout that they have.
-
-mod helpers;
-mod rows;
