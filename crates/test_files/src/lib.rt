@@ -93,14 +93,6 @@ pub const SCALAR_AND_RECORDS: [u32; 37] = [
     0x61000000, 1, 0, 0, 0, 1, 4, 149, 1, 0x62000000, 1, 0, 0, 0, 3, 4, 151,
 ];
 
-/// The variables byte a(t) and short b(t) without records and the scalar bytes s and u, with their
-/// begins at words 19, 28, 36 and 44, at offsets 76, 112, 144 and 176.
-pub const TWO_OF_EACH_KIND: [u32; 45] = [
-    0x43444601, 0, 0x0a, 1, 1, 0x74000000, 0, 0, 0, 0x0b, 4, 1, 0x61000000, 1, 0, 0, 0, 1, 4, 184,
-    1, 0x62000000, 1, 0, 0, 0, 3, 4, 186, 1, 0x73000000, 0, 0, 0, 1, 4, 180, 1, 0x75000000, 0, 0,
-    0, 1, 4, 181,
-];
-
 /// The bytes of words.
 pub fn bytes_of(alloc: Global, words: &[u32]) -> Result<Vec<u8>, AllocError>
     ensures { IfOk result (λ bytes. vec_len bytes ≡ 4 * length words.now) }

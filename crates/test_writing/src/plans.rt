@@ -29,14 +29,6 @@ pub const SHORTS: Plan = Plan {
     records: 0,
 };
 
-/// The variable byte v(x), with x of length 3.
-pub const BYTES: Plan = Plan {
-    version: Version::V1,
-    dims: &[(b'x', 3)],
-    vars: &[(b'v', XType::Byte, &[0])],
-    records: 0,
-};
-
 /// The shorts in CDF-2, and in CDF-5.
 pub const SHORTS_IN_CDF_2: Plan = Plan {
     version: Version::V2,

@@ -48,16 +48,6 @@ fn take_step(alloc: Global, builder: &mut SchemaBuilder, step: Step) -> Result<u
     }
 }
 
-/// Whether each call passes.
-pub fn take_all(alloc: Global, builder: &mut SchemaBuilder, steps: &[Step]) -> bool {
-    for step in steps {
-        if take_step(alloc, builder, *step).is_err() {
-            return false;
-        }
-    }
-    true
-}
-
 /// Whether each call has its answer.
 fn are_answered(alloc: Global, builder: &mut SchemaBuilder, row: &Row) -> bool {
     for (step, answer) in row.steps {
