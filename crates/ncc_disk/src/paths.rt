@@ -59,6 +59,7 @@ fn open_store<R: Files<File = File>>(rt: &R, name: &[u8], write: bool) -> Result
 
 /// Opens a file that is there as a store that can't be written.
 pub fn open_to_read<R: Files<File = File>>(rt: &R, name: &[u8]) -> Result<FileStore, Reason>
+    ensures ready { IfOk result (λ f. file_ready f ≡ false) }
     ensures reads { IfOk result (λ f. is_writable (file_of f) ≡ false) }
     ensures count { IfOk result (λ f. file_failures f ≡ 0) }
 {
@@ -73,6 +74,7 @@ pub fn open_to_extend<R: Files<File = File>>(
 ) -> Result<FileStore, Reason>
     ensures ready { 0 < more → IfOk result (λ f. file_ready f ≡ true) }
     ensures writable { 0 < more → IfOk result (λ f. is_writable (file_of f) ≡ true) }
+    ensures unready { more ≡ 0 → IfOk result (λ f. file_ready f ≡ false) }
     ensures reads { more ≡ 0 → IfOk result (λ f. is_writable (file_of f) ≡ false) }
     ensures count { IfOk result (λ f. file_failures f ≡ 0) }
 {
