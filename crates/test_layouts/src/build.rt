@@ -2,6 +2,7 @@
 
 mod helpers;
 mod items;
+mod many;
 mod memory;
 mod names;
 mod plans;
