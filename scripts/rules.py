@@ -9,8 +9,9 @@
     CRATE/NAME                             an edit that the prover must refuse
     PATH                                   a file, from the top of the repository
 
-Each edit of a crate must stand in a row. A line tells what is missing. The last line is `N passed, M failed`: of rows, and
-of edits without one."""
+Each edit of a crate must stand in a row. If it stands in rows of faults, notes or refusals, it has the name of one of
+them in its own (`truncated_at_the_headers_length`, of Truncated). A line tells what is missing. The last line is
+`N passed, M failed`: of rows, and of edits without one, or without a name of theirs."""
 import functools
 import re
 import sys
@@ -92,16 +93,33 @@ def look_up_row(cells):
     return items, sum(count for count, _ in found), wrong + [each for _, missing in found for each in missing]
 
 
+def names_of_rule(items):
+    """The faults, notes and refusals that a row has, as words: Truncated as truncated, InHeader as in_header."""
+    found = [re.fullmatch(r"\w+/src/(?:fault|plan_fault|note|append_error)\.rt: ([\w, ]+)", item) for item in items]
+    return {re.sub(r"(?<!^)([A-Z])", r"_\1", name).lower() for each in found if each for name in each[1].split(", ")}
+
+
+def strangers(rows):
+    """The edits in rows of faults, notes or refusals that have the name of none of these."""
+    rules = {}
+    for items in rows:
+        for path in filter(None, map(edit_path, items)):
+            rules.setdefault(path, set()).update(names_of_rule(items))
+    return sorted(path for path, names in rules.items() if names and not any(re.search(rf"(?:^|_){name}(?:_|$)", path.stem) for name in names))
+
+
 def main():
     rows = [(number, *look_up_row(cells)) for number, cells in rows_of(PAGE.read_text())]
     named = {edit_path(item) for _, items, _, _ in rows for item in items}
     edits = sorted(set(TOP.glob("crates/*/must-fail/*.edit")) - named)
+    strange = strangers(items for _, items, _, _ in rows)
     wrong = [f"docs/RULES.md:{number}: {each}" for number, _, _, missing in rows for each in missing]
     wrong += [f"docs/RULES.md: no row for {path.relative_to(TOP)}" for path in edits]
-    failed = sum(bool(missing) for *_, missing in rows) + len(edits)
+    wrong += [f"{path.relative_to(TOP)} isn't named for its rule" for path in strange]
+    failed = sum(bool(missing) for *_, missing in rows) + len(edits) + len(strange)
     print(*wrong, sep="\n", end="\n" if wrong else "")
     print(f"{sum(count for _, _, count, _ in rows)} items, {len(wrong)} missing")
-    print(f"{len(rows) + len(edits) - failed} passed, {failed} failed")
+    print(f"{len(rows) + len(edits) + len(strange) - failed} passed, {failed} failed")
     return 1 if failed or not rows else 0
 
 

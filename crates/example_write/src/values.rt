@@ -1,6 +1,6 @@
 //! Values as the calls take them.
 
-use ncc::{Few, Seq, Values, XType};
+use ncc::{InlineList, Seq, Values, XType};
 use std::alloc::{AllocError, Global};
 
 pub fn text(alloc: Global, bytes: &[u8]) -> Result<Values, AllocError> {
@@ -10,11 +10,11 @@ pub fn text(alloc: Global, bytes: &[u8]) -> Result<Values, AllocError> {
 }
 
 pub fn shorts(alloc: Global, items: &[i16]) -> Result<Values, AllocError> {
-    Ok(Values::Shorts(Few::from_slice(alloc, items)?))
+    Ok(Values::Shorts(InlineList::from_slice(alloc, items)?))
 }
 
 pub fn ints(alloc: Global, items: &[i32]) -> Result<Values, AllocError> {
-    Ok(Values::Ints(Few::from_slice(alloc, items)?))
+    Ok(Values::Ints(InlineList::from_slice(alloc, items)?))
 }
 
 pub fn numbers(alloc: Global, items: &[u64]) -> Result<Seq<u64>, AllocError> {

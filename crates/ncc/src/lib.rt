@@ -18,14 +18,14 @@ pub use ncc_convert::convert;
 pub use ncc_header::{Decoder, Fault, FaultKind, Fed, HeaderError, decode, read_header};
 pub use ncc_layout::{LayoutFault, LayoutFaultKind};
 pub use ncc_schema::{
-    Attr, Count, Dim, Failed, Header, ReadSource, Schema, Sink, Source, Var, VarPlace, WriteSink,
+    Attr, Count, Dim, Header, ReadSource, Schema, Sink, Source, Var, VarPlace, WriteSink,
 };
 pub use ncc_slab::{Slab, SlabFault, SlabParts, SlabReader, read_slab};
 pub use ncc_store::{
     AheadStore, Device, DiskFile, FileStore, MemStore, Store, SystemFile, file_options,
 };
 pub use ncc_values::{
-    Char, F32Bits, F64Bits, Few, Name, Seq, Values, Version, XType, fill_default, name_fits,
+    Char, F32Bits, F64Bits, InlineList, Name, Seq, Values, Version, XType, fill_default, name_fits,
 };
 pub use ncc_write::{
     Built, FileWriter, SchemaBuilder, TripFault, WriteFault, append, extend, fill_record, headline,

@@ -3,8 +3,8 @@ use Rattle.std.specs.Prelude.{◌≡◌, ◌⊎◌, ℕ, ◌+◌, List, ◌++◌
 use Rattle.ncc_values.specs.Failures.{Rose}
 use Rattle.ncc_schema.specs.declared.sink.Sink.{Ghosts}
 use Rattle.ncc_check.specs.FromStore.{SettledBy, calls_for}
-use Rattle.ncc_lines.specs.declared.halt.Halt.{Halt}
-use Rattle.ncc_lines.specs.declared.halt.Halt.TheVariants as halts
+use Rattle.ncc_lines.specs.declared.send_error.SendError.{SendError}
+use Rattle.ncc_lines.specs.declared.send_error.SendError.TheVariants as send_errors
 use Rattle.ncc_answers.specs.declared.answer.Answer.{Answer}
 use Rattle.ncc_answers.specs.declared.answer.Answer.TheVariants.{Passed, Refused, Device, Memory}
 
@@ -24,10 +24,10 @@ Writes IsText Device out = BeginsEach IsText out
 Writes IsText Memory out = BeginsEach IsText out
 
 -- this answer, where the text went out
-abbrev pub answer_of : Result (Unit {0}) Halt → Answer → Answer
+abbrev pub answer_of : Result (Unit {0}) SendError → Answer → Answer
 answer_of (Ok x) answer = answer
-answer_of (Err halts.Device) answer = Device
-answer_of (Err halts.Memory) answer = Memory
+answer_of (Err send_errors.Device) answer = Device
+answer_of (Err send_errors.Memory) answer = Memory
 
 -- which failures an answer tells, of a sink and of a store with these counts: Device only where one of them rose, and
 -- else none changed

@@ -3,7 +3,7 @@
 ghost use Rattle.std.specs.Prelude.{◌≡◌};
 ghost use Rattle.ncc_answers.specs.Answers.{answer_of};
 
-use ncc_lines::Halt;
+use ncc_lines::SendError;
 
 /// What a command came to, once its lines went out, or what kept them from it.
 #[derive(Clone, Copy, Debug, PartialEq, Eq)]
@@ -15,12 +15,12 @@ pub enum Answer {
 }
 
 /// This answer, where the text went out.
-pub fn answered(sent: Result<(), Halt>, answer: Answer) -> Answer
+pub fn answer_of_sent(sent: Result<(), SendError>, answer: Answer) -> Answer
     ensures { result ≡ answer_of sent answer }
 {
     match sent {
         Ok(()) => answer,
-        Err(Halt::Device) => Answer::Device,
-        Err(Halt::Memory) => Answer::Memory,
+        Err(SendError::Device) => Answer::Device,
+        Err(SendError::Memory) => Answer::Memory,
     }
 }

@@ -7,7 +7,7 @@ use crate::answer::Answer;
 use ncc_check::Report;
 
 /// What a report comes to: notes are faults where the check is strict.
-pub fn judged(strict: bool, report: &Report) -> Answer
+pub fn answer_of_report(strict: bool, report: &Report) -> Answer
     ensures { result ≡ verdict strict report.now }
 {
     if strict && !report.notes.is_empty() {

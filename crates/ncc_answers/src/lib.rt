@@ -11,9 +11,9 @@ mod sending;
 mod statuses;
 mod work;
 
-pub use answer::{Answer, answered};
+pub use answer::{Answer, answer_of_sent};
 pub use form::Form;
-pub use judging::judged;
+pub use judging::answer_of_report;
 pub use names::{FileNames, names_in};
 pub use sending::send_shown;
 pub use statuses::{status, worse};

@@ -9,11 +9,11 @@ ghost use Rattle.ncc_answers.specs.Shown.{closing, members_of, object_line, open
 
 use crate::answer::Answer;
 use crate::sending::digit;
-use ncc_header::{Failed, Sink, write_all};
+use ncc_header::{Device, Sink, write_all};
 use ncc_lines::byte_digits;
 
 /// Sends two texts.
-fn send_two<W: Sink>(first: &[u8], second: &[u8], sink: &mut W) -> Result<(), Failed>
+fn send_two<W: Sink>(first: &[u8], second: &[u8], sink: &mut W) -> Result<(), Device>
     ensures bytes { WritesAll (W.put sink.old) (W.put sink.new) result (first.now ++ second.now) }
     ensures count { Counts (W.failures sink.old) (W.failures sink.new) result }
 {
@@ -27,7 +27,7 @@ fn send_three<W: Sink>(
     second: &[u8],
     third: &[u8],
     sink: &mut W,
-) -> Result<(), Failed>
+) -> Result<(), Device>
     ensures bytes { WritesAll (W.put sink.old) (W.put sink.new) result (first.now ++ (second.now ++ third.now)) }
     ensures count { Counts (W.failures sink.old) (W.failures sink.new) result }
 {
@@ -36,7 +36,7 @@ fn send_three<W: Sink>(
 }
 
 /// Sends a byte of a text in quotation marks.
-fn send_character<W: Sink>(byte: u8, sink: &mut W) -> Result<(), Failed>
+fn send_character<W: Sink>(byte: u8, sink: &mut W) -> Result<(), Device>
     ensures bytes { WritesAll (W.put sink.old) (W.put sink.new) result (piece true byte) }
     ensures count { Counts (W.failures sink.old) (W.failures sink.new) result }
 {
@@ -50,7 +50,7 @@ fn send_character<W: Sink>(byte: u8, sink: &mut W) -> Result<(), Failed>
 }
 
 /// Sends a byte of a text, or of bytes that are none.
-fn send_piece<W: Sink>(is_text: bool, byte: u8, sink: &mut W) -> Result<(), Failed>
+fn send_piece<W: Sink>(is_text: bool, byte: u8, sink: &mut W) -> Result<(), Device>
     ensures bytes { WritesAll (W.put sink.old) (W.put sink.new) result (piece is_text byte) }
     ensures count { Counts (W.failures sink.old) (W.failures sink.new) result }
 {
@@ -61,7 +61,7 @@ fn send_piece<W: Sink>(is_text: bool, byte: u8, sink: &mut W) -> Result<(), Fail
 }
 
 /// Sends all bytes of a path.
-fn send_pieces<W: Sink>(is_text: bool, path: &[u8], sink: &mut W) -> Result<(), Failed>
+fn send_pieces<W: Sink>(is_text: bool, path: &[u8], sink: &mut W) -> Result<(), Device>
     ensures bytes { WritesAll (W.put sink.old) (W.put sink.new) result (pieces is_text path.now) }
     ensures count { Counts (W.failures sink.old) (W.failures sink.new) result }
 {
@@ -96,7 +96,7 @@ fn is_text(path: &[u8]) -> bool
 }
 
 /// Sends a path that is a text, or that is none, as a value.
-fn send_as<W: Sink>(is_text: bool, path: &[u8], sink: &mut W) -> Result<(), Failed>
+fn send_as<W: Sink>(is_text: bool, path: &[u8], sink: &mut W) -> Result<(), Device>
     ensures bytes { WritesAll (W.put sink.old) (W.put sink.new) result
         (opening is_text ++ (pieces is_text path.now ++ closing is_text)) }
     ensures count { Counts (W.failures sink.old) (W.failures sink.new) result }
@@ -107,7 +107,7 @@ fn send_as<W: Sink>(is_text: bool, path: &[u8], sink: &mut W) -> Result<(), Fail
 }
 
 /// Sends a path as a value.
-fn send_path_value<W: Sink>(path: &[u8], sink: &mut W) -> Result<(), Failed>
+fn send_path_value<W: Sink>(path: &[u8], sink: &mut W) -> Result<(), Device>
     ensures bytes { WritesAll (W.put sink.old) (W.put sink.new) result (path_value path.now) }
     ensures count { Counts (W.failures sink.old) (W.failures sink.new) result }
 {
@@ -127,7 +127,7 @@ fn members(answer: Answer, text: &[u8]) -> &[u8]
 }
 
 /// Sends the path of an object.
-fn send_file<W: Sink>(path: &[u8], sink: &mut W) -> Result<(), Failed>
+fn send_file<W: Sink>(path: &[u8], sink: &mut W) -> Result<(), Device>
     ensures bytes { WritesAll (W.put sink.old) (W.put sink.new) result (codes "{\"file\":" ++ path_value path.now) }
     ensures count { Counts (W.failures sink.old) (W.failures sink.new) result }
 {
@@ -136,7 +136,7 @@ fn send_file<W: Sink>(path: &[u8], sink: &mut W) -> Result<(), Failed>
 }
 
 /// Sends the status and the members of an object.
-fn send_answer<W: Sink>(answer: Answer, text: &[u8], sink: &mut W) -> Result<(), Failed>
+fn send_answer<W: Sink>(answer: Answer, text: &[u8], sink: &mut W) -> Result<(), Device>
     ensures bytes { WritesAll (W.put sink.old) (W.put sink.new) result
         ((codes ",\"status\":" ++ status_text answer)
         ++ (codes "," ++ (members_of answer text.now ++ codes "}\n"))) }
@@ -152,7 +152,7 @@ pub(crate) fn send_object<W: Sink>(
     answer: Answer,
     text: &[u8],
     sink: &mut W,
-) -> Result<(), Failed>
+) -> Result<(), Device>
     ensures bytes { WritesAll (W.put sink.old) (W.put sink.new) result (object_line answer text.now path.now) }
     ensures count { Counts (W.failures sink.old) (W.failures sink.new) result }
 {

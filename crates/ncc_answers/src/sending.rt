@@ -8,7 +8,7 @@ ghost use Rattle.ncc_answers.specs.Shown.{labelled, first_line, line_length as t
 use crate::answer::Answer;
 use crate::form::Form;
 use crate::objects::send_object;
-use ncc_header::{Failed, Sink, write_all};
+use ncc_header::{Device, Sink, write_all};
 
 /// How many bytes the first line has, with its end where it has one.
 fn line_length(text: &[u8]) -> usize
@@ -25,7 +25,7 @@ fn line_length(text: &[u8]) -> usize
 }
 
 /// Sends what stands before a line of a file.
-fn send_label<W: Sink>(path: &[u8], sink: &mut W) -> Result<(), Failed>
+fn send_label<W: Sink>(path: &[u8], sink: &mut W) -> Result<(), Device>
     ensures bytes { WritesAll (W.put sink.old) (W.put sink.new) result (path.now ++ codes ": ") }
     ensures count { Counts (W.failures sink.old) (W.failures sink.new) result }
 {
@@ -34,7 +34,7 @@ fn send_label<W: Sink>(path: &[u8], sink: &mut W) -> Result<(), Failed>
 }
 
 /// Sends the first line of a text, with the path before it, and gives the lines after it.
-fn send_line<'a, W: Sink>(path: &[u8], text: &'a [u8], sink: &mut W) -> Result<&'a [u8], Failed>
+fn send_line<'a, W: Sink>(path: &[u8], text: &'a [u8], sink: &mut W) -> Result<&'a [u8], Device>
     requires { 0 < length text.now }
     ensures shorter { IfOk result (λ rest. length rest.now < length text.now) }
     ensures sent { IfOk result (λ rest. (out : List ℕ) × Puts (W.put sink.old) (W.put sink.new) out
@@ -50,7 +50,7 @@ fn send_line<'a, W: Sink>(path: &[u8], text: &'a [u8], sink: &mut W) -> Result<&
 }
 
 /// Sends the lines of a text, each with the path before it.
-fn send_lines<W: Sink>(path: &[u8], text: &[u8], sink: &mut W) -> Result<(), Failed>
+fn send_lines<W: Sink>(path: &[u8], text: &[u8], sink: &mut W) -> Result<(), Device>
     ensures bytes { WritesAll (W.put sink.old) (W.put sink.new) result
         (labelled (path.now ++ codes ": ") text.now) }
     ensures count { Counts (W.failures sink.old) (W.failures sink.new) result }
@@ -101,7 +101,7 @@ pub(crate) fn digit(answer: Answer) -> &'static [u8]
 }
 
 /// Sends what stands before a path in brief.
-fn send_answer<W: Sink>(answer: Answer, text: &[u8], sink: &mut W) -> Result<(), Failed>
+fn send_answer<W: Sink>(answer: Answer, text: &[u8], sink: &mut W) -> Result<(), Device>
     ensures bytes { WritesAll (W.put sink.old) (W.put sink.new) result
         (status_text answer ++ (codes "\t" ++ words_of answer text.now)) }
     ensures count { Counts (W.failures sink.old) (W.failures sink.new) result }
@@ -112,7 +112,7 @@ fn send_answer<W: Sink>(answer: Answer, text: &[u8], sink: &mut W) -> Result<(),
 }
 
 /// Sends a path between a tab and the end of its line.
-fn send_path<W: Sink>(path: &[u8], sink: &mut W) -> Result<(), Failed>
+fn send_path<W: Sink>(path: &[u8], sink: &mut W) -> Result<(), Device>
     ensures bytes { WritesAll (W.put sink.old) (W.put sink.new) result (codes "\t" ++ (path.now ++ codes "\n")) }
     ensures count { Counts (W.failures sink.old) (W.failures sink.new) result }
 {
@@ -122,7 +122,7 @@ fn send_path<W: Sink>(path: &[u8], sink: &mut W) -> Result<(), Failed>
 }
 
 /// Sends an answer in one line.
-fn send_brief<W: Sink>(path: &[u8], answer: Answer, text: &[u8], sink: &mut W) -> Result<(), Failed>
+fn send_brief<W: Sink>(path: &[u8], answer: Answer, text: &[u8], sink: &mut W) -> Result<(), Device>
     ensures bytes { WritesAll (W.put sink.old) (W.put sink.new) result (brief_line answer text.now path.now) }
     ensures count { Counts (W.failures sink.old) (W.failures sink.new) result }
 {
@@ -137,7 +137,7 @@ pub fn send_shown<W: Sink>(
     answer: Answer,
     text: &[u8],
     sink: &mut W,
-) -> Result<(), Failed>
+) -> Result<(), Device>
     ensures bytes { WritesAll (W.put sink.old) (W.put sink.new) result (shown form path.now answer text.now) }
     ensures count { Counts (W.failures sink.old) (W.failures sink.new) result }
 {

@@ -3,7 +3,7 @@ use Rattle.std.proofs.Common.{◌≡◌, ◌⊎◌, inl, inr, ℕ, ◌+◌, ◌<
 use Rattle.std.specs.Result.{IsErrAnd}
 use Rattle.std.proofs.lemmas.List.{append-nil, take-append-drop, take_more, drop_more, drop-drop, drop_all}
 use Rattle.std.proofs.lemmas.Result.{err_from_is_err_and}
-use Rattle.ncc_schema.specs.declared.failed.Failed.{Failed}
+use Rattle.ncc_values.specs.declared.failures.Device.{Device as Failure}
 use Rattle.ncc_schema.specs.Device.{Puts}
 use Rattle.ncc_schema.proofs.Writing.{puts_both}
 use Rattle.ncc_values.specs.Failures.{last_count, Rose}
@@ -179,8 +179,8 @@ pub next_left : (paths old new : List (List ℕ)) (i : ℕ) → old ≡ drop i p
 next_left paths old new i e n = n ∙ ap (λ (l : List (List ℕ)). drop 1 l) e ∙ drop-drop 1 i paths
 
 -- the output failed
-pub fails_batch : (Q : Failed → Type 0) (file : List ℕ → Option (List ℕ)) (work : Work) (form : Form) (paths left : List (List ℕ)) (i : ℕ) (p : List ℕ) (first : Answer) (old mid new : ℕ) (before now after : Option (List ℕ))
-    (e : Failed) (r : Result Answer Failed) → i < length paths → p ≡ get_or paths i p → left ≡ drop (i + 1) paths → mid ≤ new → new ≤ last_count → IsErrAnd r Q
+pub fails_batch : (Q : Failure → Type 0) (file : List ℕ → Option (List ℕ)) (work : Work) (form : Form) (paths left : List (List ℕ)) (i : ℕ) (p : List ℕ) (first : Answer) (old mid new : ℕ) (before now after : Option (List ℕ))
+    (e : Failure) (r : Result Answer Failure) → i < length paths → p ≡ get_or paths i p → left ≡ drop (i + 1) paths → mid ≤ new → new ≤ last_count → IsErrAnd r Q
     → Answered file work form (take i paths) first old mid before now → SendsOne work form p (file p) now after (Err e) → IsBatch file work form paths left old new before after r
 fails_batch Q file work form paths left i p first old mid new before now after e r inside is rest grows most exit s one =
     let split : paths ≡ take i paths ++ p ∷ left =
@@ -188,7 +188,7 @@ fails_batch Q file work form paths left i p first old mid new before now after e
     ∙ ap (λ (l : List (List ℕ)). take i paths ++ l) (at_path paths (drop i paths) i p inside is refl)
     ∙ ap (λ (l : List (List ℕ)). take i paths ++ p ∷ l) (sym rest) in
     let q = err_from_is_err_and r exit in
-    subst (λ (x : Result Answer Failed). IsBatch file work form paths left old new before after x) (sym q.1)
+    subst (λ (x : Result Answer Failure). IsBatch file work form paths left old new before after x) (sym q.1)
     (take i paths, p, s.answers, one.0, s.out, one.1, one.2, split, s.are, one.3, none_more (devices s.answers) old mid new s.counted.each grows most, puts_both before now after s.out one.1 s.puts one.4)
 
 -- all of them were answered

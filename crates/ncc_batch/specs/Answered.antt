@@ -2,7 +2,7 @@
 use Rattle.std.specs.Prelude.{◌≡◌, ◌⊎◌, ℕ, ◌+◌, ◌≤◌, List, [], ◌∷◌, ◌++◌, Option, Some, None, Result, Ok, Err}
 use Rattle.ncc_values.specs.Failures.{last_count, Rose}
 use Rattle.ncc_schema.specs.Device.{Puts}
-use Rattle.ncc_schema.specs.declared.failed.Failed.{Failed}
+use Rattle.ncc_values.specs.declared.failures.Device.{Device as Failure}
 use Rattle.ncc_store.specs.declared.store.Store.{Ghosts}
 use Rattle.ncc_check.specs.FromStore.{ReadsFew, calls_for}
 use Rattle.ncc_answers.specs.Answers.{Texts, Writes}
@@ -107,7 +107,7 @@ IsAnswered work form path bytes a out = (text : List ℕ) × IsTextAt work bytes
 
 -- it went out, and this is the answer; or the output failed after a front of it
 abbrev pub SendsOne : Work → Form → (path : List ℕ) → (bytes : Option (List ℕ)) → (before after : Option (List ℕ))
-    → Result Answer Failed → Type 0
+    → Result Answer Failure → Type 0
 SendsOne work form path bytes before after (Ok a) =
     (out : List ℕ) × IsAnswered work form path bytes a out × Puts before after out
 SendsOne work form path bytes before after (Err e) = (a : Answer) × (out : List ℕ) × (rest : List ℕ)
@@ -136,7 +136,7 @@ pub record AreCounted (answers : List Answer) (old new : ℕ) : Type 0 where
 -- All of it went out, no path is left, and the answer is the worst. Or the output failed after a front of what is shown
 -- of one of the files, after all of those before it, and those after it are left.
 abbrev pub IsBatch : (file : List ℕ → Option (List ℕ)) → Work → Form → (paths left : List (List ℕ)) → (old new : ℕ)
-    → (before after : Option (List ℕ)) → Result Answer Failed → Type 0
+    → (before after : Option (List ℕ)) → Result Answer Failure → Type 0
 IsBatch file work form paths left old new before after (Ok answer) = (answers : List Answer) × (out : List ℕ)
     × AreAnswered file work form paths answers out × (left ≡ []) × (answer ≡ worst answers)
     × AreCounted answers old new × Puts before after out

@@ -8,7 +8,7 @@ use crate::shelf::Shelf;
 use crate::texts::text_at;
 use ncc_answers::{Form, Work, send_shown, worse};
 use ncc_engines::Answer;
-use ncc_header::{Failed, Sink};
+use ncc_header::{Device, Sink};
 use ncc_values::Seq;
 use std::alloc::Global;
 
@@ -20,7 +20,7 @@ fn answer_one<F: Shelf, W: Sink>(
     work: Work,
     form: Form,
     sink: &mut W,
-) -> Result<Answer, Failed>
+) -> Result<Answer, Device>
     requires { IsTrue F.tells → (rest : List (List ℕ)) × (F.left shelf.old ≡ path.now ∷ rest) }
     ensures sends { IsTrue F.tells
         → SendsOne work form path.now (F.file shelf.old path.now) (W.put sink.old) (W.put sink.new) result }
@@ -47,7 +47,7 @@ pub fn answer_all<F: Shelf, W: Sink>(
     work: Work,
     form: Form,
     sink: &mut W,
-) -> Result<Answer, Failed>
+) -> Result<Answer, Device>
     requires { IsTrue F.tells → F.left shelf.old ≡ paths.now }
     ensures batch { IsTrue F.tells → IsBatch (F.file shelf.old) work form paths.now (F.left shelf.new)
         (F.failures shelf.old) (F.failures shelf.new) (W.put sink.old) (W.put sink.new) result }

@@ -12,7 +12,7 @@ ghost use Rattle.ncc_json.specs.declared.wording.Wording.{Wording};
 
 use ncc_answers::{Form, send_shown};
 use ncc_engines::Answer;
-use ncc_header::{Failed, Sink, Source, WriteSink};
+use ncc_header::{Device, Sink, Source, WriteSink};
 use ncc_lines::FloatStyle;
 use ncc_listed::members_engine;
 use std::alloc::Global;
@@ -52,7 +52,7 @@ pub fn list_source<R: Source, W: Sink>(
     limit: u64,
     style: FloatStyle,
     sink: &mut W,
-) -> Result<Answer, Failed>
+) -> Result<Answer, Device>
     ensures sends { IfSome (R.left source.old) (λ input. SendsOne (Work.List limit style Wording.Members) Form.Object
         path.now (Some input) (W.put sink.old) (W.put sink.new) result) }
     ensures exactly { result ≡ Ok Answer.Passed → IfSome (R.left source.old) (λ input.

@@ -10,7 +10,7 @@ use anyhow::Result;
 use ncc_engines::extend_engine;
 use ncc_schema::{Sink, WriteSink};
 use ncc_store::MemStore;
-use ncc_values::{F32Bits, Few, Values, Version, XType};
+use ncc_values::{F32Bits, InlineList, Values, Version, XType};
 use ncc_write::{Built, FileWriter, SchemaBuilder, WriteFault};
 use std::alloc::Global;
 
@@ -49,7 +49,7 @@ fn describe(
         let count = 1 + random.below(60);
         note(schema, var, &name, text(alloc, prose.piece(random, count))?)?;
     }
-    let least = Values::Floats(Few::from_slice(alloc, &[F32Bits(0x42C8_0000)])?);
+    let least = Values::Floats(InlineList::from_slice(alloc, &[F32Bits(0x42C8_0000)])?);
     note(schema, var, b"valid_min", least)
 }
 

@@ -14,9 +14,9 @@ use Rattle.ncc_build.specs.File.{IsWritable, header_of}
 
 pub fits_of : (s : Schema) → ∥ IsWritable s ∥₁ → FitsVersion s (known s.count)
 fits_of s writable = record {
-  fit = record {
-    each = ∥∥₁_elim writable (AllByRecursion-prop (λ x. rounded s.dims x ≤ room) (λ x. hlevel props) s.vars) (λ (f : IsWritable s). f.fits.fit.each);
-    together = ∥∥₁_elim writable (hlevel props) (λ (f : IsWritable s). f.fits.fit.together);
+  none_too_large = record {
+    each = ∥∥₁_elim writable (AllByRecursion-prop (λ x. rounded s.dims x ≤ room) (λ x. hlevel props) s.vars) (λ (f : IsWritable s). f.fits.none_too_large.each);
+    together = ∥∥₁_elim writable (hlevel props) (λ (f : IsWritable s). f.fits.none_too_large.together);
   };
   words = ∥∥₁_elim writable (AllByRecursion-prop (λ x. rounded s.dims x ≤ size_limit s.version) (λ x. hlevel props) s.vars) (λ (f : IsWritable s). f.fits.words);
   file = ∥∥₁_elim writable (hlevel props) (λ (f : IsWritable s). f.fits.file);

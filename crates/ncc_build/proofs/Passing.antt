@@ -11,7 +11,7 @@ use Rattle.ncc_schema.specs.declared.schema.Dim.{Dim}
 use Rattle.ncc_schema.specs.Schema.{count_limit, length_limit, streaming_mark, is_record, IsFixed, IsTypeOf, LegalDims}
 use Rattle.ncc_build.specs.declared.fault.WriteFault.{WriteFault}
 use Rattle.ncc_build.specs.declared.fault.WriteFault.TheVariants.{BadName, DuplicateName, TwoRecordDims, BadDimId, RecordDimNotFirst, TypeForVersion, CountForVersion}
-use Rattle.ncc_build.specs.Building.{first_refusal, name_limit, is_bad, is_among, is_second_record, is_past, is_foreign, any_missing, any_record_behind}
+use Rattle.ncc_build.specs.Building.{first_refusal, name_limit, is_bad_name, is_among, is_second_record, is_past, is_foreign, any_missing, any_record_behind}
 use Rattle.ncc_build.specs.Judging.{name_refusals, dim_refusals, dims_refusals, kind_refusals, is_too_many}
 
 -- ---- limits
@@ -49,7 +49,7 @@ room_there v items number e =
 pub name_passes : (names : List (List ℕ)) (name : List ℕ) (rest : List (Bool × WriteFault)) → first_refusal (name_refusals true names name ++ rest) ≡ None
     → (length name ≤ name_limit) × (is_among name names ≡ false) × (first_refusal rest ≡ None)
 name_passes names name rest e =
-    let bad = one_none (is_bad true name, BadName) ((is_among name names, DuplicateName) ∷ rest) e in
+    let bad = one_none (is_bad_name true name, BadName) ((is_among name names, DuplicateName) ∷ rest) e in
     let among = one_none (is_among name names, DuplicateName) rest bad.1 in
     (ltb-false name_limit (length name) bad.0, among.0, among.1)
 

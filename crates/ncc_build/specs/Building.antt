@@ -34,8 +34,8 @@ abbrev pub name_limit : ℕ
 name_limit = 256
 
 -- the name breaks the rule of names, or is too long
-abbrev pub is_bad : (fits : Bool) → (name : List ℕ) → Bool
-is_bad fits name = not fits || ltb name_limit (length name)
+abbrev pub is_bad_name : (fits : Bool) → (name : List ℕ) → Bool
+is_bad_name fits name = not fits || ltb name_limit (length name)
 
 abbrev pub is_among : (name : List ℕ) → (names : List (List ℕ)) → Bool
 is_among name names = list_any (same name) names
@@ -82,7 +82,7 @@ attrs_of s n = get_or (map (λ x. x.attrs) s.vars) n []
 
 abbrev pub refuses_dim : (fits : Bool) → Schema → (name : List ℕ) → (length : ℕ) → Option WriteFault
 refuses_dim fits s name n = first_refusal (
-    (is_bad fits name, BadName)
+    (is_bad_name fits name, BadName)
     ∷ (is_among name (dim_names s), DuplicateName)
     ∷ (is_second_record s.dims n, TwoRecordDims)
     ∷ (one_past s.version s.dims (n ∷ []), CountForVersion) ∷ [])
@@ -90,7 +90,7 @@ refuses_dim fits s name n = first_refusal (
 -- an attribute after these
 abbrev pub refuses_attr_of : (fits : Bool) → Version → List Attr → (name : List ℕ) → Values → Option WriteFault
 refuses_attr_of fits v attrs name values = first_refusal (
-    (is_bad fits name, BadName)
+    (is_bad_name fits name, BadName)
     ∷ (is_among name (attr_names attrs), DuplicateName)
     ∷ (is_foreign v (type_of values), TypeForVersion)
     ∷ (one_past v attrs (count_of values ∷ []), CountForVersion) ∷ [])
@@ -103,7 +103,7 @@ refuses_attr fits s n name values = refuses_attr_of fits s.version (attrs_of s n
 
 abbrev pub refuses_var : (fits : Bool) → Schema → (name : List ℕ) → XType → (dims : List ℕ) → Option WriteFault
 refuses_var fits s name t ids = first_refusal (
-    (is_bad fits name, BadName)
+    (is_bad_name fits name, BadName)
     ∷ (is_among name (var_names s), DuplicateName)
     ∷ (any_missing s.dims ids, BadDimId)
     ∷ (any_record_behind s.dims ids, RecordDimNotFirst)

@@ -8,11 +8,11 @@ use Rattle.ncc_build.specs.declared.fault.WriteFault.{WriteFault}
 use Rattle.ncc_layout.specs.declared.plan_fault.PlanFault.{PlanFault}
 use Rattle.ncc_layout.specs.declared.plan_fault.PlanFault.TheVariants as plan
 use Rattle.ncc_build.specs.declared.fault.WriteFault.TheVariants.{BadName, DuplicateName, TwoRecordDims, BadDimId, RecordDimNotFirst, TypeForVersion, CountForVersion, OffsetForVersion, SizeForVersion, Memory}
-use Rattle.ncc_build.specs.Building.{is_bad, is_among, is_second_record, is_past, is_foreign, any_missing, any_record_behind}
+use Rattle.ncc_build.specs.Building.{is_bad_name, is_among, is_second_record, is_past, is_foreign, any_missing, any_record_behind}
 
 -- of a name beside these
 abbrev pub name_refusals : (fits : Bool) → (names : List (List ℕ)) → (name : List ℕ) → List (Bool × WriteFault)
-name_refusals fits names name = (is_bad fits name, BadName) ∷ (is_among name names, DuplicateName) ∷ []
+name_refusals fits names name = (is_bad_name fits name, BadName) ∷ (is_among name names, DuplicateName) ∷ []
 
 -- of the dimensions of a variable
 abbrev pub dims_refusals : List Dim → (ids : List ℕ) → List (Bool × WriteFault)

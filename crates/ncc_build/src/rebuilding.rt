@@ -10,17 +10,17 @@ use crate::builder::SchemaBuilder;
 use crate::built::Built;
 use crate::fault::WriteFault;
 use ncc_schema::{Attr, Dim, Schema, Var};
-use ncc_values::{Few, Values, Version};
+use ncc_values::{InlineList, Values, Version};
 use std::alloc::{AllocError, Global};
 
 /// The same elements, in memory of their own.
 fn own_items<T: Copy + Default, const N: usize>(
     alloc: Global,
-    items: &Few<T, N>,
-) -> Result<Few<T, N>, AllocError>
+    items: &InlineList<T, N>,
+) -> Result<InlineList<T, N>, AllocError>
     ensures { IfOk result (λ few. few ≡ items.now) }
 {
-    Few::from_slice(alloc, items.as_slice())
+    InlineList::from_slice(alloc, items.as_slice())
 }
 
 /// The same values, in memory of their own.

@@ -13,7 +13,7 @@ use Rattle.ncc_schema.specs.declared.schema.Schema.{Schema}
 use Rattle.ncc_schema.specs.declared.schema.Var.{Var}
 use Rattle.ncc_schema.specs.Schema.{Place}
 use Rattle.ncc_schema.specs.Header as spelled
-use Rattle.ncc_schema.specs.Header.{IsHeader, canon_attr, canon_dim, canon_name, canon_list, canon_var, counted, nc_attribute, nc_dimension, nc_variable}
+use Rattle.ncc_schema.specs.Header.{IsHeader, canon_attr, canon_dim, canon_name, canon_list, canon_var, numrecs_word, nc_attribute, nc_dimension, nc_variable}
 use Rattle.ncc_schema.specs.Names.{StandsAt, attrs_in, canon_unplaced, gatts_at, head_size, list_size, vars_at}
 use Rattle.ncc_schema.proofs.CanonicalLength.{head_long, name_long, dim_long, attr_long, dimids_long, attrs_long, var_long, list_long}
 use Rattle.ncc_schema.proofs.Sizes.{length-canon_head, length-canon_var}
@@ -142,7 +142,7 @@ all_stand s places front bytes placed h long t =
     let sp = h.spelled in
     let magic : length sp.0 ≡ 3 = ap length sp.3 in
     let version : length sp.4.0 ≡ 1 = ap length sp.4.3 ∙ length-big_endian 1 (byte_of v) in
-    let count : length sp.4.4.0 ≡ count_width_of v = ap length sp.4.4.3 ∙ length-big_endian (count_width_of v) (counted v s.count) in
+    let count : length sp.4.4.0 ≡ count_width_of v = ap length sp.4.4.3 ∙ length-big_endian (count_width_of v) (numrecs_word v s.count) in
     let one = rest_of bytes front sp.0 sp.1 0 (length sp.0) (omega arith) sp.2 t in
     let two = rest_of bytes sp.1 sp.4.0 sp.4.1 (length sp.0) (length sp.0 + length sp.4.0) refl sp.4.2 one in
     let lists = rest_of bytes sp.4.1 sp.4.4.0 sp.4.4.1 (length sp.0 + length sp.4.0) (head_size v) (omega (arith, magic, version, count)) sp.4.4.2 two in

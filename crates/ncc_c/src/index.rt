@@ -30,7 +30,7 @@ pub struct Indexed {
 }
 
 /// How many rows there are.
-fn counted(schema: &Schema) -> Indexed
+fn counts_of(schema: &Schema) -> Indexed
     requires attrs { length schema.now.gatts + attr_count schema.now.vars < 2 ^ 64 }
     requires ids { id_count schema.now.vars < 2 ^ 64 }
     ensures counts { HasCounts schema.now result }
@@ -112,7 +112,7 @@ fn put_found(
     // A number of 64 bits, so that no offset is cut.
     let _length = found.header.length;
     let schema = &found.header.schema;
-    let counts = counted(schema);
+    let counts = counts_of(schema);
     if is_short(
         &counts,
         dims.len() as u64,

@@ -5,7 +5,7 @@ use Rattle.std.proofs.Props.{props}
 use Rattle.ncc_values.specs.BigEndian.{length-big_endian}
 use Rattle.ncc_values.specs.Version.{byte_of, count_width_of}
 use Rattle.ncc_schema.specs.declared.schema.Schema.{Schema}
-use Rattle.ncc_schema.specs.Header.{IsHeader, counted, list_tag, nc_dimension}
+use Rattle.ncc_schema.specs.Header.{IsHeader, numrecs_word, list_tag, nc_dimension}
 use Rattle.ncc_schema.specs.Schema.{Place, places_of}
 use Rattle.ncc_schema.proofs.CountField.{old_field, parts_of, start_of}
 use Rattle.ncc_layout.specs.declared.extent.Extent.{Extent}
@@ -13,7 +13,7 @@ use Rattle.ncc_layout.specs.declared.placed_file.Placed.{Placed}
 use Rattle.ncc_layout.specs.Extents.{LeastBegin, least_begin, records_of}
 use Rattle.ncc_layout.specs.Packed.{begin_or_zero, record_at, records_at}
 use Rattle.ncc_layout.specs.Placed.{HasRoom, KeepsRules, extents_of_file, file_length_of, header_length_of, record_size_of_file, records_of_file}
-use Rattle.ncc_layout.specs.Rules.{PastHeader}
+use Rattle.ncc_layout.specs.Rules.InHeader.{NotInHeader}
 use Rattle.ncc_layout.proofs.LeastBegins.{first_begin_is, is_least}
 use Rattle.ncc_layout.proofs.Membership.{all_in, filter_in, in_from_contains, in_mapped}
 use Rattle.ncc_layout.proofs.OneMoreRoom.{with_one_more}
@@ -42,7 +42,7 @@ behind_header p keeps some =
     let least = records_begin p some in
     let first = in_mapped (λ (e : Extent). e.begin) records (records_at p) (in_from_contains (map (λ (e : Extent). e.begin) records) (records_at p) least.1) in
     let there = filter_in (λ (e : Extent). e.is_record) (extents_of_file p) first.0 first.1 in
-    omega (arith, first.2, all_in (PastHeader (header_length_of p)) (extents_of_file p) first.0 keeps.rules.past_header there.0)
+    omega (arith, first.2, all_in (NotInHeader (header_length_of p)) (extents_of_file p) first.0 keeps.rules.not_in_header there.0)
 
 -- ---- the header
 
@@ -64,7 +64,7 @@ header_long s places b h =
       length-append (start_of s.version) (old_field s ++ parts.lists),
       length-append (old_field s) parts.lists,
       length-big_endian 1 (byte_of s.version),
-      wide (counted s.version s.count),
+      wide (numrecs_word s.version s.count),
       ap length dims.2 ∙ length-append dims.0 dims.1,
       ap length head.2 ∙ length-append head.0 head.1,
       ap length front.2 ∙ length-append front.0 front.1,

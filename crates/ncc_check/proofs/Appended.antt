@@ -13,7 +13,7 @@ use Rattle.ncc_schema.specs.Header.{with_count_field}
 use Rattle.ncc_schema.specs.Schema.{streaming_mark}
 use Rattle.ncc_header.specs.Answers.{Begins}
 use Rattle.ncc_layout.specs.declared.extent.Extent.{Extent}
-use Rattle.ncc_layout.specs.Extents.{counted}
+use Rattle.ncc_layout.specs.Extents.{number_of_records}
 use Rattle.ncc_layout.specs.Plans.{IsKnown}
 use Rattle.ncc_layout.specs.Standard.{next_count}
 use Rattle.ncc_store.specs.Store.{written}
@@ -22,7 +22,7 @@ use Rattle.ncc_check.specs.Appending.{padded, staged, appended, count_field, IsB
 
 -- ---- counts
 
-pub known_count : (c : Count) (record_size file : ℕ) (es : List Extent) (n : ℕ) → IsKnown c → n ≡ counted record_size file es c → c ≡ Known n
+pub known_count : (c : Count) (record_size file : ℕ) (es : List Extent) (n : ℕ) → IsKnown c → n ≡ number_of_records record_size file es c → c ≡ Known n
 known_count (Known m) size file es n known is = ap Known (sym is)
 known_count Streaming size file es n known is = absurd known
 

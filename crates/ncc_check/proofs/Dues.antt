@@ -47,14 +47,14 @@ names_due h names offsets o t n (inr (k, below, p)) =
       at = t.stands k below;
     })
 
-pub bad_found : (h : Header) (names : List (List ℕ)) (offsets : List ℕ) (o : ℕ → NameOf) → Listed h names offsets o → (k offset : ℕ) → k < length names → ¬ FitsAsName (name_of h.schema (o k)) → offset ≡ name_field h (o k)
+pub name_rule_found : (h : Header) (names : List (List ℕ)) (offsets : List ℕ) (o : ℕ → NameOf) → Listed h names offsets o → (k offset : ℕ) → k < length names → ¬ FitsAsName (name_of h.schema (o k)) → offset ≡ name_field h (o k)
     → NameNotes names offsets (record { kind = NameRule; offset = offset })
-bad_found h names offsets o t k offset below bad at =
+name_rule_found h names offsets o t k offset below bad at =
     inl (k, below, record { is_due = λ f. bad (subst FitsAsName (t.named k) f); is = λ i. record { kind = NameRule; offset = (at ∙ sym (t.stands k below)) i } })
 
-pub repeat_found : (h : Header) (names : List (List ℕ)) (offsets : List ℕ) (o : ℕ → NameOf) → Listed h names offsets o → (j k offset : ℕ) → j < k → k < length names → name_of h.schema (o j) ≡ name_of h.schema (o k) → offset ≡ name_field h (o k)
+pub duplicate_name_found : (h : Header) (names : List (List ℕ)) (offsets : List ℕ) (o : ℕ → NameOf) → Listed h names offsets o → (j k offset : ℕ) → j < k → k < length names → name_of h.schema (o j) ≡ name_of h.schema (o k) → offset ≡ name_field h (o k)
     → NameNotes names offsets (record { kind = DuplicateName; offset = offset })
-repeat_found h names offsets o t j k offset less below same at =
+duplicate_name_found h names offsets o t j k offset less below same at =
     inr (k, below, record { is_due = (j, less, t.named j ∙ same ∙ sym (t.named k)); is = λ i. record { kind = DuplicateName; offset = (at ∙ sym (t.stands k below)) i } })
 
 module _ (h : Header) (legal : Legal h.schema (places_of h.places)) (long : h.length ≡ length (canon h.schema (places_of h.places))) (small : h.length < 2 ^ 64)

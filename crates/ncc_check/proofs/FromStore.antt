@@ -9,15 +9,15 @@ use Rattle.ncc_header.specs.declared.fault.Fault.{Fault as HeaderFault}
 use Rattle.ncc_header.specs.declared.fault.FaultKind.TheVariants.{EndsEarly}
 use Rattle.ncc_header.specs.declared.fault.HeaderError.{HeaderError}
 use Rattle.ncc_header.specs.declared.fault.HeaderError.TheVariants as errors
-use Rattle.ncc_header.specs.declared.standing.Fed.{Fed}
-use Rattle.ncc_header.specs.declared.standing.Fed.TheVariants.{More, Done}
+use Rattle.ncc_header.specs.declared.state.Fed.{Fed}
+use Rattle.ncc_header.specs.declared.state.Fed.TheVariants.{More, Done}
 use Rattle.ncc_schema.specs.declared.schema.Header.{Header}
 use Rattle.ncc_schema.specs.declared.schema.Schema.{Schema}
 use Rattle.ncc_schema.specs.Schema.{Place, places_of}
 use Rattle.ncc_schema.specs.Header.{IsHeader}
 use Rattle.ncc_header.specs.Answers.{Begins, Stops, Answers}
 use Rattle.ncc_header.specs.Decoder.{Took, limit_of, HasFailed}
-use Rattle.ncc_header.specs.Standing.{FailedOn, Feeds, GoesOn, IsWhole, StopsForGood, front_taken}
+use Rattle.ncc_header.specs.State.{FailedOn, Feeds, GoesOn, IsWhole, StopsForGood, front_taken}
 use Rattle.ncc_check.specs.declared.fault.FileFault.TheVariants.{Header as OfHeader, Layout as OfLayout}
 use Rattle.ncc_check.specs.declared.fault.Refusal.{Refusal}
 use Rattle.ncc_check.specs.declared.fault.Refusal.TheVariants.{Fault, Device, Memory}

@@ -15,21 +15,21 @@ use Rattle.ncc_schema.specs.Schema.{count_limit, lengths}
 use Rattle.ncc_check.specs.declared.note.Note.{Note}
 use Rattle.ncc_check.specs.declared.note.NoteKind.TheVariants.{LargeCount}
 use Rattle.ncc_check.specs.declared.notes.named.Named.{Named}
-use Rattle.ncc_check.specs.Noting.{Adds, NoteIf, Below, BadName, Repeated, NameNotes, Names, names_in, offsets_in, offsets_from, VarAttrNotes, AttrNotesAt, LargeLength, MarkNote, note_of_mark}
+use Rattle.ncc_check.specs.Noting.{Adds, NoteIf, Below, NameRuleNote, DuplicateNameNote, NameNotes, Names, names_in, offsets_in, offsets_from, VarAttrNotes, AttrNotesAt, LargeLengthNote, MarkNote, note_of_mark}
 use Rattle.ncc_check.proofs.Joining.{as_well, both_join, note_as, one_more}
 use Rattle.ncc_check.proofs.Repeats.{name_at, offset_at}
 
 pub below_as : (P : ℕ → Note → Type 0) (i j : ℕ) (xs ys : List Note) → i ≡ j → Adds (Below P i) xs ys → Adds (Below P j) xs ys
 below_as P i j xs ys e a = subst (λ k. Adds (Below P k) xs ys) e a
 
-pub names_join : (named : List Named) (xs ys zs : List Note) → Adds (Below (BadName (names_in named) (offsets_in named)) (length named)) xs ys → Adds (Below (Repeated (names_in named) (offsets_in named)) (length named)) ys zs
+pub names_join : (named : List Named) (xs ys zs : List Note) → Adds (Below (NameRuleNote (names_in named) (offsets_in named)) (length named)) xs ys → Adds (Below (DuplicateNameNote (names_in named) (offsets_in named)) (length named)) ys zs
     → Adds (NameNotes (names_in named) (offsets_in named)) xs zs
 names_join named xs ys zs a b =
     let names = names_in named in
     let offsets = offsets_in named in
     let long : length named ≡ length names = sym (length-map named (λ (y : Named). y.name.now)) in
-    both_join (Below (BadName names offsets) (length names)) (Below (Repeated names offsets) (length names)) xs ys zs
-    (below_as (BadName names offsets) (length named) (length names) xs ys long a) (below_as (Repeated names offsets) (length named) (length names) ys zs long b)
+    both_join (Below (NameRuleNote names offsets) (length names)) (Below (DuplicateNameNote names offsets) (length names)) xs ys zs
+    (below_as (NameRuleNote names offsets) (length named) (length names) xs ys long a) (below_as (DuplicateNameNote names offsets) (length named) (length names) ys zs long b)
 
 -- notes by names and offsets, in the words of the list
 pub named_as : {A : Type 0} (name item : A → List ℕ) (at : ℕ) (items : List A) (named : List Named) (Q : List (List ℕ) → List ℕ → Note → Type 0) (xs ys : List Note)
@@ -64,15 +64,15 @@ one_list v vars named i x d xs ys zs below here is a b =
 
 pub one_length : (v : Version) (dims : List Dim) (named : List Named) (i : ℕ) (x : Dim) (d : Named) (limit size at : ℕ) (xs ys zs : List Note) → i < length dims → i < length named
     → limit ≡ count_limit v → at ≡ capped ((get_or named i d).at + size) → size ≡ capped (length (canon_name v (get_or named i d).name.now))
-    → Adds (Below (LargeLength v dims (names_in named) (offsets_in named)) i) xs ys → Adds (NoteIf (IsTrue (leb limit (get_or dims i x).length)) LargeCount at) ys zs
-    → Adds (Below (LargeLength v dims (names_in named) (offsets_in named)) (i + 1)) xs zs
+    → Adds (Below (LargeLengthNote v dims (names_in named) (offsets_in named)) i) xs ys → Adds (NoteIf (IsTrue (leb limit (get_or dims i x).length)) LargeCount at) ys zs
+    → Adds (Below (LargeLengthNote v dims (names_in named) (offsets_in named)) (i + 1)) xs zs
 one_length v dims named i x d limit size at xs ys zs below here bound stands sized a b =
     let long : get_or (lengths dims) i 0 ≡ (get_or dims i x).length = get_or-map (λ (y : Dim). y.length) dims i x 0 below in
     let offset : at ≡ capped (get_or (offsets_in named) i 0 + length (canon_name v (get_or (names_in named) i []))) =
     stands ∙ ap (λ n. capped ((get_or named i d).at + n)) sized ∙ capped_right (get_or named i d).at (length (canon_name v (get_or named i d).name.now))
     ∙ ap (λ o. capped (o + length (canon_name v (get_or named i d).name.now))) (sym (offset_at named i d here))
     ∙ ap (λ name. capped (get_or (offsets_in named) i 0 + length (canon_name v name))) (sym (name_at named i d here)) in
-    one_more (LargeLength v dims (names_in named) (offsets_in named)) i xs ys zs a
+    one_more (LargeLengthNote v dims (names_in named) (offsets_in named)) i xs ys zs a
     (note_as (IsTrue (leb limit (get_or dims i x).length)) (count_limit v ≤ get_or (lengths dims) i 0) LargeCount LargeCount at (capped (get_or (offsets_in named) i 0 + length (canon_name v (get_or (names_in named) i [])))) ys zs
     (λ t. omega (arith, leb-true limit (get_or dims i x).length t, bound, long))
     (λ h. le-leb limit (get_or dims i x).length (omega (arith, h, bound, long)))

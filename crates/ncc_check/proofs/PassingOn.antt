@@ -9,7 +9,7 @@ use Rattle.ncc_schema.specs.Schema.{Place, places_of}
 use Rattle.ncc_header.specs.Answers.{Begins}
 use Rattle.ncc_layout.specs.declared.placed_file.Placed.{Placed}
 use Rattle.ncc_layout.specs.declared.placed_var.PlacedVar.{PlacedVar}
-use Rattle.ncc_layout.specs.Extents.{counted, extents_of, record_count}
+use Rattle.ncc_layout.specs.Extents.{number_of_records, extents_of, record_count}
 use Rattle.ncc_layout.specs.Placed.{KeepsRules, extents_of_file, record_size_of_file, records_of_file}
 use Rattle.ncc_layout.specs.Plans.{IsKnown}
 use Rattle.ncc_layout.specs.Rules.{IsPlaced}
@@ -51,7 +51,7 @@ module _ (bytes : List ℕ) (limit : ℕ) (s : Schema) (p : Placed) (o : Opens b
       omega (arith, header_long h.schema (places_of h.places) b.front b.is_header, b.long, ap (λ (u : Schema). count_width_of u.version) o.schema_is)
 
   count_of_any : (more : ℕ) → record_count h.schema (places_of h.places) more ≡ n
-  count_of_any more = ap (counted (record_size_of h.schema) more (extents_of h.schema (places_of h.places))) known
+  count_of_any more = ap (number_of_records (record_size_of h.schema) more (extents_of h.schema (places_of h.places))) known
 
   -- ---- old bytes
 

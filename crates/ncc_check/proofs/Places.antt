@@ -51,8 +51,8 @@ kind_at s i x kind below is e =
     slice_get-get_or (kinds_of s) i false (omega (arith, below, length-map s.vars (is_record_var s.dims)))
     ∙ ap (λ (b : Bool). Some b) (get_or-map (is_record_var s.dims) s.vars i x false below ∙ ap (is_record_var s.dims) (sym is) ∙ sym (record_too s.dims x.dims) ∙ sym e)
 
-pub is_swapped : (kinds : List Bool) (places : List VarPlace) (i : ℕ) (kind : Bool) (g : ℕ) → slice_get kinds i ≡ Some kind → IsGreatest kinds places i kind g → get_or (begins_of places) i 0 < g → IsSwapped kinds places i
-is_swapped kinds places i kind g here t less = by t.met
+pub is_out_of_order : (kinds : List Bool) (places : List VarPlace) (i : ℕ) (kind : Bool) (g : ℕ) → slice_get kinds i ≡ Some kind → IsGreatest kinds places i kind g → get_or (begins_of places) i 0 < g → IsSwapped kinds places i
+is_out_of_order kinds places i kind g here t less = by t.met
   where
     by : (g ≡ 0) ⊎ ((k : ℕ) × (k < i) × (slice_get kinds k ≡ Some kind) × (get_or (begins_of places) k 0 ≡ g)) → IsSwapped kinds places i
     by (inl none) = absurd (omega (arith, none, less))
@@ -84,7 +84,7 @@ one_more_place v kinds sizes places i d kind g xs ys zs below here t a b =
     to : (n : Note) → PlaceNotes v (get_or places i d) (get_or sizes i 0) g n → PlaceNotesAt v kinds sizes places i n
     to n (inl q) = inl (moved _ _ VsizeField _ _ n (λ other e. other (sym vsize ∙ e)) (ap (λ o. o - count_width_of v) (sym at)) q)
     to n (inr (inl q)) = inr (inl (moved _ _ UnalignedBegin _ _ n (λ other e. other (ap (λ o. o % 4) (sym begin) ∙ e)) (sym at) q))
-    to n (inr (inr q)) = inr (inr (moved _ _ Order _ _ n (λ less. is_swapped kinds places i kind g here t (omega (arith, less, begin))) (sym at) q))
+    to n (inr (inr q)) = inr (inr (moved _ _ Order _ _ n (λ less. is_out_of_order kinds places i kind g here t (omega (arith, less, begin))) (sym at) q))
 
     from : (n : Note) → PlaceNotesAt v kinds sizes places i n → PlaceNotes v (get_or places i d) (get_or sizes i 0) g n
     from n (inl q) = inl (moved _ _ VsizeField _ _ n (λ other e. other (vsize ∙ e)) (ap (λ o. o - count_width_of v) at) q)

@@ -9,7 +9,7 @@ use Rattle.ncc_values.specs.Name.{FitsAsName}
 use Rattle.ncc_check.specs.declared.note.Note.{Note}
 use Rattle.ncc_check.specs.declared.note.NoteKind.TheVariants.{NameRule, DuplicateName}
 use Rattle.ncc_check.specs.declared.notes.named.Named.{Named}
-use Rattle.ncc_check.specs.Noting.{Adds, NoteIf, Below, BadName, Repeated, AreTaken, IsRepeated, names_in, offsets_in, key_of_name, keys_in}
+use Rattle.ncc_check.specs.Noting.{Adds, NoteIf, Below, NameRuleNote, DuplicateNameNote, AreTaken, IsDuplicate, names_in, offsets_in, key_of_name, keys_in}
 use Rattle.ncc_check.proofs.Joining.{one_more, note_as}
 
 pub name_at : (xs : List Named) (k : ℕ) (d : Named) → k < length xs → get_or (names_in xs) k [] ≡ (get_or xs k d).name.now
@@ -49,7 +49,7 @@ same_keys xs j k d lj lk e =
 
 -- a name whose slot is free has no earlier one
 pub first_of_slot : (xs : List Named) (k : ℕ) (d : Named) (taken : List Bool) → k < length xs → AreTaken (keys_in xs) k taken
-    → IsTrue (not (get_or taken (get_or (keys_in xs) k 0 % 61) false)) → IsRepeated (names_in xs) k (get_or (names_in xs) k []) → ⊥
+    → IsTrue (not (get_or taken (get_or (keys_in xs) k 0 % 61) false)) → IsDuplicate (names_in xs) k (get_or (names_in xs) k []) → ⊥
 first_of_slot xs k d taken there earlier free (j, below, same) =
     let e = same_keys xs j k d (omega (arith, below, there)) there same in
     untrue (get_or taken (get_or (keys_in xs) k 0 % 61) false) free (subst (λ (n : ℕ). get_or taken (n % 61) false ≡ true) e (earlier j below))
@@ -76,24 +76,24 @@ more_taken keys k taken there earlier j below = by (cases_lt j k)
 
 pub one_bad : (named : List Named) (i : ℕ) (d : Named) (fits : Bool) (xs ys zs : List Note) → i < length named
     → (IsTrue fits → FitsAsName (get_or named i d).name.now) → (FitsAsName (get_or named i d).name.now → IsTrue fits)
-    → Adds (Below (BadName (names_in named) (offsets_in named)) i) xs ys → Adds (NoteIf (IsTrue (not fits)) NameRule (get_or named i d).at) ys zs
-    → Adds (Below (BadName (names_in named) (offsets_in named)) (i + 1)) xs zs
+    → Adds (Below (NameRuleNote (names_in named) (offsets_in named)) i) xs ys → Adds (NoteIf (IsTrue (not fits)) NameRule (get_or named i d).at) ys zs
+    → Adds (Below (NameRuleNote (names_in named) (offsets_in named)) (i + 1)) xs zs
 one_bad named i d fits xs ys zs below to from a b =
     let name = name_at named i d below in
-    one_more (BadName (names_in named) (offsets_in named)) i xs ys zs a
+    one_more (NameRuleNote (names_in named) (offsets_in named)) i xs ys zs a
     (note_as (IsTrue (not fits)) (¬ FitsAsName (get_or (names_in named) i [])) NameRule NameRule (get_or named i d).at (get_or (offsets_in named) i 0) ys zs
     (λ n f. untrue fits n (from (subst FitsAsName name f)))
     (λ n. not_true fits (λ f. n (subst FitsAsName (sym name) (to f))))
     refl (sym (offset_at named i d below)) b)
 
-pub one_repeated : (named : List Named) (i : ℕ) (d : Named) (repeated : Bool) (xs ys zs : List Note) → i < length named
-    → (IsTrue repeated → IsRepeated (names_in named) i (get_or named i d).name.now) → (IsRepeated (names_in named) i (get_or named i d).name.now → IsTrue repeated)
-    → Adds (Below (Repeated (names_in named) (offsets_in named)) i) xs ys → Adds (NoteIf (IsTrue repeated) DuplicateName (get_or named i d).at) ys zs
-    → Adds (Below (Repeated (names_in named) (offsets_in named)) (i + 1)) xs zs
-one_repeated named i d repeated xs ys zs below to from a b =
+pub one_duplicate : (named : List Named) (i : ℕ) (d : Named) (repeated : Bool) (xs ys zs : List Note) → i < length named
+    → (IsTrue repeated → IsDuplicate (names_in named) i (get_or named i d).name.now) → (IsDuplicate (names_in named) i (get_or named i d).name.now → IsTrue repeated)
+    → Adds (Below (DuplicateNameNote (names_in named) (offsets_in named)) i) xs ys → Adds (NoteIf (IsTrue repeated) DuplicateName (get_or named i d).at) ys zs
+    → Adds (Below (DuplicateNameNote (names_in named) (offsets_in named)) (i + 1)) xs zs
+one_duplicate named i d repeated xs ys zs below to from a b =
     let name = name_at named i d below in
-    one_more (Repeated (names_in named) (offsets_in named)) i xs ys zs a
-    (note_as (IsTrue repeated) (IsRepeated (names_in named) i (get_or (names_in named) i [])) DuplicateName DuplicateName (get_or named i d).at (get_or (offsets_in named) i 0) ys zs
-    (λ r. subst (IsRepeated (names_in named) i) (sym name) (to r))
-    (λ r. from (subst (IsRepeated (names_in named) i) name r))
+    one_more (DuplicateNameNote (names_in named) (offsets_in named)) i xs ys zs a
+    (note_as (IsTrue repeated) (IsDuplicate (names_in named) i (get_or (names_in named) i [])) DuplicateName DuplicateName (get_or named i d).at (get_or (offsets_in named) i 0) ys zs
+    (λ r. subst (IsDuplicate (names_in named) i) (sym name) (to r))
+    (λ r. from (subst (IsDuplicate (names_in named) i) name r))
     refl (sym (offset_at named i d below)) b)

@@ -7,7 +7,7 @@ use Rattle.std.proofs.lemmas.Bool.{cases_lt}
 use Rattle.std.proofs.lemmas.List.{map-append}
 use Rattle.std.proofs.lemmas.List.Elements.{Contains-append_left, Contains-append_right, Contains-append_cases}
 use Rattle.std.proofs.lemmas.Slice.Eq.{bytes_eq-Decides}
-use Rattle.ncc_check.specs.Noting.{IsRepeated, Seen, texts_of}
+use Rattle.ncc_check.specs.Noting.{IsDuplicate, Seen, texts_of}
 
 abbrev same : Bor (List ℕ) → Bor (List ℕ) → Bool
 same q k = pointwise eqb q.now k.now
@@ -72,16 +72,16 @@ one_seen names i keys after q is e s = subst (Seen names (i + 1)) (sym e) (recor
         let last : i ≡ j = omega (arith, below, le) in
         subst (Contains (texts_of (with_key (has q keys) keys q))) (sym is ∙ ap (λ k. get_or names k []) last ∙ n) (joined_in (has q keys) keys q refl)
 
-    from_names : (name : List ℕ) → Contains (texts_of keys) name ⊎ (q.now ≡ name) → IsRepeated names (i + 1) name
+    from_names : (name : List ℕ) → Contains (texts_of keys) name ⊎ (q.now ≡ name) → IsDuplicate names (i + 1) name
     from_names name (inl c) = let r = s.from_names name c in (r.0, omega (arith, r.1), r.2)
     from_names name (inr n) = (i, omega arith, is ∙ n)
 
-pub was_repeated : (names : List (List ℕ)) (i : ℕ) (keys : List (Bor (List ℕ))) (q : Bor (List ℕ)) (is_new : Bool) → is_new ≡ not (has q keys) → Seen names i keys → IsTrue (not is_new) → IsRepeated names i q.now
-was_repeated names i keys q is_new e s t = s.from_names q.now (there q keys (twice (has q keys) (subst (λ b. IsTrue (not b)) e t)))
+pub was_duplicate : (names : List (List ℕ)) (i : ℕ) (keys : List (Bor (List ℕ))) (q : Bor (List ℕ)) (is_new : Bool) → is_new ≡ not (has q keys) → Seen names i keys → IsTrue (not is_new) → IsDuplicate names i q.now
+was_duplicate names i keys q is_new e s t = s.from_names q.now (there q keys (twice (has q keys) (subst (λ b. IsTrue (not b)) e t)))
   where
     twice : (b : Bool) → IsTrue (not (not b)) → b ≡ true
     twice true h = refl
     twice false h = h
 
-pub is_seen : (names : List (List ℕ)) (i : ℕ) (keys : List (Bor (List ℕ))) (q : Bor (List ℕ)) (is_new : Bool) → is_new ≡ not (has q keys) → Seen names i keys → IsRepeated names i q.now → IsTrue (not is_new)
+pub is_seen : (names : List (List ℕ)) (i : ℕ) (keys : List (Bor (List ℕ))) (q : Bor (List ℕ)) (is_new : Bool) → is_new ≡ not (has q keys) → Seen names i keys → IsDuplicate names i q.now → IsTrue (not is_new)
 is_seen names i keys q is_new e s r = ap not (e ∙ ap not (found q keys (s.in_table q.now r)))

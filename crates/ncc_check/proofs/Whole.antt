@@ -22,9 +22,9 @@ use Rattle.ncc_layout.specs.Standard.{vsize_word}
 use Rattle.ncc_check.specs.declared.note.Note.{Note}
 use Rattle.ncc_check.specs.declared.note.NoteKind.{NoteKind}
 use Rattle.ncc_check.specs.declared.note.NoteKind.TheVariants.{VsizeField, HeaderPadding, TaggedEmpty, NameRule, DuplicateName, UnalignedBegin, Order, LargeCount}
-use Rattle.ncc_check.specs.Notes.{AreNotes, HasBadName, IsDue, IsEarlier, dim_length_field, extents_in, name_field, numrecs_at, vsize_words}
+use Rattle.ncc_check.specs.Notes.{AreNotes, HasNameRuleNote, IsDue, IsEarlier, dim_length_field, extents_in, name_field, numrecs_at, vsize_words}
 use Rattle.ncc_check.specs.Noting.{Adds, Below, Found, MarkNote, PlaceNotesAt, SameInOrder, dim_names, dim_offsets, kinds_of, note_of_mark}
-use Rattle.ncc_check.proofs.Dues.{attrs_listed, bad_found, dims_listed, due_at, globals_listed, names_due, repeat_found, vars_listed}
+use Rattle.ncc_check.proofs.Dues.{attrs_listed, name_rule_found, dims_listed, due_at, globals_listed, names_due, duplicate_name_found, vars_listed}
 use Rattle.ncc_check.proofs.Extents.{IsExtent, extent_number, extent_there}
 use Rattle.ncc_check.proofs.Lists.{at_var, uncapped_end}
 
@@ -132,24 +132,24 @@ module _ (h : Header) (sizes : List ℕ) (legal : Legal h.schema (places_of h.pl
       there (x ∷ vars) zero below = (x, refl)
       there (x ∷ vars) (suc i) below = there vars i (omega (arith, below))
 
-  bad : (offset : ℕ) (o : NameOf) → HasName h.schema o → (b : HasBadName h offset) → b.named ≡ o → Found h sizes (record { kind = NameRule; offset = offset })
-  bad offset (of.Dim k) there b is = inr (inl (inl (inl (bad_found h _ _ of.Dim (dims_listed h legal long small law) k offset (omega (arith, there, length-map h.schema.dims (λ (d : Dim). d.name))) (subst (λ x. ¬ FitsAsName (name_of h.schema x)) is b.bad) (b.at ∙ ap (name_field h) is)))))
-  bad offset (of.Global k) there b is = inr (inl (inr (bad_found h _ _ of.Global (globals_listed h legal long small law) k offset (omega (arith, there, length-map h.schema.gatts (λ (d : Attr). d.name))) (subst (λ x. ¬ FitsAsName (name_of h.schema x)) is b.bad) (b.at ∙ ap (name_field h) is))))
-  bad offset (of.Var k) there b is = inr (inr (inl (inl (bad_found h _ _ of.Var (vars_listed h legal long small law) k offset (omega (arith, there, length-map h.schema.vars (λ (d : Var). d.name))) (subst (λ x. ¬ FitsAsName (name_of h.schema x)) is b.bad) (b.at ∙ ap (name_field h) is)))))
+  bad : (offset : ℕ) (o : NameOf) → HasName h.schema o → (b : HasNameRuleNote h offset) → b.named ≡ o → Found h sizes (record { kind = NameRule; offset = offset })
+  bad offset (of.Dim k) there b is = inr (inl (inl (inl (name_rule_found h _ _ of.Dim (dims_listed h legal long small law) k offset (omega (arith, there, length-map h.schema.dims (λ (d : Dim). d.name))) (subst (λ x. ¬ FitsAsName (name_of h.schema x)) is b.bad) (b.at ∙ ap (name_field h) is)))))
+  bad offset (of.Global k) there b is = inr (inl (inr (name_rule_found h _ _ of.Global (globals_listed h legal long small law) k offset (omega (arith, there, length-map h.schema.gatts (λ (d : Attr). d.name))) (subst (λ x. ¬ FitsAsName (name_of h.schema x)) is b.bad) (b.at ∙ ap (name_field h) is))))
+  bad offset (of.Var k) there b is = inr (inr (inl (inl (name_rule_found h _ _ of.Var (vars_listed h legal long small law) k offset (omega (arith, there, length-map h.schema.vars (λ (d : Var). d.name))) (subst (λ x. ¬ FitsAsName (name_of h.schema x)) is b.bad) (b.at ∙ ap (name_field h) is)))))
   bad offset (of.Attr i k) there b is =
       let t = var_there i there.0 in
       let e = ap (λ xs. length (first_attrs xs)) (at_var h.schema.vars i t.0 t.1).1 in
-      inr (inr (inl (inr (i, there.0, (t.0, t.1, bad_found h _ _ (of.Attr i) (attrs_listed h legal long small law i t.0 there.0 t.1) k offset (omega (arith, there.1, e, length-map t.0.attrs (λ (d : Attr). d.name))) (subst (λ x. ¬ FitsAsName (name_of h.schema x)) is b.bad) (b.at ∙ ap (name_field h) is))))))
+      inr (inr (inl (inr (i, there.0, (t.0, t.1, name_rule_found h _ _ (of.Attr i) (attrs_listed h legal long small law i t.0 there.0 t.1) k offset (omega (arith, there.1, e, length-map t.0.attrs (λ (d : Attr). d.name))) (subst (λ x. ¬ FitsAsName (name_of h.schema x)) is b.bad) (b.at ∙ ap (name_field h) is))))))
 
   repeated : (offset : ℕ) (o p : NameOf) → HasName h.schema p → IsEarlier o p → name_of h.schema o ≡ name_of h.schema p → offset ≡ name_field h p → Found h sizes (record { kind = DuplicateName; offset = offset })
-  repeated offset (of.Dim j) (of.Dim k) there less same at = inr (inl (inl (inl (repeat_found h _ _ of.Dim (dims_listed h legal long small law) j k offset less (omega (arith, there, length-map h.schema.dims (λ (d : Dim). d.name))) same at))))
-  repeated offset (of.Global j) (of.Global k) there less same at = inr (inl (inr (repeat_found h _ _ of.Global (globals_listed h legal long small law) j k offset less (omega (arith, there, length-map h.schema.gatts (λ (d : Attr). d.name))) same at)))
-  repeated offset (of.Var j) (of.Var k) there less same at = inr (inr (inl (inl (repeat_found h _ _ of.Var (vars_listed h legal long small law) j k offset less (omega (arith, there, length-map h.schema.vars (λ (d : Var). d.name))) same at))))
+  repeated offset (of.Dim j) (of.Dim k) there less same at = inr (inl (inl (inl (duplicate_name_found h _ _ of.Dim (dims_listed h legal long small law) j k offset less (omega (arith, there, length-map h.schema.dims (λ (d : Dim). d.name))) same at))))
+  repeated offset (of.Global j) (of.Global k) there less same at = inr (inl (inr (duplicate_name_found h _ _ of.Global (globals_listed h legal long small law) j k offset less (omega (arith, there, length-map h.schema.gatts (λ (d : Attr). d.name))) same at)))
+  repeated offset (of.Var j) (of.Var k) there less same at = inr (inr (inl (inl (duplicate_name_found h _ _ of.Var (vars_listed h legal long small law) j k offset less (omega (arith, there, length-map h.schema.vars (λ (d : Var). d.name))) same at))))
   repeated offset (of.Attr w j) (of.Attr i k) there less same at =
       let t = var_there i there.0 in
       let e = ap (λ xs. length (first_attrs xs)) (at_var h.schema.vars i t.0 t.1).1 in
       let own : name_of h.schema (of.Attr i j) ≡ name_of h.schema (of.Attr i k) = ap (λ n. name_of h.schema (of.Attr n j)) (sym less.0) ∙ same in
-      inr (inr (inl (inr (i, there.0, (t.0, t.1, repeat_found h _ _ (of.Attr i) (attrs_listed h legal long small law i t.0 there.0 t.1) j k offset less.1 (omega (arith, there.1, e, length-map t.0.attrs (λ (d : Attr). d.name))) own at)))))
+      inr (inr (inl (inr (i, there.0, (t.0, t.1, duplicate_name_found h _ _ (of.Attr i) (attrs_listed h legal long small law i t.0 there.0 t.1) j k offset less.1 (omega (arith, there.1, e, length-map t.0.attrs (λ (d : Attr). d.name))) own at)))))
   repeated offset (of.Dim j) (of.Global k) there less same at = absurd less
   repeated offset (of.Dim j) (of.Var k) there less same at = absurd less
   repeated offset (of.Dim j) (of.Attr i k) there less same at = absurd less

@@ -4,10 +4,10 @@ use Rattle.ncc_store.specs.declared.store.Store.{Ghosts}
 use Rattle.ncc_schema.specs.declared.schema.Header.{Header}
 use Rattle.ncc_header.specs.declared.fault.Fault.{Fault}
 use Rattle.ncc_header.specs.declared.decoder.Decoder.{Decoder}
-use Rattle.ncc_header.specs.declared.standing.Fed.{Fed}
+use Rattle.ncc_header.specs.declared.state.Fed.{Fed}
 use Rattle.ncc_header.specs.Answers.{Begins, Stops}
 use Rattle.ncc_header.specs.Decoder.{Took, limit_of}
-use Rattle.ncc_header.specs.Standing.{StopsForGood, IsWhole, Feeds, front_taken}
+use Rattle.ncc_header.specs.State.{StopsForGood, IsWhole, Feeds, front_taken}
 use Rattle.ncc_check.specs.declared.fault.FileFault.TheVariants.{Header as OfHeader, Layout as OfLayout}
 use Rattle.ncc_check.specs.declared.fault.Refusal.{Refusal}
 use Rattle.ncc_check.specs.declared.fault.Refusal.TheVariants as refusals

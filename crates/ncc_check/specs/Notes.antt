@@ -55,7 +55,7 @@ abbrev pub with_words : (words : List ℕ) → List Place → List Place
 with_words (w ∷ words) (p ∷ places) = record { vsize = w; begin = p.begin } ∷ with_words words places
 with_words _ _ = []
 
-pub record HasOtherVsize (h : Header) (offset : ℕ) : Type 0 where
+pub record HasVsizeFieldNote (h : Header) (offset : ℕ) : Type 0 where
   pub number : ℕ
   pub there : number < length h.schema.vars
   pub other : get_or (vsizes h.places) number 0 ≢ get_or (vsize_words h.schema) number 0
@@ -63,7 +63,7 @@ pub record HasOtherVsize (h : Header) (offset : ℕ) : Type 0 where
 
 -- ---- names
 
-pub record HasBadName (h : Header) (offset : ℕ) : Type 0 where
+pub record HasNameRuleNote (h : Header) (offset : ℕ) : Type 0 where
   pub named : NameOf
   pub there : HasName h.schema named
   pub bad : ¬ FitsAsName (name_of h.schema named)
@@ -77,7 +77,7 @@ IsEarlier (of.Var i) (of.Var j) = i < j
 IsEarlier (of.Attr v i) (of.Attr w j) = (v ≡ w) × (i < j)
 IsEarlier _ _ = ⊥
 
-pub record HasRepeatedName (h : Header) (offset : ℕ) : Type 0 where
+pub record HasDuplicateNameNote (h : Header) (offset : ℕ) : Type 0 where
   pub earlier : NameOf
   pub later : NameOf
   pub earlier_there : HasName h.schema earlier
@@ -91,14 +91,14 @@ pub record HasRepeatedName (h : Header) (offset : ℕ) : Type 0 where
 abbrev pub extents_in : Header → List Extent
 extents_in h = extents_of h.schema (places_of h.places)
 
-pub record HasUnalignedBegin (h : Header) (offset : ℕ) : Type 0 where
+pub record HasUnalignedBeginNote (h : Header) (offset : ℕ) : Type 0 where
   pub extent : Extent
   pub there : Contains (extents_in h) extent
   pub unaligned : extent.begin % 4 ≢ 0
   pub at : offset ≡ begin_field h.places extent.variable
 
 -- a variable begins before an earlier one of its kind, fixed or record
-pub record HasSwappedBegins (h : Header) (offset : ℕ) : Type 0 where
+pub record HasOrderNote (h : Header) (offset : ℕ) : Type 0 where
   pub earlier : Extent
   pub later : Extent
   pub earlier_there : Contains (extents_in h) earlier
@@ -126,13 +126,13 @@ pub record HasLargeLength (h : Header) (offset : ℕ) : Type 0 where
 
 -- a note of this kind is due at this offset
 abbrev pub IsDue : Header → NoteKind → (offset : ℕ) → Type 0
-IsDue h VsizeField offset = HasOtherVsize h offset
+IsDue h VsizeField offset = HasVsizeFieldNote h offset
 IsDue h HeaderPadding offset = Contains h.marks (marks.Padding offset)
 IsDue h TaggedEmpty offset = Contains h.marks (marks.TaggedEmpty offset)
-IsDue h NameRule offset = HasBadName h offset
-IsDue h DuplicateName offset = HasRepeatedName h offset
-IsDue h UnalignedBegin offset = HasUnalignedBegin h offset
-IsDue h Order offset = HasSwappedBegins h offset
+IsDue h NameRule offset = HasNameRuleNote h offset
+IsDue h DuplicateName offset = HasDuplicateNameNote h offset
+IsDue h UnalignedBegin offset = HasUnalignedBeginNote h offset
+IsDue h Order offset = HasOrderNote h offset
 IsDue h LargeCount offset = (HasLargeCount h.schema h.schema.count × (offset ≡ numrecs_at)) ⊎ HasLargeLength h offset
 
 abbrev pub rank : NoteKind → ℕ

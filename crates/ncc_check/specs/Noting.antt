@@ -65,14 +65,14 @@ pub record NamesUpTo {A : Type 0} (name item : A → List ℕ) (start : ℕ) (it
   pub names : names_in named ++ map name (drop i items) ≡ map name items
   pub offsets : offsets_in named ++ offsets_from item at (drop i items) ≡ offsets_from item start items
 
-abbrev pub BadName : (names : List (List ℕ)) (offsets : List ℕ) → ℕ → Note → Type 0
-BadName names offsets k n = NoteIf (¬ FitsAsName (get_or names k [])) NameRule (get_or offsets k 0) n
+abbrev pub NameRuleNote : (names : List (List ℕ)) (offsets : List ℕ) → ℕ → Note → Type 0
+NameRuleNote names offsets k n = NoteIf (¬ FitsAsName (get_or names k [])) NameRule (get_or offsets k 0) n
 
-abbrev pub IsRepeated : (names : List (List ℕ)) → ℕ → List ℕ → Type 0
-IsRepeated names k name = (j : ℕ) × (j < k) × (get_or names j [] ≡ name)
+abbrev pub IsDuplicate : (names : List (List ℕ)) → ℕ → List ℕ → Type 0
+IsDuplicate names k name = (j : ℕ) × (j < k) × (get_or names j [] ≡ name)
 
-abbrev pub Repeated : (names : List (List ℕ)) (offsets : List ℕ) → ℕ → Note → Type 0
-Repeated names offsets k n = NoteIf (IsRepeated names k (get_or names k [])) DuplicateName (get_or offsets k 0) n
+abbrev pub DuplicateNameNote : (names : List (List ℕ)) (offsets : List ℕ) → ℕ → Note → Type 0
+DuplicateNameNote names offsets k n = NoteIf (IsDuplicate names k (get_or names k [])) DuplicateName (get_or offsets k 0) n
 
 -- the last bytes of a name as a number, 8 of them at most
 abbrev pub key_of_name : List ℕ → ℕ
@@ -87,7 +87,7 @@ AreTaken keys n taken = (j : ℕ) → j < n → get_or taken (get_or keys j 0 % 
 
 -- the notes of a list of names
 abbrev pub NameNotes : (names : List (List ℕ)) (offsets : List ℕ) → Note → Type 0
-NameNotes names offsets n = Below (BadName names offsets) (length names) n ⊎ Below (Repeated names offsets) (length names) n
+NameNotes names offsets n = Below (NameRuleNote names offsets) (length names) n ⊎ Below (DuplicateNameNote names offsets) (length names) n
 
 -- ---- the lists of names of a header
 
@@ -118,8 +118,8 @@ AttrNotesAt v vars offsets k n = (x : Var) × (slice_get vars k ≡ Some x) × V
 
 -- ---- numbers
 
-abbrev pub LargeLength : Version → List Dim → (names : List (List ℕ)) (offsets : List ℕ) → ℕ → Note → Type 0
-LargeLength v dims names offsets k n =
+abbrev pub LargeLengthNote : Version → List Dim → (names : List (List ℕ)) (offsets : List ℕ) → ℕ → Note → Type 0
+LargeLengthNote v dims names offsets k n =
     NoteIf (count_limit v ≤ get_or (lengths dims) k 0) LargeCount (capped (get_or offsets k 0 + length (canon_name v (get_or names k [])))) n
 
 abbrev pub dim_names : List Dim → List (List ℕ)
@@ -132,10 +132,10 @@ dim_offsets s = offsets_from (canon_dim s.version) (capped (head_size s.version 
 abbrev pub DimNotes : Schema → Note → Type 0
 DimNotes s n =
     NameNotes (dim_names s.dims) (dim_offsets s) n
-    ⊎ Below (LargeLength s.version s.dims (dim_names s.dims) (dim_offsets s)) (length s.dims) n
+    ⊎ Below (LargeLengthNote s.version s.dims (dim_names s.dims) (dim_offsets s)) (length s.dims) n
 
-abbrev pub CountNote : Schema → Note → Type 0
-CountNote s n = NoteIf (HasLargeCount s s.count) LargeCount numrecs_at n
+abbrev pub LargeCountNote : Schema → Note → Type 0
+LargeCountNote s n = NoteIf (HasLargeCount s s.count) LargeCount numrecs_at n
 
 -- ---- marks
 
@@ -184,7 +184,7 @@ pub record IsGreatest (kinds : List Bool) (places : List VarPlace) (i : ℕ) (ki
 
 abbrev pub Found : Header → (sizes : List ℕ) → Note → Type 0
 Found h sizes n =
-    (Below (MarkNote h.marks) (length h.marks) n ⊎ CountNote h.schema n)
+    (Below (MarkNote h.marks) (length h.marks) n ⊎ LargeCountNote h.schema n)
     ⊎ ((DimNotes h.schema n ⊎ GlobalNotes h.schema n)
     ⊎ ((VarNotes h.schema n ⊎ Below (AttrNotesAt h.schema.version h.schema.vars (var_offsets h.schema)) (length h.schema.vars) n)
     ⊎ Below (PlaceNotesAt h.schema.version (kinds_of h.schema) sizes h.places) (length h.places) n))
@@ -208,5 +208,5 @@ texts_of keys = map (λ k. k.now) keys
 
 -- the keys are the first names
 pub record Seen (names : List (List ℕ)) (i : ℕ) (keys : List (Bor (List ℕ))) : Type 0 where
-  pub in_table : (name : List ℕ) → IsRepeated names i name → Contains (texts_of keys) name
-  pub from_names : (name : List ℕ) → Contains (texts_of keys) name → IsRepeated names i name
+  pub in_table : (name : List ℕ) → IsDuplicate names i name → Contains (texts_of keys) name
+  pub from_names : (name : List ℕ) → Contains (texts_of keys) name → IsDuplicate names i name

@@ -14,7 +14,7 @@ mod placing;
 mod pushing;
 
 use crate::note::Note;
-use crate::notes::counting::{note_count, note_marks};
+use crate::notes::counting::{note_large_count, note_marks};
 use crate::notes::naming::{note_dims, note_globals, note_vars};
 use crate::notes::ordering::in_order;
 use crate::notes::placing::note_places;
@@ -37,7 +37,7 @@ pub fn notes_of(alloc: Global, header: &Header, sizes: &Sizes) -> Result<Vec<Not
     name_is_there();
     let mut notes = Vec::new(alloc);
     note_marks(header.marks.as_slice(), &mut notes)?;
-    note_count(&header.schema, &mut notes)?;
+    note_large_count(&header.schema, &mut notes)?;
     note_dims(alloc, &header.schema, &mut notes)?;
     note_globals(alloc, &header.schema, &mut notes)?;
     note_vars(alloc, &header.schema, &mut notes)?;

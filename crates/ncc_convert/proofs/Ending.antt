@@ -21,12 +21,12 @@ use Rattle.ncc_build.specs.declared.fault.WriteFault.{WriteFault}
 use Rattle.ncc_build.specs.declared.fault.WriteFault.TheVariants as fault
 use Rattle.ncc_write.specs.Headline.{PassesAndReads}
 use Rattle.ncc_write.specs.Laws.{CompleteWhenTaken, DatasetTold, IsCompleted}
-use Rattle.ncc_write.specs.Writing.{IsExactly, IsFront, Next, StartFails, Standing, Went, data_length, dataset_of, expected, next_of, refuses_finish, refuses_unfinished, told}
+use Rattle.ncc_write.specs.Writing.{IsExactly, IsFront, Next, StartFails, WriterState, Went, data_length, dataset_of, expected, next_of, refuses_finish, refuses_unfinished, told}
 use Rattle.ncc_write.proofs.SlabsAt.{HasValues, all_have_values}
 use Rattle.ncc_convert.specs.Copying.{HasFront}
-use Rattle.ncc_convert.specs.Converting.{ConvertCounts, ConvertsAs, ReadsAs, halt_of}
-use Rattle.ncc_lines.specs.declared.halt.Halt.{Halt}
-use Rattle.ncc_lines.specs.declared.halt.Halt.TheVariants.{Memory}
+use Rattle.ncc_convert.specs.Converting.{ConvertCounts, ConvertsAs, ReadsAs, send_error_of}
+use Rattle.ncc_lines.specs.declared.send_error.SendError.{SendError}
+use Rattle.ncc_lines.specs.declared.send_error.SendError.TheVariants.{Memory}
 use Rattle.ncc_convert.specs.Found.{IsOf}
 
 -- ---- all values
@@ -46,7 +46,7 @@ long_by d (b ∷ slabs) (v ∷ values) all =
 data_long : (d : Dataset) → IsDataset d → length (data_of d) ≡ data_length d.schema
 data_long d is = long_by d (slabs_of d.schema) (in_order d) (all_have_values d is)
 
-pub nothing_next : (w : Standing) → w.failed ≡ false → None ≡ expected w → next_of w.schema w.taken ≡ None
+pub nothing_next : (w : WriterState) → w.failed ≡ false → None ≡ expected w → next_of w.schema w.taken ≡ None
 nothing_next w goes none = by (next_of w.schema w.taken) refl
   where
     by : (o : Option Next) → next_of w.schema w.taken ≡ o → next_of w.schema w.taken ≡ None
@@ -54,7 +54,7 @@ nothing_next w goes none = by (next_of w.schema w.taken) refl
     by (Some n) is = absurd (cc (none
         ∙ ap (λ (failed : Bool). if failed then None else told (next_of w.schema w.taken)) goes ∙ ap told is))
 
-pub all_taken : (e : Dataset) → IsDataset e → (w : Standing) → e.schema ≡ w.schema → IsFront w.taken (data_of e)
+pub all_taken : (e : Dataset) → IsDataset e → (w : WriterState) → e.schema ≡ w.schema → IsFront w.taken (data_of e)
     → CompleteWhenTaken → next_of w.schema w.taken ≡ None → data_of e ≡ w.taken
 all_taken e is w same (rest, joined) complete none =
     let filled = (complete w.schema w.taken).0 none in
@@ -62,13 +62,13 @@ all_taken e is w same (rest, joined) complete none =
     let no_rest : rest ≡ [] = nil_from_length rest (omega (arith, filled, long, ap (λ (l : List ℕ). length l) joined, length-append w.taken rest)) in
     joined ∙ ap (λ (l : List ℕ). w.taken ++ l) no_rest ∙ append-nil w.taken
 
-pub is_the_file : (e : Dataset) → IsDataset e → (w : Standing) → e.schema ≡ w.schema → data_of e ≡ w.taken → DatasetTold
+pub is_the_file : (e : Dataset) → IsDataset e → (w : WriterState) → e.schema ≡ w.schema → data_of e ≡ w.taken → DatasetTold
     → (out : List ℕ) → ∥ IsCompleted w.schema w.taken out ∥₁ → out ≡ file_of e
 is_the_file e is w same taken law out completed =
     let dataset : dataset_of w.schema w.taken ≡ e = ap₂ dataset_of (sym same) (sym taken) ∙ law e is in
     ∥∥₁_elim completed (hlevel props) (λ (c : IsCompleted w.schema w.taken out). c.file_is ∙ ap file_of dataset)
 
-pub not_unfinished : (T : Type 0) {E : Type 0} (w : Standing) (why : E → WriteFault) (e : E) → w.failed ≡ false
+pub not_unfinished : (T : Type 0) {E : Type 0} (w : WriterState) (why : E → WriteFault) (e : E) → w.failed ≡ false
     → next_of w.schema w.taken ≡ None → IsExactly {T = T} why (refuses_finish w) (Err e) → ⊥
 not_unfinished T w why e goes none answer =
     subst (λ (o : Option WriteFault). IsExactly {T = T} why o (Err e))
@@ -99,13 +99,13 @@ by_fault old new m n header P fault.Failed fails memory device = absurd fails
 by_fault old new m n header P fault.Complete fails memory device = absurd fails
 
 pub start_counts : (old new : Option (List ℕ)) (k m n : ℕ) (header : List ℕ) (e : WriteFault)
-    → StartFails old new m n header e → ConvertCounts k k m n (Err (halt_of e))
-start_counts old new k m n header e fails = by_fault old new m n header (λ f. ConvertCounts k k m n (Err (halt_of f))) e fails
+    → StartFails old new m n header e → ConvertCounts k k m n (Err (send_error_of e))
+start_counts old new k m n header e fails = by_fault old new m n header (λ f. ConvertCounts k k m n (Err (send_error_of f))) e fails
     (λ memory. (refl, memory.1)) (λ device. inr (refl, device.1))
 
 pub start_memory : (old new : Option (List ℕ)) (m n : ℕ) (header : List ℕ) (e : WriteFault)
-    → StartFails old new m n header e → halt_of e ≡ Memory → e ≡ fault.Memory
-start_memory old new m n header e fails = by_fault old new m n header (λ f. halt_of f ≡ Memory → f ≡ fault.Memory) e fails
+    → StartFails old new m n header e → send_error_of e ≡ Memory → e ≡ fault.Memory
+start_memory old new m n header e fails = by_fault old new m n header (λ f. send_error_of f ≡ Memory → f ≡ fault.Memory) e fails
     (λ memory is. refl) (λ device is. absurd (cc is))
 
 pub nothing_went : (tells : Bool) (file : List ℕ) (p : Placed) (t : Schema) (put : Option (List ℕ))
@@ -124,18 +124,18 @@ module _ (tells : Bool) (file : List ℕ) (p : Placed) (t : Schema) (old new : O
           (rest ++ rows, ap (λ (l : List ℕ). l ++ rows) header ∙ append_assoc out rest rows)
 
   pub start_failed : (m n : ℕ) (e : WriteFault) → StartFails old new m n (header_of t) e
-      → ConvertsAs tells file p t old new (Err (halt_of e))
-  start_failed m n e fails = by_fault old new m n (header_of t) (λ f. ConvertsAs tells file p t old new (Err (halt_of f))) e
+      → ConvertsAs tells file p t old new (Err (send_error_of e))
+  start_failed m n e fails = by_fault old new m n (header_of t) (λ f. ConvertsAs tells file p t old new (Err (send_error_of f))) e
       fails (λ memory. subst (HasFront tells file p t old) (sym memory.0) (nothing_went tells file p t old))
       (λ device. header_went device.0)
 
 -- ---- the whole file
 
-abbrev error_or : Halt → Result (Unit {0}) Halt → Halt
+abbrev error_or : SendError → Result (Unit {0}) SendError → SendError
 error_or f (Ok x) = f
 error_or f (Err h) = h
 
-pub error_is : (f h : Halt) → ◌≡◌ {A = Result (Unit {0}) Halt} (Err f) (Err h) → f ≡ h
+pub error_is : (f h : SendError) → ◌≡◌ {A = Result (Unit {0}) SendError} (Err f) (Err h) → f ≡ h
 error_is f h e = ap (error_or f) e
 
 -- what was taken is the dataset of the open file, so that is what is read

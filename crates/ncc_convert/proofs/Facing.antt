@@ -17,7 +17,7 @@ use Rattle.ncc_build.specs.Dataset.{Slab}
 use Rattle.ncc_write.specs.declared.writer.FileWriter.{FileWriter}
 use Rattle.ncc_write.specs.Laws.{CompleteWhenTaken}
 use Rattle.ncc_write.specs.Writer.{schema_in, taken_in}
-use Rattle.ncc_write.specs.Writing.{Next, Standing, data_length, expected, next_of, told}
+use Rattle.ncc_write.specs.Writing.{Next, WriterState, data_length, expected, next_of, told}
 use Rattle.ncc_write.proofs.NextSlabs.{IsNext, is_next}
 use Rattle.ncc_write.proofs.SlabsAt.{IsAmong}
 use Rattle.ncc_write.proofs.TakenIn.{taken_is}
@@ -49,7 +49,7 @@ told_some (Some n) var number left e = record {
 }
 
 -- where it is, and how far the next element is in it
-pub record Faces (p : Placed) (w : Standing) (var number left : ℕ) : Type 0 where
+pub record Faces (p : Placed) (w : WriterState) (var number left : ℕ) : Type 0 where
   pub n : Next
   pub next_is : next_of w.schema w.taken ≡ Some n
   pub among : IsAmong w.schema n.slab
@@ -73,8 +73,8 @@ below_by a b not_most = by (ltb a b) refl
 module _ {W : Type 0} (b tells : Bool) (file : List ℕ) (s : Schema) (p : Placed) (start put : Option (List ℕ))
     (x : FileWriter W) (stands : ∥ StandsIn b file s p ∥₁) (planned : IsPlanned s p (schema_in x))
     (copies : Copies tells file p start put x) where
-  abbrev w : Standing
-  w = copies.standing
+  abbrev w : WriterState
+  w = copies.state
 
   pub planned_is : IsPlanned s p w.schema
   planned_is = subst (IsPlanned s p) copies.stands.schema planned

@@ -45,7 +45,7 @@ module _ (bytes : List ℕ) (limit : ℕ) (s : Schema) (p : Placed) (opens : Ope
           typed = record { dims = begun.typed.dims; gatts = begun.typed.gatts; vars = begun.typed.vars };
           counted = tt;
           many = begun.legal.number;
-          within = opens.passes.placed.rules.within;
+          within = opens.passes.placed.rules.not_truncated;
         }
 
     abbrev Held : ℕ → List PlacedVar → Type 0

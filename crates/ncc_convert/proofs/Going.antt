@@ -10,16 +10,16 @@ use Rattle.ncc_build.specs.File.{file_of}
 use Rattle.ncc_build.specs.declared.fault.WriteFault.{WriteFault}
 use Rattle.ncc_build.specs.declared.fault.WriteFault.TheVariants.{Device}
 use Rattle.ncc_write.specs.Laws.{OutIsInFiles}
-use Rattle.ncc_write.specs.Outlet.{waiting}
+use Rattle.ncc_write.specs.PagedSink.{waiting}
 use Rattle.ncc_write.specs.Writer.{Stands}
-use Rattle.ncc_write.specs.Writing.{IsAnswer, IsFront, IsFrontOfFiles, IsOutBy, Next, Standing, Went, next_of, refuses_put}
+use Rattle.ncc_write.specs.Writing.{IsAnswer, IsFront, IsFrontOfFiles, IsOutBy, Next, WriterState, Went, next_of, refuses_put}
 use Rattle.ncc_write.specs.declared.writer.FileWriter.{FileWriter}
 use Rattle.ncc_write.proofs.Refusing.{taken}
 
 -- ---- a piece isn't refused
 
 -- so an error is the sink's
-pub device_is : (w : Standing) (t : XType) (k : ℕ) (piece : List ℕ) (n : Next) → w.failed ≡ false
+pub device_is : (w : WriterState) (t : XType) (k : ℕ) (piece : List ℕ) (n : Next) → w.failed ≡ false
     → next_of w.schema w.taken ≡ Some n → t ≡ n.slab.var.xtype → length piece ≡ k * size_of t → k ≤ n.left
     → (e : WriteFault) → IsAnswer {T = Unit {0}} (λ (f : WriteFault). f) (refuses_put w (values_of t piece)) (Err e)
     → e ≡ Device
@@ -66,19 +66,19 @@ piece_long t k piece long =
 
 -- ---- what went out
 
-module _ {W : Type 0} (start put : Option (List ℕ)) (x : FileWriter W) (w : Standing) (at : Stands start put x w)
+module _ {W : Type 0} (start put : Option (List ℕ)) (x : FileWriter W) (w : WriterState) (at : Stands start put x w)
     (e : Dataset) (is : IsDataset e) (same : e.schema ≡ w.schema) (front : IsFront w.taken (data_of e)) where
   -- of a writer whose sink didn't fail
   pub went_so_far : w.failed ≡ false → OutIsInFiles → Went start put (λ out. IsFront out (file_of e))
   went_so_far goes law =
       let out = at.out in
-      let joined : out.0 ++ waiting x.outlet ≡ _ = subst (λ (b : Bool). IsOutBy b w (waiting x.outlet) out.0) goes out.2 in
-      (out.0, out.1, law w.schema w.taken out.0 (waiting x.outlet, sym joined) e is same front)
+      let joined : out.0 ++ waiting x.paged_sink ≡ _ = subst (λ (b : Bool). IsOutBy b w (waiting x.paged_sink) out.0) goes out.2 in
+      (out.0, out.1, law w.schema w.taken out.0 (waiting x.paged_sink, sym joined) e is same front)
 
   -- of one whose sink failed
   pub went_failed : w.failed ≡ true → Went start put (λ out. IsFront out (file_of e))
   went_failed failed =
       let out = at.out in
       let fronts : IsFrontOfFiles w.schema w.taken out.0 =
-      subst (λ (b : Bool). IsOutBy b w (waiting x.outlet) out.0) failed out.2 in
+      subst (λ (b : Bool). IsOutBy b w (waiting x.paged_sink) out.0) failed out.2 in
       (out.0, out.1, fronts e is same front)

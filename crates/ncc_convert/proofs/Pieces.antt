@@ -22,7 +22,7 @@ use Rattle.ncc_build.specs.Dataset.{Dataset, IsDataset, data_of}
 use Rattle.ncc_write.specs.declared.writer.FileWriter.{FileWriter}
 use Rattle.ncc_write.specs.Holds.{bytes_at, stored_at, value_at, vars_of as vars_of_dataset}
 use Rattle.ncc_write.specs.Writer.{schema_in}
-use Rattle.ncc_write.specs.Writing.{IsFront, IsWhole, Standing, next_of}
+use Rattle.ncc_write.specs.Writing.{IsFront, IsWhole, WriterState, next_of}
 use Rattle.ncc_write.proofs.FileSlabs.{read_there, slab_is_held}
 use Rattle.ncc_write.proofs.NextPieces.{ComesFrom, comes_from}
 use Rattle.ncc_write.proofs.Taking.{bytes_behind, bytes_first}
@@ -53,11 +53,11 @@ front_grows front whole piece m (rest, joined) is =
 module _ {W : Type 0} (b tells : Bool) (file : List ℕ) (s : Schema) (p : Placed) (start put : Option (List ℕ))
     (x : FileWriter W) (stands : ∥ StandsIn b file s p ∥₁) (planned : IsPlanned s p (schema_in x))
     (copies : Copies tells file p start put x) (var number left : ℕ) (next : Expects put x var number left)
-    (d : Dataset) (is : IsDataset d) (of : IsOf file p copies.standing.schema d)
+    (d : Dataset) (is : IsDataset d) (of : IsOf file p copies.state.schema d)
     (room : slab_begin (record_size_of_file p) (var_at (vars_of p) var) number + (var_at (vars_of p) var).extent.slab
     ≤ length file) where
-  abbrev w : Standing
-  w = copies.standing
+  abbrev w : WriterState
+  w = copies.state
 
   abbrev f : Faces p w var number left
   f = faces b tells file s p start put x stands planned copies var number left next

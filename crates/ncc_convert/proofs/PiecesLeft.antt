@@ -8,12 +8,12 @@ use Rattle.ncc_schema.specs.declared.schema.Schema.{Schema}
 use Rattle.ncc_build.specs.Dataset.{slabs_of}
 use Rattle.ncc_write.specs.declared.writer.FileWriter.{FileWriter}
 use Rattle.ncc_write.specs.Writer.{Stands, schema_in}
-use Rattle.ncc_write.specs.Writing.{Next, Standing, next_of, starting}
+use Rattle.ncc_write.specs.Writing.{Next, WriterState, next_of, starting}
 use Rattle.ncc_write.proofs.TakenIn.{taken_is}
 use Rattle.ncc_convert.specs.Copying.{pieces_behind, pieces_left, pieces_of}
 use Rattle.ncc_convert.proofs.PieceCounts.{Ends, at_first, falls, whole_buffer}
 
-pub pieces_are : {W : Type 0} (start put : Option (List ℕ)) (x : FileWriter W) (w : Standing)
+pub pieces_are : {W : Type 0} (start put : Option (List ℕ)) (x : FileWriter W) (w : WriterState)
     → Stands start put x w → w.failed ≡ false
     → pieces_left x ≡ pieces_behind w.schema (slabs_of w.schema) (length w.taken)
 pieces_are start put x w stands goes =
@@ -25,7 +25,7 @@ pub at_start : {W : Type 0} (start put : Option (List ℕ)) (x : FileWriter W) (
     → Stands start put x (starting t) → pieces_left x ≤ pieces_of t (slabs_of t)
 at_start start put x t stands = omega (arith, pieces_are start put x (starting t) stands refl, at_first t (slabs_of t))
 
-module _ {W : Type 0} (start put : Option (List ℕ)) (x : FileWriter W) (w : Standing) (stands : Stands start put x w)
+module _ {W : Type 0} (start put : Option (List ℕ)) (x : FileWriter W) (w : WriterState) (stands : Stands start put x w)
     (goes : w.failed ≡ false) where
   module _ (n : Next) (next : next_of w.schema w.taken ≡ Some n) where
     pub one_left : 1 ≤ pieces_left x
@@ -36,7 +36,7 @@ module _ {W : Type 0} (start put : Option (List ℕ)) (x : FileWriter W) (w : St
     )
 
     -- with a piece of so many elements, one less
-    pub fewer : {W : Type 0} (k : ℕ) (put_then : Option (List ℕ)) (y : FileWriter W) (v : Standing)
+    pub fewer : {W : Type 0} (k : ℕ) (put_then : Option (List ℕ)) (y : FileWriter W) (v : WriterState)
         → Stands start put_then y v → v.failed ≡ false → v.schema ≡ w.schema
         → length v.taken ≡ length w.taken + k * size_of n.slab.var.xtype → k ≤ n.left → Ends w.schema n k
         → pieces_left y + 1 ≤ pieces_left x

@@ -8,8 +8,8 @@ use Rattle.ncc_build.specs.Dataset.{Dataset, IsDataset}
 use Rattle.ncc_build.specs.File.{file_of}
 use Rattle.ncc_build.specs.declared.fault.WriteFault.{WriteFault}
 use Rattle.ncc_build.specs.declared.fault.WriteFault.TheVariants as write
-use Rattle.ncc_lines.specs.declared.halt.Halt.{Halt}
-use Rattle.ncc_lines.specs.declared.halt.Halt.TheVariants.{Device, Memory}
+use Rattle.ncc_lines.specs.declared.send_error.SendError.{SendError}
+use Rattle.ncc_lines.specs.declared.send_error.SendError.TheVariants.{Device, Memory}
 use Rattle.ncc_write.specs.Headline.{PassesAndReads}
 use Rattle.ncc_write.specs.Laws.{IsCompleted}
 use Rattle.ncc_convert.specs.Copying.{HasFront}
@@ -22,7 +22,7 @@ pub record HasFile (told : Bool) (file : List ℕ) (p : Placed) (planned : Schem
 
 -- by the answer
 abbrev pub ConvertsAs : (told : Bool) → (file : List ℕ) → Placed → (planned : Schema)
-    → (start put : Option (List ℕ)) → Result (Unit {0}) Halt → Type 0
+    → (start put : Option (List ℕ)) → Result (Unit {0}) SendError → Type 0
 ConvertsAs told file p t start put (Ok x) = HasFile told file p t start put
 ConvertsAs told file p t start put (Err e) = HasFront told file p t start put
 
@@ -36,11 +36,11 @@ pub record ReadsAs (told : Bool) (file : List ℕ) (p : Placed) (t : Schema) (li
   pub is : IsTrue told → (d : Dataset) → IsDataset d → IsOf file p t d → ∥ PassesAndReads d t out limit ∥₁
 
 -- a failure of the device is counted, of the store or of the sink, and nothing else
-abbrev pub ConvertCounts : (old_store new_store old_sink new_sink : ℕ) → Result (Unit {0}) Halt → Type 0
+abbrev pub ConvertCounts : (old_store new_store old_sink new_sink : ℕ) → Result (Unit {0}) SendError → Type 0
 ConvertCounts m n i j (Err Device) = (Rose m n × (j ≡ i)) ⊎ ((n ≡ m) × Rose i j)
 ConvertCounts m n i j result = (n ≡ m) × (j ≡ i)
 
 -- why a writer didn't start
-abbrev pub halt_of : WriteFault → Halt
-halt_of write.Memory = Memory
-halt_of other = Device
+abbrev pub send_error_of : WriteFault → SendError
+send_error_of write.Memory = Memory
+send_error_of other = Device

@@ -7,13 +7,13 @@ ghost use Rattle.ncc_build.specs.File.{header_of};
 ghost use Rattle.ncc_layout.specs.Placed.{file_length_of};
 ghost use Rattle.ncc_check.specs.Files.{ReadsFile, store_of, schema_of, placed_of};
 ghost use Rattle.ncc_write.specs.Writing.{Went};
-ghost use Rattle.ncc_convert.specs.Converting.{ConvertCounts, ConvertsAs, IsSomeFile, ReadsAs, halt_of};
+ghost use Rattle.ncc_convert.specs.Converting.{ConvertCounts, ConvertsAs, IsSomeFile, ReadsAs, send_error_of};
 ghost use Rattle.ncc_convert.specs.Copying.{pieces_of};
 ghost use Rattle.ncc_write.specs.Planned.{IsPlanned};
 
 use crate::copying::copy_all;
 use ncc_check::NcFile;
-use ncc_lines::{Halt, Progress};
+use ncc_lines::{Progress, SendError};
 use ncc_schema::Sink;
 use ncc_store::Store;
 use ncc_write::laws::{complete_when_taken, dataset_told};
@@ -24,12 +24,12 @@ use std::alloc::Global;
 const BUFFER: usize = 65_536;
 
 /// Why a writer didn't start.
-fn halt_of(fault: WriteFault) -> Halt
-    ensures { result ≡ halt_of fault }
+fn send_error_of(fault: WriteFault) -> SendError
+    ensures { result ≡ send_error_of fault }
 {
     match fault {
-        WriteFault::Memory => Halt::Memory,
-        _ => Halt::Device,
+        WriteFault::Memory => SendError::Memory,
+        _ => SendError::Device,
     }
 }
 
@@ -42,7 +42,7 @@ pub fn convert<S: Store, W: Sink + Drop, P: Progress>(
     built: Built,
     sink: W,
     progress: &mut P,
-) -> (W, Result<(), Halt>)
+) -> (W, Result<(), SendError>)
     requires planned { IsPlanned (schema_of file.old) (placed_of file.old) (planned_schema built) }
     ensures converts { ConvertsAs S.tells_bytes (S.bytes (store_of file.old)) (placed_of file.old)
         (planned_schema built) (W.put sink) (W.put result.0) result.1 }
@@ -51,7 +51,7 @@ pub fn convert<S: Store, W: Sink + Drop, P: Progress>(
     ensures reads { OnOk result.1 ((limit : ℕ) → length (header_of (planned_schema built)) ≤ limit
         → Went (W.put sink) (W.put result.0) (ReadsAs S.tells_bytes (S.bytes (store_of file.old))
         (placed_of file.old) (planned_schema built) limit)) }
-    ensures memory { result.1 ≡ Err Halt.Memory → (result.0 ≡ sink) × (file.new ≡ file.old) }
+    ensures memory { result.1 ≡ Err SendError.Memory → (result.0 ≡ sink) × (file.new ≡ file.old) }
     ensures file { ReadsFile file.old file.new
         (λ a b. ConvertCounts a b (W.failures sink) (W.failures result.0) result.1) true
         (pieces_of (planned_schema built) (slabs_of (planned_schema built))) (file_length_of (placed_of file.old)) }
@@ -60,17 +60,17 @@ pub fn convert<S: Store, W: Sink + Drop, P: Progress>(
     complete_when_taken();
     headline();
     let Ok(mut buffer) = vec![in alloc; 0; BUFFER] else {
-        return (sink, Err(Halt::Memory));
+        return (sink, Err(SendError::Memory));
     };
     let mut writer = match FileWriter::start(alloc, built, sink) {
         Ok(writer) => writer,
-        Err((sink, fault)) => return (sink, Err(halt_of(fault))),
+        Err((sink, fault)) => return (sink, Err(send_error_of(fault))),
     };
     match copy_all(file, &mut writer, &mut buffer, progress) {
         Ok(()) => match writer.finish() {
             Ok(sink) => (sink, Ok(())),
             Err(_) => unreachable!(),
         },
-        Err(_) => (writer.into_sink(), Err(Halt::Device)),
+        Err(_) => (writer.into_sink(), Err(SendError::Device)),
     }
 }

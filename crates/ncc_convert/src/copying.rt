@@ -5,14 +5,14 @@ ghost use Rattle.ncc_values.specs.Failures.{Rose};
 ghost use Rattle.ncc_layout.specs.Placed.{file_length_of};
 ghost use Rattle.ncc_check.specs.Files.{ReadsFile, store_of, schema_of, placed_of};
 ghost use Rattle.ncc_write.specs.Writer.{schema_in, sink_in, taken_in, Stands};
-ghost use Rattle.ncc_write.specs.Writing.{data_length, expected, Standing};
+ghost use Rattle.ncc_write.specs.Writing.{data_length, expected, WriterState};
 ghost use Rattle.ncc_convert.specs.Copying.{Copies, CopyCounts, Expects, HasFront, pieces_left};
 ghost use Rattle.ncc_write.specs.Planned.{IsPlanned};
 
 use ncc_check::NcFile;
 use ncc_check::laws::{open_file_is_long, open_file_stands};
 use ncc_lines::Progress;
-use ncc_schema::{Failed, Sink};
+use ncc_schema::{Device, Sink};
 use ncc_slab::slab_place;
 use ncc_store::{Store, laws as store_laws};
 use ncc_write::FileWriter;
@@ -28,7 +28,7 @@ fn copy_piece<S: Store, W: Sink, P: Progress>(
     number: u64,
     left: u64,
     progress: &mut P,
-) -> Result<(), Failed>
+) -> Result<(), Device>
     requires room { length buffer.old ≡ 65536 }
     requires planned { IsPlanned (schema_of file.old) (placed_of file.old) (schema_in writer.old) }
     requires copies { (start : Option (List ℕ)) × Copies S.tells_bytes (S.bytes (store_of file.old))
@@ -69,11 +69,11 @@ fn copy_piece<S: Store, W: Sink, P: Progress>(
     let piece = &mut buffer[..count * size];
     match file.fetch(from, piece) {
         Ok(()) => progress.bytes(piece.len() as u64, all),
-        Err(_) => return Err(Failed),
+        Err(_) => return Err(Device),
     }
     match writer.put_bytes(xtype, piece) {
         Ok(()) => Ok(()),
-        Err(_) => Err(Failed),
+        Err(_) => Err(Device),
     }
 }
 
@@ -83,7 +83,7 @@ pub(crate) fn copy_all<S: Store, W: Sink, P: Progress>(
     writer: &mut FileWriter<W>,
     buffer: &mut [u8],
     progress: &mut P,
-) -> Result<(), Failed>
+) -> Result<(), Device>
     requires room { length buffer.old ≡ 65536 }
     requires planned { IsPlanned (schema_of file.old) (placed_of file.old) (schema_in writer.old) }
     requires copies { (start : Option (List ℕ)) × Copies S.tells_bytes (S.bytes (store_of file.old))
@@ -96,7 +96,7 @@ pub(crate) fn copy_all<S: Store, W: Sink, P: Progress>(
         (placed_of file.old) start (W.put (sink_in writer.old)) writer.old
         → OnErr result (HasFront S.tells_bytes (S.bytes (store_of file.old)) (placed_of file.old)
         (schema_in writer.old) start (W.put (sink_in writer.new))) }
-    ensures all { OnOk result ((start : Option (List ℕ)) (w : Standing)
+    ensures all { OnOk result ((start : Option (List ℕ)) (w : WriterState)
         → Stands start (W.put (sink_in writer.new)) writer.new w → None ≡ expected w) }
     ensures planned { schema_in writer.new ≡ schema_in writer.old }
     ensures file { ReadsFile file.old file.new

@@ -5,7 +5,7 @@ ghost use Rattle.ncc_lines.specs.Sends.{SendsAll, Blames};
 ghost use Rattle.ncc_convert.specs.Lines.{converted_line, plan_line};
 
 use ncc_build::WriteFault;
-use ncc_lines::Halt;
+use ncc_lines::SendError;
 use ncc_schema::{Sink, write_all};
 use ncc_values::Version;
 
@@ -34,10 +34,10 @@ fn plan_line(fault: WriteFault) -> &'static [u8]
 }
 
 /// Sends the line of a file that can't be planned, and takes no memory. After an `Err` a front of it is sent.
-pub fn send_plan_refusal<W: Sink>(fault: WriteFault, sink: &mut W) -> Result<(), Halt>
+pub fn send_plan_refusal<W: Sink>(fault: WriteFault, sink: &mut W) -> Result<(), SendError>
     ensures sent { SendsAll (W.put sink.old) (W.put sink.new) (plan_line fault) result }
     ensures count { Blames (W.failures sink.old) (W.failures sink.new) result }
-    ensures never { result ≢ Err Halt.Memory }
+    ensures never { result ≢ Err SendError.Memory }
 {
     write_all(sink, plan_line(fault))?;
     Ok(())
@@ -55,10 +55,10 @@ fn converted_line(version: Version) -> &'static [u8]
 }
 
 /// Sends the line of a file that was converted, and takes no memory. After an `Err` a front of it is sent.
-pub fn send_converted<W: Sink>(version: Version, sink: &mut W) -> Result<(), Halt>
+pub fn send_converted<W: Sink>(version: Version, sink: &mut W) -> Result<(), SendError>
     ensures sent { SendsAll (W.put sink.old) (W.put sink.new) (converted_line version) result }
     ensures count { Blames (W.failures sink.old) (W.failures sink.new) result }
-    ensures never { result ≢ Err Halt.Memory }
+    ensures never { result ≢ Err SendError.Memory }
 {
     write_all(sink, converted_line(version))?;
     Ok(())

@@ -10,7 +10,7 @@ use Rattle.ncc_values.specs.declared.raw.Char.{Char}
 use Rattle.ncc_schema.specs.Device.{Puts}
 use Rattle.ncc_lines.proofs.SendingText.{added, page_sends}
 use Rattle.ncc_lines.specs.Sends.{PutsFront, Sends}
-use Rattle.ncc_lines.specs.declared.halt.Halt.{Halt}
+use Rattle.ncc_lines.specs.declared.send_error.SendError.{SendError}
 use Rattle.ncc_slab.specs.Selection.{index_lists, index_of, selected_count}
 use Rattle.ncc_slab.specs.declared.slab.Slab.{Slab}
 use Rattle.ncc_csv.specs.Runs.{first_rows}
@@ -209,7 +209,7 @@ piece_of_all text chars n =
 -- ---- where the texts are sent
 
 -- the full rows, by an empty page
-pub full_sent : (s : Slab) (first : ℕ) (bytes : List ℕ) (g : Gathered) (old new : Option (List ℕ)) (page full left : List ℕ) (result : Result (Unit {0}) Halt) → page ≡ []
+pub full_sent : (s : Slab) (first : ℕ) (bytes : List ℕ) (g : Gathered) (old new : Option (List ℕ)) (page full left : List ℕ) (result : Result (Unit {0}) SendError) → page ≡ []
     → Gathers s first bytes g (λ rows. full ≡ page ++ rows) → Sends old new full left result → OnOk result (left ≡ []) → SendsFull s first bytes g old new result
 full_sent s first bytes g old new page full left (Ok u) none a sent empty =
     gathers_as s first bytes g (λ rows. full ≡ page ++ rows) (Puts old new)
@@ -219,7 +219,7 @@ full_sent s first bytes g old new page full left (Err h) none a sent empty =
     (λ t e. page_sends old old new page full left t (Err h) none (added old page full t e) sent empty) a.fills
 
 -- what a failed call says
-pub fails_full : (s : Slab) (first : ℕ) (bytes : List ℕ) (g : Gathered) (old new : Option (List ℕ)) (result : Result (Unit {0}) Halt) → IsErr result
+pub fails_full : (s : Slab) (first : ℕ) (bytes : List ℕ) (g : Gathered) (old new : Option (List ℕ)) (result : Result (Unit {0}) SendError) → IsErr result
     → Fills s first bytes (PutsFront old new) → SendsFull s first bytes g old new result
 fails_full s first bytes g old new (Ok u) failed front = absurd (cc)
 fails_full s first bytes g old new (Err h) failed front = front

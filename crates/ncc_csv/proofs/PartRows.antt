@@ -9,7 +9,7 @@ use Rattle.ncc_schema.specs.Device.{Puts}
 use Rattle.ncc_schema.proofs.Writing.{puts_both, puts_none}
 use Rattle.ncc_layout.specs.declared.placed_var.PlacedVar.{PlacedVar}
 use Rattle.std.specs.Prelude.{IsErr}
-use Rattle.ncc_lines.specs.declared.halt.Halt.{Halt}
+use Rattle.ncc_lines.specs.declared.send_error.SendError.{SendError}
 use Rattle.ncc_lines.specs.Sends.{PutsFront}
 use Rattle.ncc_slab.specs.Laws.{PartHasNumbers}
 use Rattle.ncc_slab.specs.Selected.{places_of, AddsPlaces}
@@ -80,6 +80,6 @@ module _ (style : FloatStyle) (file : List ℕ) (record_size : ℕ) (x : PlacedV
 pub no_front : (put : Option (List ℕ)) (text : List ℕ) → PutsFront put put text
 no_front put text = ([], text, refl, puts_none put)
 
-pub fails_next : (rows : ℕ → List ℕ) (left : ℕ) (old new : Option (List ℕ)) (result : Result ℕ Halt) → IsErr result → PutsFront old new (rows left) → SendsNext rows left old new result
+pub fails_next : (rows : ℕ → List ℕ) (left : ℕ) (old new : Option (List ℕ)) (result : Result ℕ SendError) → IsErr result → PutsFront old new (rows left) → SendsNext rows left old new result
 fails_next rows left old new (Ok n) failed front = absurd (cc)
 fails_next rows left old new (Err e) failed front = front

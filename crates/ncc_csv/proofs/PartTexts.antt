@@ -10,7 +10,7 @@ use Rattle.ncc_values.specs.declared.values.Values.{Values}
 use Rattle.ncc_values.specs.declared.values.Values.TheVariants.{Bytes, Chars, Shorts, Ints, Floats, Doubles, UBytes, UShorts, UInts, Int64s, UInt64s}
 use Rattle.ncc_values.specs.declared.xtype.XType.{XType}
 use Rattle.ncc_lines.specs.Sends.{PutsFront, SendsAll}
-use Rattle.ncc_lines.specs.declared.halt.Halt.{Halt}
+use Rattle.ncc_lines.specs.declared.send_error.SendError.{SendError}
 use Rattle.ncc_slab.specs.Selected.{part_of, numbers_of}
 use Rattle.ncc_slab.specs.Selection.{indices_of, selected_count}
 use Rattle.ncc_slab.specs.declared.slab.Slab.{Slab}
@@ -73,7 +73,7 @@ rows_of_values style s first v there =
 
 -- the rows of items of one type were sent as those of values
 pub sends_items : {A : Type 0} (style : FloatStyle) (text : A → List ℕ) (make : List A → Values) → ((items : List A) → map text items ≡ map (number_text style (type_of (make items))) (numbers_of (make items)))
-    → ((items : List A) → length items ≡ count_of (make items)) → (old new : Option (List ℕ)) (s : Slab) (first : ℕ) (v : Values) (items xs : List A) (result : Result (Unit {0}) Halt)
+    → ((items : List A) → length items ≡ count_of (make items)) → (old new : Option (List ℕ)) (s : Slab) (first : ℕ) (v : Values) (items xs : List A) (result : Result (Unit {0}) SendError)
     → v ≡ make items → xs ≡ items → first + count_of v ≤ selected_count s → SendsAll old new (first_rows (slab_row s first (map text xs)) (length xs)) result
     → SendsAll old new (part_text style s first v) result
 sends_items style text make shown counted old new s first v items xs result is same there sent =
@@ -99,7 +99,7 @@ sends_front old mid new text a b c e puts w = (
 )
 
 -- what a failed call says of its text
-pub fails : (old new : Option (List ℕ)) (text : List ℕ) (result : Result (Unit {0}) Halt) → IsErr result → PutsFront old new text → SendsAll old new text result
+pub fails : (old new : Option (List ℕ)) (text : List ℕ) (result : Result (Unit {0}) SendError) → IsErr result → PutsFront old new text → SendsAll old new text result
 fails old new text (Ok x) e front = absurd (cc)
 fails old new text (Err h) e front = front
 

@@ -5,7 +5,7 @@ use Rattle.std.specs.Option.{option_or}
 use Rattle.std.proofs.lemmas.Bool.{eqb-true, eqb-false, eq-eqb, and_parts}
 use Rattle.std.proofs.lemmas.List.{get_or-replicate, length-replicate}
 use Rattle.ncc_slab.specs.Selection.{fitting_count}
-use Rattle.ncc_slab.specs.Refusals.{Along, along, has_no_stride, is_outside, has_rank, along_fault, shape_fault}
+use Rattle.ncc_slab.specs.Refusals.{Along, along, has_zero_stride, is_outside, has_rank, along_fault, shape_fault}
 use Rattle.ncc_slab.specs.declared.fault.SlabFault.{SlabFault}
 use Rattle.ncc_slab.specs.declared.fault.SlabFault.TheVariants as faults
 use Rattle.ncc_csv.specs.Picks.{fitting_counts, picked_start, picked_stride, picked_count, picked, is_zero, suits, pick_fault}
@@ -79,7 +79,7 @@ three false b c d same = refl
 three true b false d same = and-false true d ∙ sym (and-false true b)
 three true b true d same = ap (λ (x : Bool). (true && x) && true) (same refl refl)
 
-first_stride : (n : ℕ) (ls ss cs ds : List ℕ) → length ss ≡ length ls → length cs ≡ length ls → length ds ≡ length ls → position_from has_no_stride n (along ls ss cs ds) ≡ position_from is_zero n ds
+first_stride : (n : ℕ) (ls ss cs ds : List ℕ) → length ss ≡ length ls → length cs ≡ length ls → length ds ≡ length ls → position_from has_zero_stride n (along ls ss cs ds) ≡ position_from is_zero n ds
 first_stride n [] ss cs [] a b e = refl
 first_stride n [] ss cs (d ∷ ds) a b e = absurd (omega (arith, e))
 first_stride n (l ∷ ls) [] cs ds a b e = absurd (omega (arith, a))
@@ -92,11 +92,11 @@ same_fault : (b : Bool) (u v w : Option SlabFault) (f : SlabFault) → (b ≡ tr
 same_fault true u v w f step e = step refl e
 same_fault false u v w f step e = e
 
-zero_fault : (o : Option (List ℕ)) (rank : ℕ) (dims : List Along) (f : SlabFault) → position_from has_no_stride 0 dims ≡ position_from is_zero 0 (unwrap_or o (replicate rank 1))
+zero_fault : (o : Option (List ℕ)) (rank : ℕ) (dims : List Along) (f : SlabFault) → position_from has_zero_stride 0 dims ≡ position_from is_zero 0 (unwrap_or o (replicate rank 1))
     → option_map faults.ZeroStride (position_from is_zero 0 (unwrap_or o [])) ≡ Some f → along_fault dims ≡ Some f
 zero_fault None rank dims f same e = absurd cc
 zero_fault (Some numbers) rank dims f same e =
-    let zeros : option_map faults.ZeroStride (position_from has_no_stride 0 dims) ≡ Some f = ap (λ (o : Option ℕ). option_map faults.ZeroStride o) same ∙ e in
+    let zeros : option_map faults.ZeroStride (position_from has_zero_stride 0 dims) ≡ Some f = ap (λ (o : Option ℕ). option_map faults.ZeroStride o) same ∙ e in
     ap (λ (o : Option SlabFault). option_or o (option_map faults.Outside (position_from is_outside 0 dims))) zeros
 
 pub pick_fault_is_shape_fault : (lengths : List ℕ) (p : Pick) (f : SlabFault) → pick_fault (length lengths) p ≡ Some f → shape_fault lengths (picked lengths p) ≡ Some f

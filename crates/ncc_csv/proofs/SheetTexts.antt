@@ -11,7 +11,7 @@ use Rattle.ncc_schema.specs.declared.schema.Var.{Var}
 use Rattle.ncc_layout.specs.Elements.{var_at}
 use Rattle.ncc_layout.specs.declared.placed_var.PlacedVar.{PlacedVar}
 use Rattle.ncc_lines.specs.Sends.{PutsFront, SendsAll}
-use Rattle.ncc_lines.specs.declared.halt.Halt.{Halt}
+use Rattle.ncc_lines.specs.declared.send_error.SendError.{SendError}
 use Rattle.ncc_slab.specs.Refusals.{shape_fault, slab_fault}
 use Rattle.ncc_slab.specs.declared.fault.SlabFault.{SlabFault}
 use Rattle.ncc_slab.specs.declared.fault.SlabFault.TheVariants as faults
@@ -89,11 +89,11 @@ not_memory cause f fault is some memory =
 
 -- ---- what a failed call says
 
-pub fails_sheet : (cause : Option SlabFault) (old new : Option (List ℕ)) (sheet : List ℕ) (result : Result Bool Halt) → IsErr result → PutsFront old new (sheet_or_line cause sheet) → SendsSheet cause old new sheet result
+pub fails_sheet : (cause : Option SlabFault) (old new : Option (List ℕ)) (sheet : List ℕ) (result : Result Bool SendError) → IsErr result → PutsFront old new (sheet_or_line cause sheet) → SendsSheet cause old new sheet result
 fails_sheet cause old new sheet (Ok b) e front = absurd (cc)
 fails_sheet cause old new sheet (Err h) e front = front
 
 -- a text goes out after another, or a front of it
-pub sends_behind : (old mid new : Option (List ℕ)) (a b : List ℕ) (result : Result (Unit {0}) Halt) → Puts old mid a → SendsAll mid new b result → SendsAll old new (a ++ b) result
+pub sends_behind : (old mid new : Option (List ℕ)) (a b : List ℕ) (result : Result (Unit {0}) SendError) → Puts old mid a → SendsAll mid new b result → SendsAll old new (a ++ b) result
 sends_behind old mid new a b (Ok u) puts sent = puts_both old mid new a b puts sent
 sends_behind old mid new a b (Err e) puts front = front_behind old mid new (a ++ b) a b refl puts front

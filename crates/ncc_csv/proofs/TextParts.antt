@@ -10,7 +10,7 @@ use Rattle.ncc_values.specs.Values.{count_of, no_values}
 use Rattle.ncc_values.proofs.ValuesLemmas.{type_of-no_values, count_of-no_values}
 use Rattle.ncc_layout.specs.declared.placed_var.PlacedVar.{PlacedVar}
 use Rattle.ncc_lines.specs.Sends.{PutsFront}
-use Rattle.ncc_lines.specs.declared.halt.Halt.{Halt}
+use Rattle.ncc_lines.specs.declared.send_error.SendError.{SendError}
 use Rattle.ncc_slab.specs.Laws.{PartHasNumbers}
 use Rattle.ncc_slab.specs.Selected.{places_of, AddsPlaces, number_at, numbers_of, part_of}
 use Rattle.ncc_slab.specs.Selection.{indices_of}
@@ -64,7 +64,7 @@ gathers_begin s g P number text some nothing = record {
 }
 
 -- what a failed call says
-pub fails_texts : (s : Slab) (old new : Gathered) (bytes : ℕ → List ℕ) (left : ℕ) (a b : Option (List ℕ)) (result : Result ℕ Halt) → IsErr result
+pub fails_texts : (s : Slab) (old new : Gathered) (bytes : ℕ → List ℕ) (left : ℕ) (a b : Option (List ℕ)) (result : Result ℕ SendError) → IsErr result
     → Fills s old.number (old.text.items ++ bytes left) (PutsFront a b) → SendsTexts s old new bytes left a b result
 fails_texts s old new bytes left a b (Ok n) failed front = absurd (cc)
 fails_texts s old new bytes left a b (Err h) failed front = front

@@ -8,8 +8,8 @@ use Rattle.ncc_layout.specs.Placed.{record_size_of_file, vars_of}
 use Rattle.ncc_layout.specs.declared.placed_file.Placed.{Placed}
 use Rattle.ncc_layout.specs.declared.placed_var.PlacedVar.{PlacedVar}
 use Rattle.ncc_lines.specs.Sends.{PutsFront}
-use Rattle.ncc_lines.specs.declared.halt.Halt.{Halt}
-use Rattle.ncc_lines.specs.declared.halt.Halt.TheVariants as halts
+use Rattle.ncc_lines.specs.declared.send_error.SendError.{SendError}
+use Rattle.ncc_lines.specs.declared.send_error.SendError.TheVariants as send_errors
 use Rattle.ncc_slab.specs.declared.fault.SlabFault.{SlabFault}
 use Rattle.ncc_slab.specs.declared.fault.SlabFault.TheVariants as faults
 use Rattle.ncc_slab.specs.declared.slab.Slab.{Slab}
@@ -31,7 +31,7 @@ sheet_or_line None sheet = sheet
 sheet_or_line (Some f) sheet = refused_line f
 
 -- all of it went out, and the answer is whether it is the sheet; or a front of it
-abbrev pub SendsSheet : Option SlabFault → (old new : Option (List ℕ)) → (sheet : List ℕ) → Result Bool Halt → Type 0
+abbrev pub SendsSheet : Option SlabFault → (old new : Option (List ℕ)) → (sheet : List ℕ) → Result Bool SendError → Type 0
 SendsSheet fault old new sheet (Ok b) = Puts old new (sheet_or_line fault sheet)
 SendsSheet fault old new sheet (Err e) = PutsFront old new (sheet_or_line fault sheet)
 
@@ -40,7 +40,7 @@ abbrev pub part_rows : FloatStyle → (file : List ℕ) → (record_size : ℕ) 
 part_rows style file record_size x s first n = rows_text style file record_size x (part_of s first n)
 
 -- the rows of the next elements went out, and the answer is how many; or a front of those of all that are left
-abbrev pub SendsNext : (rows : (count : ℕ) → List ℕ) → (left : ℕ) → (old new : Option (List ℕ)) → Result ℕ Halt → Type 0
+abbrev pub SendsNext : (rows : (count : ℕ) → List ℕ) → (left : ℕ) → (old new : Option (List ℕ)) → Result ℕ SendError → Type 0
 SendsNext rows left old new (Ok n) = Puts old new (rows n)
 SendsNext rows left old new (Err e) = PutsFront old new (rows left)
 
@@ -51,11 +51,11 @@ IsCause cause faults.Memory = cause ≡ None
 IsCause cause fault = cause ≡ Some fault
 
 -- a call over one device: Device is answered exactly where a failure of it was counted
-abbrev pub BlamesOne : {A : Type 0} → (old new : ℕ) → Result A Halt → Type 0
-BlamesOne old new (Err halts.Device) = Rose old new
+abbrev pub BlamesOne : {A : Type 0} → (old new : ℕ) → Result A SendError → Type 0
+BlamesOne old new (Err send_errors.Device) = Rose old new
 BlamesOne old new result = new ≡ old
 
 -- a call over a store and a sink: Device is answered exactly where a failure of one of them was counted
-abbrev pub BlamesEither : {A : Type 0} → (store_old store_new sink_old sink_new : ℕ) → Result A Halt → Type 0
-BlamesEither s t k l (Err halts.Device) = (Rose s t × (l ≡ k)) ⊎ ((t ≡ s) × Rose k l)
+abbrev pub BlamesEither : {A : Type 0} → (store_old store_new sink_old sink_new : ℕ) → Result A SendError → Type 0
+BlamesEither s t k l (Err send_errors.Device) = (Rose s t × (l ≡ k)) ⊎ ((t ≡ s) × Rose k l)
 BlamesEither s t k l result = (t ≡ s) × (l ≡ k)

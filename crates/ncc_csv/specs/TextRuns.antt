@@ -4,7 +4,7 @@ use Rattle.ncc_values.specs.declared.raw.Char.{Char}
 use Rattle.ncc_schema.specs.Device.{Puts}
 use Rattle.ncc_layout.specs.declared.placed_var.PlacedVar.{PlacedVar}
 use Rattle.ncc_lines.specs.Sends.{PutsFront}
-use Rattle.ncc_lines.specs.declared.halt.Halt.{Halt}
+use Rattle.ncc_lines.specs.declared.send_error.SendError.{SendError}
 use Rattle.ncc_slab.specs.Selected.{part_of}
 use Rattle.ncc_slab.specs.declared.slab.Slab.{Slab}
 use Rattle.ncc_csv.specs.Runs.{leading_texts, first_rows}
@@ -44,7 +44,7 @@ pub record Gathers (s : Slab) (first : ℕ) (bytes : List ℕ) (g : Gathered) (P
   pub short : length g.text.items < last_number s.count
 
 -- the full rows went out; or a front of some of them
-abbrev pub SendsFull : Slab → (first : ℕ) → (bytes : List ℕ) → (new : Gathered) → (put_old put_new : Option (List ℕ)) → Result (Unit {0}) Halt → Type 0
+abbrev pub SendsFull : Slab → (first : ℕ) → (bytes : List ℕ) → (new : Gathered) → (put_old put_new : Option (List ℕ)) → Result (Unit {0}) SendError → Type 0
 SendsFull s first bytes new a b (Ok x) = Gathers s first bytes new (Puts a b)
 SendsFull s first bytes new a b (Err e) = Fills s first bytes (PutsFront a b)
 
@@ -59,6 +59,6 @@ abbrev pub part_bytes : (file : List ℕ) → (record_size : ℕ) → PlacedVar 
 part_bytes file record_size x s first n = map (byte_at file record_size x) (part_of s first n)
 
 -- the full rows of the next elements went out, and the answer is how many; or a front of those of all that are left
-abbrev pub SendsTexts : Slab → (old new : Gathered) → (bytes : (count : ℕ) → List ℕ) → (left : ℕ) → (put_old put_new : Option (List ℕ)) → Result ℕ Halt → Type 0
+abbrev pub SendsTexts : Slab → (old new : Gathered) → (bytes : (count : ℕ) → List ℕ) → (left : ℕ) → (put_old put_new : Option (List ℕ)) → Result ℕ SendError → Type 0
 SendsTexts s old new bytes left a b (Ok n) = Gathers s old.number (old.text.items ++ bytes n) new (Puts a b)
 SendsTexts s old new bytes left a b (Err e) = Fills s old.number (old.text.items ++ bytes left) (PutsFront a b)

@@ -13,7 +13,7 @@ use crate::text_row::put_numbered_row;
 use crate::word::Word;
 use csv::Writer;
 use ncc_header::Sink;
-use ncc_lines::{Halt, send_page};
+use ncc_lines::{SendError, send_page};
 use ncc_slab::{Slab, laws as slab_laws};
 use std::alloc::{AllocError, Global};
 
@@ -60,7 +60,7 @@ fn send_empty_row<W: Sink>(
     number: u64,
     shown: &mut Vec<u8>,
     sink: &mut W,
-) -> Result<(), Halt>
+) -> Result<(), SendError>
     requires ranked { length heads.old ≡ length slab.now.count - 1 }
     requires fits { HasIndices slab.now }
     requires there { number < length (index_lists (take (length heads.old) slab.now.count)) }
@@ -78,7 +78,7 @@ fn send_empty_rows<W: Sink>(
     slab: &Slab,
     rows: u64,
     sink: &mut W,
-) -> Result<(), Halt>
+) -> Result<(), SendError>
     requires ranked { length heads.old ≡ length slab.now.count - 1 }
     requires fits { HasIndices slab.now }
     requires there { rows ≡ length (index_lists (take (length heads.old) slab.now.count)) }
@@ -95,7 +95,7 @@ fn send_empty_rows<W: Sink>(
 
 /// Sends the rows with an empty text, one for each list of the leading indices. After an `Err` a front of them is
 /// sent.
-pub fn send_empty_texts<W: Sink>(alloc: Global, slab: &Slab, sink: &mut W) -> Result<(), Halt>
+pub fn send_empty_texts<W: Sink>(alloc: Global, slab: &Slab, sink: &mut W) -> Result<(), SendError>
     requires fits { HasIndices slab.now }
     requires counted { product (but_last slab.now.count) < 2 ^ 64 }
     ensures sent { SendsAll (W.put sink.old) (W.put sink.new)

@@ -13,7 +13,7 @@ use crate::text_row::put_numbered_row;
 use crate::word::Word;
 use csv::Writer;
 use ncc_header::Sink;
-use ncc_lines::{Halt, send_page};
+use ncc_lines::{SendError, send_page};
 use ncc_slab::Slab;
 use ncc_values::Char;
 use std::alloc::{AllocError, Global};
@@ -116,7 +116,7 @@ fn send_piece<W: Sink>(
     shown: &mut Vec<u8>,
     values: &[Char],
     sink: &mut W,
-) -> Result<(), Halt>
+) -> Result<(), SendError>
     requires empty { page.old.items ≡ [] }
     requires ranked { length slab.now.count ≡ length heads.old + 1 }
     requires fits { HasIndices slab.now }
@@ -142,7 +142,7 @@ fn send_pieces<W: Sink>(
     shown: &mut Vec<u8>,
     values: &[Char],
     sink: &mut W,
-) -> Result<(), Halt>
+) -> Result<(), SendError>
     requires empty { page.old.items ≡ [] }
     requires ranked { length slab.now.count ≡ length heads.old + 1 }
     requires fits { HasIndices slab.now }
@@ -175,7 +175,7 @@ pub fn send_chars<W: Sink>(
     gathered: &mut Gathered,
     values: &[Char],
     sink: &mut W,
-) -> Result<(), Halt>
+) -> Result<(), SendError>
     requires fits { HasIndices slab.now }
     requires short { length gathered.old.text.items < last_number slab.now.count }
     requires there { done_in slab.now gathered.old + length values.now ≤ selected_count slab.now }

@@ -10,7 +10,7 @@ ghost use Rattle.ncc_csv.specs.Texts.{text_names};
 
 use csv::{ByteRecord, Writer};
 use ncc_header::{Dim, Sink, Var};
-use ncc_lines::{Halt, dim_name, push_name, send_page};
+use ncc_lines::{SendError, dim_name, push_name, send_page};
 use std::alloc::{AllocError, Global};
 
 /// Adds a name to a record, by its text in `field`.
@@ -69,7 +69,7 @@ fn send_row<W: Sink>(
     numbers: &[usize],
     name: &[u8],
     sink: &mut W,
-) -> Result<(), Halt>
+) -> Result<(), SendError>
     ensures sent { SendsAll (W.put sink.old) (W.put sink.new)
         (row_line (names_row dims.now numbers.now name.now)) result }
     ensures count { Blames (W.failures sink.old) (W.failures sink.new) result }
@@ -80,7 +80,12 @@ fn send_row<W: Sink>(
 
 /// Sends the row of the names of a variable's dimensions, and of its own. It is made in memory. After an `Err` a
 /// front of it is sent.
-pub fn send_names<W: Sink>(alloc: Global, dims: &[Dim], var: &Var, sink: &mut W) -> Result<(), Halt>
+pub fn send_names<W: Sink>(
+    alloc: Global,
+    dims: &[Dim],
+    var: &Var,
+    sink: &mut W,
+) -> Result<(), SendError>
     ensures sent { SendsAll (W.put sink.old) (W.put sink.new) (names_text dims.now var.now) result }
     ensures count { Blames (W.failures sink.old) (W.failures sink.new) result }
 {
@@ -93,7 +98,7 @@ pub fn send_text_names<W: Sink>(
     dims: &[Dim],
     var: &Var,
     sink: &mut W,
-) -> Result<(), Halt>
+) -> Result<(), SendError>
     ensures sent { SendsAll (W.put sink.old) (W.put sink.new) (text_names dims.now var.now) result }
     ensures count { Blames (W.failures sink.old) (W.failures sink.new) result }
 {

@@ -20,7 +20,7 @@ ghost use Rattle.ncc_csv.specs.Sheets.{BlamesOne, BlamesEither, part_rows, Sends
 use crate::sending::send_part;
 use ncc_check::NcFile;
 use ncc_header::{Sink, Values};
-use ncc_lines::{FloatStyle, Halt, Progress};
+use ncc_lines::{FloatStyle, Progress, SendError};
 use ncc_slab::{Slab, SlabFault, SlabParts, laws as slab_laws};
 use ncc_store::{Store, laws as store_laws};
 use std::alloc::Global;
@@ -30,7 +30,7 @@ pub fn next_values<S: Store>(
     alloc: Global,
     file: &mut NcFile<S>,
     parts: &mut SlabParts,
-) -> Result<Values, Halt>
+) -> Result<Values, SendError>
     requires { parts_length parts.old ≤ file_length_of (placed_of file.old) }
     ensures took { IfOk result (λ v. TakesPart (size_of (parts_type parts.old))
         (parts_left parts.old) (parts_left parts.new) (count_of v)) }
@@ -47,8 +47,8 @@ pub fn next_values<S: Store>(
     let mut values = Values::new(alloc, parts.xtype());
     match parts.next_part(file, &mut values) {
         Ok(_) => Ok(values),
-        Err(SlabFault::Device) => Err(Halt::Device),
-        Err(SlabFault::Memory) => Err(Halt::Memory),
+        Err(SlabFault::Device) => Err(SendError::Device),
+        Err(SlabFault::Memory) => Err(SendError::Memory),
         Err(SlabFault::NoVariable) => unreachable!(),
         Err(SlabFault::RankMismatch) => unreachable!(),
         Err(SlabFault::ZeroStride(_)) => unreachable!(),
@@ -66,7 +66,7 @@ fn send_next<S: Store, W: Sink>(
     first: u64,
     style: FloatStyle,
     sink: &mut W,
-) -> Result<u64, Halt>
+) -> Result<u64, SendError>
     requires long { parts_length parts.old ≤ file_length_of (placed_of file.old) }
     requires fits { HasIndices slab.now }
     requires there { first + length (parts_left parts.old) ≡ selected_count slab.now }
@@ -93,7 +93,7 @@ fn send_next<S: Store, W: Sink>(
     drop(values);
     match sent {
         Ok(()) => Ok(count),
-        Err(halt) => Err(halt),
+        Err(send_error) => Err(send_error),
     }
 }
 
@@ -107,7 +107,7 @@ pub fn send_rows<S: Store, W: Sink, P: Progress>(
     style: FloatStyle,
     sink: &mut W,
     progress: &mut P,
-) -> Result<(), Halt>
+) -> Result<(), SendError>
     requires begins { (number : ℕ) × BeginsParts (placed_of file.old) number slab.now parts.old }
     requires fits { HasIndices slab.now }
     ensures sent { IsTrue S.tells_bytes → (number : ℕ) → BeginsParts (placed_of file.old) number slab.now parts.old

@@ -6,12 +6,12 @@ ghost use Rattle.ncc_schema.specs.Device.{WritesAll};
 ghost use Rattle.ncc_lines.specs.Sends.{SendsAll, Blames};
 ghost use Rattle.ncc_csv.specs.Refusals.{refused_line};
 
-use ncc_header::{Failed, Sink, write_all};
-use ncc_lines::{Halt, put_numbered};
+use ncc_header::{Device, Sink, write_all};
+use ncc_lines::{SendError, put_numbered};
 use ncc_slab::SlabFault;
 
 /// Puts out the line of a refusal.
-fn put_refusal<W: Sink>(fault: SlabFault, sink: &mut W) -> Result<(), Failed>
+fn put_refusal<W: Sink>(fault: SlabFault, sink: &mut W) -> Result<(), Device>
     ensures bytes { WritesAll (W.put sink.old) (W.put sink.new) result (refused_line fault) }
     ensures count { Counts (W.failures sink.old) (W.failures sink.new) result }
 {
@@ -26,10 +26,10 @@ fn put_refusal<W: Sink>(fault: SlabFault, sink: &mut W) -> Result<(), Failed>
 }
 
 /// Sends the line of a selection that is refused, and takes no memory. After an `Err` a front of it is sent.
-pub fn send_refusal<W: Sink>(fault: SlabFault, sink: &mut W) -> Result<(), Halt>
+pub fn send_refusal<W: Sink>(fault: SlabFault, sink: &mut W) -> Result<(), SendError>
     ensures sent { SendsAll (W.put sink.old) (W.put sink.new) (refused_line fault) result }
     ensures count { Blames (W.failures sink.old) (W.failures sink.new) result }
-    ensures never { result ≢ Err Halt.Memory }
+    ensures never { result ≢ Err SendError.Memory }
 {
     put_refusal(fault, sink)?;
     Ok(())

@@ -82,7 +82,7 @@ fn lay_row<T: Cell>(
 
 /// Adds the rows of a run from one on up to another, by one copy: they are laid out from the last to the first, where each
 /// is written once.
-fn put_some<T: Cell>(
+fn put_rows_at_once<T: Cell>(
     page: &mut Vec<u8>,
     room: &mut [u8],
     front: &[u8; FRONT],
@@ -190,7 +190,7 @@ fn put_together<T: Cell>(
     let mut done = 0;
     while done < values.len() {
         let to = done + ROWS.min(values.len() - done);
-        put_some(
+        put_rows_at_once(
             page, room, &shared, size, start, stride, values, done, to, style,
         )?;
         done = to;

@@ -11,7 +11,7 @@ use crate::block::put_rows;
 use crate::cell::Cell;
 use crate::word::Word;
 use ncc_header::{Sink, Values};
-use ncc_lines::{FloatStyle, Halt, send_page};
+use ncc_lines::{FloatStyle, SendError, send_page};
 use ncc_slab::Slab;
 use std::alloc::Global;
 
@@ -29,7 +29,7 @@ fn send_block<T: Cell, W: Sink>(
     values: &[T],
     style: FloatStyle,
     sink: &mut W,
-) -> Result<(), Halt>
+) -> Result<(), SendError>
     requires empty { page.old.items ≡ [] }
     requires ranked { length heads.old ≡ length slab.now.count - 1 }
     requires fits { HasIndices slab.now }
@@ -54,7 +54,7 @@ fn send_blocks<T: Cell, W: Sink>(
     values: &[T],
     style: FloatStyle,
     sink: &mut W,
-) -> Result<(), Halt>
+) -> Result<(), SendError>
     requires empty { page.old.items ≡ [] }
     requires ranked { length heads.old ≡ length slab.now.count - 1 }
     requires fits { HasIndices slab.now }
@@ -92,7 +92,7 @@ fn send_values<T: Cell, W: Sink>(
     values: &[T],
     style: FloatStyle,
     sink: &mut W,
-) -> Result<(), Halt>
+) -> Result<(), SendError>
     requires fits { HasIndices slab.now }
     requires there { first + length values.now ≤ selected_count slab.now }
     requires counted { selected_count slab.now < 2 ^ 64 }
@@ -123,7 +123,7 @@ pub fn send_part<W: Sink>(
     values: &Values,
     style: FloatStyle,
     sink: &mut W,
-) -> Result<(), Halt>
+) -> Result<(), SendError>
     requires fits { HasIndices slab.now }
     requires there { first + count_of values.now ≤ selected_count slab.now }
     requires counted { selected_count slab.now < 2 ^ 64 }

@@ -28,23 +28,23 @@ use ncc_check::laws::{open_file_places_all, open_file_stands};
 use ncc_header::{Schema, Sink, Var, XType};
 use ncc_layout::Placed;
 use ncc_layout::laws::shape_is_in_file;
-use ncc_lines::{FloatStyle, Halt, Progress};
+use ncc_lines::{FloatStyle, Progress, SendError};
 use ncc_slab::laws::{lengths_fit, refused_unless_it_fits};
 use ncc_slab::{Slab, SlabFault, SlabParts};
 use ncc_store::Store;
 use std::alloc::Global;
 
 /// Sends the line of a selection that is refused, unless memory for it was.
-fn refuse<W: Sink>(fault: SlabFault, sink: &mut W) -> Result<bool, Halt>
+fn refuse<W: Sink>(fault: SlabFault, sink: &mut W) -> Result<bool, SendError>
     requires { (cause : Option Fault) × IsCause cause fault }
     ensures sent { (cause : Option Fault) (sheet : List ℕ) → IsCause cause fault
         → SendsSheet cause (W.put sink.old) (W.put sink.new) sheet result }
     ensures answer { (cause : Option Fault) → IsCause cause fault → IfOk result (λ b. b ≡ is_none cause) }
     ensures count { BlamesOne (W.failures sink.old) (W.failures sink.new) result }
-    ensures memory { result ≡ Err Halt.Memory → (fault ≡ SlabFault.Memory) × (sink.new ≡ sink.old) }
+    ensures memory { result ≡ Err SendError.Memory → (fault ≡ SlabFault.Memory) × (sink.new ≡ sink.old) }
 {
     match fault {
-        SlabFault::Memory => Err(Halt::Memory),
+        SlabFault::Memory => Err(SendError::Memory),
         _ => {
             send_refusal(fault, sink)?;
             Ok(false)
@@ -82,7 +82,7 @@ fn send_selected<S: Store, W: Sink, P: Progress>(
     style: FloatStyle,
     sink: &mut W,
     progress: &mut P,
-) -> Result<(), Halt>
+) -> Result<(), SendError>
     requires selected { slab_fault (vars_of (placed_of file.old)) var slab.now ≡ None }
     requires begins { BeginsParts (placed_of file.old) var slab.now parts.old }
     ensures sent { IsTrue S.tells_bytes → SendsAll (W.put sink.old) (W.put sink.new)
@@ -114,7 +114,7 @@ fn send_selected_texts<S: Store, W: Sink, P: Progress>(
     parts: &mut SlabParts,
     sink: &mut W,
     progress: &mut P,
-) -> Result<(), Halt>
+) -> Result<(), SendError>
     requires selected { slab_fault (vars_of (placed_of file.old)) var slab.now ≡ None }
     requires begins { BeginsParts (placed_of file.old) var slab.now parts.old }
     requires texts { has_texts (var_at (vars_of (placed_of file.old)) var).xtype
@@ -159,7 +159,7 @@ fn send_printed<S: Store, W: Sink, P: Progress>(
     texts: bool,
     sink: &mut W,
     progress: &mut P,
-) -> Result<(), Halt>
+) -> Result<(), SendError>
     requires selected { slab_fault (vars_of (placed_of file.old)) var slab.now ≡ None }
     requires begins { BeginsParts (placed_of file.old) var slab.now parts.old }
     ensures sent { IsTrue S.tells_bytes → SendsAll (W.put sink.old) (W.put sink.new)
@@ -189,7 +189,7 @@ pub fn send_sheet<S: Store, W: Sink, P: Progress>(
     texts: bool,
     sink: &mut W,
     progress: &mut P,
-) -> Result<bool, Halt>
+) -> Result<bool, SendError>
     ensures sent { IsTrue S.tells_bytes → SendsSheet (slab_fault (vars_of (placed_of file.old)) var slab.now)
         (W.put sink.old) (W.put sink.new)
         (sheet_text style texts (S.bytes (store_of file.old)) (schema_of file.old) (placed_of file.old) var slab.now)
@@ -202,7 +202,7 @@ pub fn send_sheet<S: Store, W: Sink, P: Progress>(
         (file_length_of (placed_of file.old)) }
     ensures refused { (fault : Fault) → slab_fault (vars_of (placed_of file.old)) var slab.now ≡ Some fault
         → SendsSheet (Some fault) (W.put sink.old) (W.put sink.new) [] result
-        × (store_of file.new ≡ store_of file.old) × (result ≢ Err Halt.Memory) }
+        × (store_of file.new ≡ store_of file.old) × (result ≢ Err SendError.Memory) }
 {
     let mut parts = match SlabParts::new(alloc, file.placed(), var, slab) {
         Ok(parts) => parts,

@@ -27,7 +27,7 @@ use crate::heads::count_along;
 use crate::parts::next_values;
 use ncc_check::NcFile;
 use ncc_header::{Sink, Values};
-use ncc_lines::{Halt, Progress};
+use ncc_lines::{Progress, SendError};
 use ncc_slab::{Slab, SlabParts, laws as slab_laws};
 use ncc_store::{Store, laws as store_laws};
 use std::alloc::Global;
@@ -39,7 +39,7 @@ fn send_values<W: Sink>(
     gathered: &mut Gathered,
     values: &Values,
     sink: &mut W,
-) -> Result<(), Halt>
+) -> Result<(), SendError>
     requires typed { type_of values.now ≡ types.Char }
     requires fits { HasIndices slab.now }
     requires short { length gathered.old.text.items < last_number slab.now.count }
@@ -74,7 +74,7 @@ fn send_next_texts<S: Store, W: Sink>(
     parts: &mut SlabParts,
     gathered: &mut Gathered,
     sink: &mut W,
-) -> Result<u64, Halt>
+) -> Result<u64, SendError>
     requires long { parts_length parts.old ≤ file_length_of (placed_of file.old) }
     requires typed { parts_type parts.old ≡ types.Char }
     requires fits { HasIndices slab.now }
@@ -106,7 +106,7 @@ fn send_next_texts<S: Store, W: Sink>(
     drop(values);
     match sent {
         Ok(()) => Ok(count),
-        Err(halt) => Err(halt),
+        Err(send_error) => Err(send_error),
     }
 }
 
@@ -118,7 +118,7 @@ fn send_some_texts<S: Store, W: Sink, P: Progress>(
     parts: &mut SlabParts,
     sink: &mut W,
     progress: &mut P,
-) -> Result<(), Halt>
+) -> Result<(), SendError>
     requires begins { (number : ℕ) × BeginsParts (placed_of file.old) number slab.now parts.old }
     requires typed { parts_type parts.old ≡ types.Char }
     requires fits { HasIndices slab.now }
@@ -156,7 +156,7 @@ pub fn send_texts<S: Store, W: Sink, P: Progress>(
     parts: &mut SlabParts,
     sink: &mut W,
     progress: &mut P,
-) -> Result<(), Halt>
+) -> Result<(), SendError>
     requires begins { (number : ℕ) × BeginsParts (placed_of file.old) number slab.now parts.old }
     requires typed { parts_type parts.old ≡ types.Char }
     requires fits { HasIndices slab.now }

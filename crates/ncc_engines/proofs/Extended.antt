@@ -18,8 +18,8 @@ use Rattle.ncc_check.specs.declared.fault.FileFault.{FileFault}
 use Rattle.ncc_lines.specs.Sends.{SendsAll}
 use Rattle.ncc_lines.specs.Texts.{records_line}
 use Rattle.ncc_lines.specs.Verdicts.{file_fault_line}
-use Rattle.ncc_lines.specs.declared.halt.Halt.{Halt}
-use Rattle.ncc_lines.specs.declared.halt.Halt.TheVariants as halts
+use Rattle.ncc_lines.specs.declared.send_error.SendError.{SendError}
+use Rattle.ncc_lines.specs.declared.send_error.SendError.TheVariants as send_errors
 use Rattle.ncc_schema.specs.Schema.{Place}
 use Rattle.ncc_layout.specs.Plans.{IsKnown}
 use Rattle.ncc_build.specs.Dataset.{Dataset, IsDataset}
@@ -55,12 +55,12 @@ whole (Ok x) records Memory text is = absurd is
 whole (Err e) records Memory text is = absurd is
 
 pub told_sent : (result : Result (Unit {0}) AppendError) (records : ℕ) (answer : Answer) (text : List ℕ)
-    (old new : Option (List ℕ)) (sent : Result (Unit {0}) Halt) → TellsText result records answer text
+    (old new : Option (List ℕ)) (sent : Result (Unit {0}) SendError) → TellsText result records answer text
     → SendsAll old new text sent → Told result records old new (answer_of sent answer)
 told_sent result records answer text old new (Ok x) is s = (text, s, whole result records answer text is)
-told_sent result records answer text old new (Err halts.Device) is s =
+told_sent result records answer text old new (Err send_errors.Device) is s =
     (s.0, s.3, inr (answer, text, s.1, is, s.2))
-told_sent result records answer text old new (Err halts.Memory) is s =
+told_sent result records answer text old new (Err send_errors.Memory) is s =
     (s.0, s.3, inr (answer, text, s.1, is, s.2))
 
 pub told_nothing : (result : Result (Unit {0}) AppendError) (records : ℕ) (put : Option (List ℕ))
@@ -111,15 +111,15 @@ went b limit n s p o result records how many old new Memory (out, puts, is) = (
 -- ---- of bytes that don't pass
 
 pub fault_went : (b : List ℕ) (limit n : ℕ) (old new : Option (List ℕ)) (f : FileFault) (answer : Answer)
-    (sent : Result (Unit {0}) Halt) → Fails b limit f → SendsAll old new (file_fault_line f) sent
+    (sent : Result (Unit {0}) SendError) → Fails b limit f → SendsAll old new (file_fault_line f) sent
     → answer ≡ answer_of sent Refused → Went b limit n old new answer
 fault_went b limit n old new f answer sent fails s is = subst (Went b limit n old new) (sym is) (by sent s)
   where
-    by : (sent : Result (Unit {0}) Halt) → SendsAll old new (file_fault_line f) sent
+    by : (sent : Result (Unit {0}) SendError) → SendsAll old new (file_fault_line f) sent
         → Went b limit n old new (answer_of sent Refused)
     by (Ok x) s = (file_fault_line f, s, inr (f, fails, refl))
-    by (Err halts.Device) s = (s.0, s.3, inr (Refused, file_fault_line f, s.1, inr (f, fails, refl), s.2))
-    by (Err halts.Memory) s = (s.0, s.3, inr (Refused, file_fault_line f, s.1, inr (f, fails, refl), s.2))
+    by (Err send_errors.Device) s = (s.0, s.3, inr (Refused, file_fault_line f, s.1, inr (f, fails, refl), s.2))
+    by (Err send_errors.Memory) s = (s.0, s.3, inr (Refused, file_fault_line f, s.1, inr (f, fails, refl), s.2))
 
 pub stopped_went : (b : List ℕ) (limit n : ℕ) (put : Option (List ℕ))
     → Went b limit n put put Device × Went b limit n put put Memory
@@ -154,7 +154,7 @@ refused_or_filled b limit n s p o (Err e) records how Memory out told new ok =
     inl (front_of_refusal b limit n s p o e records how out told)
 
 pub fault_front : (b : List ℕ) (limit n : ℕ) (old new : Option (List ℕ)) (f : FileFault)
-    (sent : Result (Unit {0}) Halt) → Fails b limit f → SendsAll old new (file_fault_line f) sent
+    (sent : Result (Unit {0}) SendError) → Fails b limit f → SendsAll old new (file_fault_line f) sent
     → (out : List ℕ) × Puts old new out × IsFrontOfRefusal b limit n out
 fault_front b limit n old new f (Ok x) fails s =
     (file_fault_line f, s, inr (file_fault_line f, [], inr (f, fails, refl), sym (append-nil (file_fault_line f))))

@@ -6,7 +6,7 @@ use Rattle.ncc_header.specs.declared.fault.HeaderError.{HeaderError}
 use Rattle.ncc_header.specs.declared.fault.HeaderError.TheVariants as errors
 use Rattle.ncc_schema.specs.declared.schema.Header.{Header}
 use Rattle.ncc_header.specs.Answers.{Begins, Stops, AnswersOf}
-use Rattle.ncc_lines.specs.declared.halt.Halt.{Halt}
+use Rattle.ncc_lines.specs.declared.send_error.SendError.{SendError}
 use Rattle.ncc_lines.specs.Texts.{list_text, fault_line}
 use Rattle.ncc_check.specs.declared.fault.FileFault.{FileFault}
 use Rattle.ncc_check.specs.declared.fault.FileFault.TheVariants as of
@@ -46,34 +46,34 @@ one_text laws style input limit a b t u is other = same_text laws style input li
 abbrev pub GoneOf : FloatStyle → (left : Option (List ℕ)) (limit : ℕ) (old new : Option (List ℕ)) → Answer → Type 0
 GoneOf style left limit old new answer = IfSome left (λ input. Gone (IsListText input limit style) old new answer)
 
-list_gone : Laws → (style : FloatStyle) (left : Option (List ℕ)) (limit : ℕ) (old new : Option (List ℕ)) (h : Header) (result : Result (Unit {0}) Halt) → IfSome left (λ input. AnswersOf input limit (Ok h)) → SendsAll old new (list_text style h) result → GoneOf style left limit old new (answer_of result Passed)
+list_gone : Laws → (style : FloatStyle) (left : Option (List ℕ)) (limit : ℕ) (old new : Option (List ℕ)) (h : Header) (result : Result (Unit {0}) SendError) → IfSome left (λ input. AnswersOf input limit (Ok h)) → SendsAll old new (list_text style h) result → GoneOf style left limit old new (answer_of result Passed)
 list_gone laws style None limit old new h result a s = tt
 list_gone laws style (Some input) limit old new h result a s = sent (IsListText input limit style) (one_text laws style input limit) old new (list_text style h) Passed result (h, a, refl) (h, a, refl) s
 
-pub sent_list : Laws → (style : FloatStyle) (left : Option (List ℕ)) (limit : ℕ) (old new : Option (List ℕ)) (h : Header) (result : Result (Unit {0}) Halt) (answer : Answer) → IfSome left (λ input. AnswersOf input limit (Ok h)) → SendsAll old new (list_text style h) result → answer ≡ answer_of result Passed → GoneOf style left limit old new answer
+pub sent_list : Laws → (style : FloatStyle) (left : Option (List ℕ)) (limit : ℕ) (old new : Option (List ℕ)) (h : Header) (result : Result (Unit {0}) SendError) (answer : Answer) → IfSome left (λ input. AnswersOf input limit (Ok h)) → SendsAll old new (list_text style h) result → answer ≡ answer_of result Passed → GoneOf style left limit old new answer
 sent_list laws style left limit old new h result answer a s e = subst (λ (x : Answer). GoneOf style left limit old new x) (sym e) (list_gone laws style left limit old new h result a s)
 
-fault_gone : Laws → (style : FloatStyle) (left : Option (List ℕ)) (limit : ℕ) (old new : Option (List ℕ)) (f : Fault) (result : Result (Unit {0}) Halt) → IfSome left (λ input. AnswersOf input limit (Err (errors.Fault f))) → SendsAll old new (fault_line f) result → GoneOf style left limit old new (answer_of result Refused)
+fault_gone : Laws → (style : FloatStyle) (left : Option (List ℕ)) (limit : ℕ) (old new : Option (List ℕ)) (f : Fault) (result : Result (Unit {0}) SendError) → IfSome left (λ input. AnswersOf input limit (Err (errors.Fault f))) → SendsAll old new (fault_line f) result → GoneOf style left limit old new (answer_of result Refused)
 fault_gone laws style None limit old new f result a s = tt
 fault_gone laws style (Some input) limit old new f result a s = sent (IsListText input limit style) (one_text laws style input limit) old new (fault_line f) Refused result (f, a, refl) (f, a, refl) s
 
-pub sent_fault : Laws → (style : FloatStyle) (left : Option (List ℕ)) (limit : ℕ) (old new : Option (List ℕ)) (f : Fault) (error : HeaderError) (result : Result (Unit {0}) Halt) (answer : Answer) → error ≡ errors.Fault f → IfSome left (λ input. AnswersOf input limit (Err error)) → SendsAll old new (fault_line f) result → answer ≡ answer_of result Refused → GoneOf style left limit old new answer
+pub sent_fault : Laws → (style : FloatStyle) (left : Option (List ℕ)) (limit : ℕ) (old new : Option (List ℕ)) (f : Fault) (error : HeaderError) (result : Result (Unit {0}) SendError) (answer : Answer) → error ≡ errors.Fault f → IfSome left (λ input. AnswersOf input limit (Err error)) → SendsAll old new (fault_line f) result → answer ≡ answer_of result Refused → GoneOf style left limit old new answer
 sent_fault laws style left limit old new f error result answer is a s e =
     subst (λ (x : Answer). GoneOf style left limit old new x) (sym e)
     (fault_gone laws style left limit old new f result (subst (λ (x : HeaderError). IfSome left (λ input. AnswersOf input limit (Err x))) is a) s)
 
 -- ---- of the bytes of a store
 
-pub sent_store : Laws → (style : FloatStyle) (bytes : List ℕ) (limit : ℕ) (old new : Option (List ℕ)) (h : Header) (result : Result (Unit {0}) Halt) (answer : Answer) → ReadsHeader bytes limit (Ok h)
+pub sent_store : Laws → (style : FloatStyle) (bytes : List ℕ) (limit : ℕ) (old new : Option (List ℕ)) (h : Header) (result : Result (Unit {0}) SendError) (answer : Answer) → ReadsHeader bytes limit (Ok h)
     → SendsAll old new (list_text style h) result → answer ≡ answer_of result Passed → Gone (IsListText bytes limit style) old new answer
 sent_store laws style bytes limit old new h result answer a s e = sent_list laws style (Some bytes) limit old new h result answer a s e
 
-store_fault : Laws → (style : FloatStyle) (bytes : List ℕ) (limit : ℕ) (old new : Option (List ℕ)) (f : FileFault) (result : Result (Unit {0}) Halt) → ReadsHeader bytes limit (Err (refusals.Fault f))
+store_fault : Laws → (style : FloatStyle) (bytes : List ℕ) (limit : ℕ) (old new : Option (List ℕ)) (f : FileFault) (result : Result (Unit {0}) SendError) → ReadsHeader bytes limit (Err (refusals.Fault f))
     → SendsAll old new (file_fault_line f) result → Gone (IsListText bytes limit style) old new (answer_of result Refused)
 store_fault laws style bytes limit old new (of.Header f) result a s = fault_gone laws style (Some bytes) limit old new f result a s
 store_fault laws style bytes limit old new (of.Layout f) result a s = absurd a
 
-pub sent_store_fault : Laws → (style : FloatStyle) (bytes : List ℕ) (limit : ℕ) (old new : Option (List ℕ)) (f : FileFault) (result : Result (Unit {0}) Halt) (answer : Answer)
+pub sent_store_fault : Laws → (style : FloatStyle) (bytes : List ℕ) (limit : ℕ) (old new : Option (List ℕ)) (f : FileFault) (result : Result (Unit {0}) SendError) (answer : Answer)
     → ReadsHeader bytes limit (Err (refusals.Fault f)) → SendsAll old new (file_fault_line f) result → answer ≡ answer_of result Refused → Gone (IsListText bytes limit style) old new answer
 sent_store_fault laws style bytes limit old new f result answer a s e =
     subst (λ (x : Answer). Gone (IsListText bytes limit style) old new x) (sym e) (store_fault laws style bytes limit old new f result a s)

@@ -14,8 +14,8 @@ use Rattle.ncc_check.specs.declared.fault.FileFault.{FileFault}
 use Rattle.ncc_check.specs.Checks.{Opens}
 use Rattle.ncc_check.specs.Faults.{Fails}
 use Rattle.ncc_check.specs.Passes.{Passes, PassesWith}
-use Rattle.ncc_lines.specs.declared.halt.Halt.{Halt}
-use Rattle.ncc_lines.specs.declared.halt.Halt.TheVariants as halts
+use Rattle.ncc_lines.specs.declared.send_error.SendError.{SendError}
+use Rattle.ncc_lines.specs.declared.send_error.SendError.TheVariants as send_errors
 use Rattle.ncc_lines.specs.Sends.{SendsAll}
 use Rattle.ncc_lines.specs.declared.style.FloatStyle.{FloatStyle}
 use Rattle.ncc_lines.specs.Verdicts.{file_fault_line}
@@ -54,7 +54,7 @@ one_answer c name p style texts a b t u x y =
 
 -- ---- a selection of an open file
 
-pub sent_refusal : (c : Contents) (name : List ℕ) (p : Pick) (style : FloatStyle) (texts : Bool) (old new : Option (List ℕ)) (n : Option ℕ) (f : SlabFault) (answer : Answer) (result : Result (Unit {0}) Halt) → IsFirstNamed c.schema.vars name n
+pub sent_refusal : (c : Contents) (name : List ℕ) (p : Pick) (style : FloatStyle) (texts : Bool) (old new : Option (List ℕ)) (n : Option ℕ) (f : SlabFault) (answer : Answer) (result : Result (Unit {0}) SendError) → IsFirstNamed c.schema.vars name n
     → refusal c p n ≡ Some f → SendsAll old new (refused_line f) result → answer ≡ answer_of result Refused → Gone (IsSelection c name p style texts) old new answer
 sent_refusal c name p style texts old new n f answer result named refused s e =
     let is : IsSelection c name p style texts Refused (refused_line f) = record {
@@ -76,23 +76,23 @@ written : (IsText : Answer → List ℕ → Type 0) (fault : Option SlabFault) (
 written IsText None text is = is
 written IsText (Some f) text is = is
 
-sheet : (c : Contents) (name : List ℕ) (p : Pick) (style : FloatStyle) (texts : Bool) (old new : Option (List ℕ)) (n : Option ℕ) (result : Result Bool Halt) → IsFirstNamed c.schema.vars name n
+sheet : (c : Contents) (name : List ℕ) (p : Pick) (style : FloatStyle) (texts : Bool) (old new : Option (List ℕ)) (n : Option ℕ) (result : Result Bool SendError) → IsFirstNamed c.schema.vars name n
     → SendsSheet (refusal c p n) old new (table c p style texts n) result → ((b : Bool) → result ≡ Ok b → b ≡ is_none (refusal c p n)) → Gone (IsSelection c name p style texts) old new (sheet_answer result)
 sheet c name p style texts old new n (Ok b) named s is =
     let text = sheet_or_line (refusal c p n) (table c p style texts n) in
     let right : IsSelection c name p style texts (answer_to (refusal c p n)) text = record { number = n; named = named; answer_is = refl; text_is = refl } in
     subst (λ (x : Answer). Gone (IsSelection c name p style texts) old new x) (sym (answered (refusal c p n) b (is b refl)))
     (text, s, written (IsSelection c name p style texts) (refusal c p n) text right)
-sheet c name p style texts old new n (Err halts.Device) named s is =
+sheet c name p style texts old new n (Err send_errors.Device) named s is =
     let text = sheet_or_line (refusal c p n) (table c p style texts n) in
     let right : IsSelection c name p style texts (answer_to (refusal c p n)) text = record { number = n; named = named; answer_is = refl; text_is = refl } in
     (s.0, s.3, λ a t other. (s.1, one_selection c name p style texts a (answer_to (refusal c p n)) t text other right ∙ s.2))
-sheet c name p style texts old new n (Err halts.Memory) named s is =
+sheet c name p style texts old new n (Err send_errors.Memory) named s is =
     let text = sheet_or_line (refusal c p n) (table c p style texts n) in
     let right : IsSelection c name p style texts (answer_to (refusal c p n)) text = record { number = n; named = named; answer_is = refl; text_is = refl } in
     (s.0, s.3, λ a t other. (s.1, one_selection c name p style texts a (answer_to (refusal c p n)) t text other right ∙ s.2))
 
-pub sent_sheet : (c : Contents) (name : List ℕ) (p : Pick) (style : FloatStyle) (texts : Bool) (old new : Option (List ℕ)) (n : Option ℕ) (answer : Answer) (result : Result Bool Halt) → IsFirstNamed c.schema.vars name n
+pub sent_sheet : (c : Contents) (name : List ℕ) (p : Pick) (style : FloatStyle) (texts : Bool) (old new : Option (List ℕ)) (n : Option ℕ) (answer : Answer) (result : Result Bool SendError) → IsFirstNamed c.schema.vars name n
     → SendsSheet (refusal c p n) old new (table c p style texts n) result → ((b : Bool) → result ≡ Ok b → b ≡ is_none (refusal c p n)) → answer ≡ sheet_answer result → Gone (IsSelection c name p style texts) old new answer
 sent_sheet c name p style texts old new n answer result named s is e =
     subst (λ (x : Answer). Gone (IsSelection c name p style texts) old new x) (sym e) (sheet c name p style texts old new n result named s is)
@@ -103,11 +103,11 @@ pub fault_of : (cause : Option SlabFault) → Refused ≡ answer_to cause → (f
 fault_of None is = cc is
 fault_of (Some f) is = (f, refl)
 
-pub not_memory : (result : Result Bool Halt) → (result ≡ Err halts.Memory → ⊥) → sheet_answer result ≡ Memory → ⊥
+pub not_memory : (result : Result Bool SendError) → (result ≡ Err send_errors.Memory → ⊥) → sheet_answer result ≡ Memory → ⊥
 not_memory (Ok true) never is = cc is
 not_memory (Ok false) never is = cc is
-not_memory (Err halts.Device) never is = cc is
-not_memory (Err halts.Memory) never is = never refl
+not_memory (Err send_errors.Device) never is = cc is
+not_memory (Err send_errors.Memory) never is = never refl
 
 -- ---- of bytes
 
@@ -203,7 +203,7 @@ refused_in laws bytes limit name p style texts s placed o text (inl x) =
     (of_header laws bytes limit name p style texts o.header o.passes Refused text x)
 refused_in laws bytes limit name p style texts s placed o text (inr y) = absurd (laws.apart bytes limit y.0 (o.header, o.passes) y.1)
 
-pub sent_fault : (bytes : List ℕ) (limit : ℕ) (name : List ℕ) (p : Pick) (style : FloatStyle) (texts : Bool) → OneAnswer (IsCsvText bytes limit name p style texts) → (old new : Option (List ℕ)) (f : FileFault) (answer : Answer) (result : Result (Unit {0}) Halt) → Fails bytes limit f
+pub sent_fault : (bytes : List ℕ) (limit : ℕ) (name : List ℕ) (p : Pick) (style : FloatStyle) (texts : Bool) → OneAnswer (IsCsvText bytes limit name p style texts) → (old new : Option (List ℕ)) (f : FileFault) (answer : Answer) (result : Result (Unit {0}) SendError) → Fails bytes limit f
     → SendsAll old new (file_fault_line f) result → answer ≡ answer_of result Refused → Gone (IsCsvText bytes limit name p style texts) old new answer
 sent_fault bytes limit name p style texts one old new f answer result a s e =
     subst (λ (x : Answer). Gone (IsCsvText bytes limit name p style texts) old new x) (sym e)

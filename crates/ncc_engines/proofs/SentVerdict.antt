@@ -6,7 +6,7 @@ use Rattle.ncc_check.specs.declared.report.Report.{Report}
 use Rattle.ncc_check.specs.Checks.{Checks}
 use Rattle.ncc_check.specs.Faults.{Fails}
 use Rattle.ncc_check.specs.Passes.{Passes}
-use Rattle.ncc_lines.specs.declared.halt.Halt.{Halt}
+use Rattle.ncc_lines.specs.declared.send_error.SendError.{SendError}
 use Rattle.ncc_lines.specs.Verdicts.{report_text, file_fault_line}
 use Rattle.ncc_lines.specs.Sends.{SendsAll}
 use Rattle.ncc_answers.specs.declared.answer.Answer.{Answer}
@@ -61,14 +61,14 @@ right bytes limit strict r Refused e a = (inl (r, a, e, refl), inl (r, a, e, ref
 right bytes limit strict r Device e a = absurd (never_device strict r.notes e)
 right bytes limit strict r Memory e a = absurd (never_memory strict r.notes e)
 
-pub sent_report : Laws → (bytes : List ℕ) (limit : ℕ) (strict : Bool) (old new : Option (List ℕ)) (r : Report) (judged answer : Answer) (result : Result (Unit {0}) Halt) → Checks bytes limit (Ok r) → judged ≡ verdict strict r
+pub sent_report : Laws → (bytes : List ℕ) (limit : ℕ) (strict : Bool) (old new : Option (List ℕ)) (r : Report) (judged answer : Answer) (result : Result (Unit {0}) SendError) → Checks bytes limit (Ok r) → judged ≡ verdict strict r
     → SendsAll old new (report_text r) result → answer ≡ answer_of result judged → Gone (IsCheckText bytes limit strict) old new answer
 sent_report laws bytes limit strict old new r judged answer result a j s e =
     let both = right bytes limit strict r judged j a in
     subst (λ (x : Answer). Gone (IsCheckText bytes limit strict) old new x) (sym e)
     (sent (IsCheckText bytes limit strict) (one_text laws bytes limit strict) old new (report_text r) judged result both.0 both.1 s)
 
-pub sent_file_fault : Laws → (bytes : List ℕ) (limit : ℕ) (strict : Bool) (old new : Option (List ℕ)) (f : FileFault) (answer : Answer) (result : Result (Unit {0}) Halt) → Fails bytes limit f
+pub sent_file_fault : Laws → (bytes : List ℕ) (limit : ℕ) (strict : Bool) (old new : Option (List ℕ)) (f : FileFault) (answer : Answer) (result : Result (Unit {0}) SendError) → Fails bytes limit f
     → SendsAll old new (file_fault_line f) result → answer ≡ answer_of result Refused → Gone (IsCheckText bytes limit strict) old new answer
 sent_file_fault laws bytes limit strict old new f answer result a s e =
     subst (λ (x : Answer). Gone (IsCheckText bytes limit strict) old new x) (sym e)

@@ -20,8 +20,8 @@ abbrev pub IsConvertible : Version → Schema → (records : ℕ) → Type 0
 IsConvertible v s n = RebuildsAs {T = Unit {0}} v s n (Ok tt)
 
 -- a front of the line of what is against it, or where nothing is of the line that it was converted
-abbrev pub HaltsLine : Version → Schema → (records : ℕ) → (old new : Option (List ℕ)) → Type 0
-HaltsLine v s n old new = ((f : WriteFault) × IsAgainst v s n f × PutsFront old new (plan_line f))
+abbrev pub SendErrorLine : Version → Schema → (records : ℕ) → (old new : Option (List ℕ)) → Type 0
+SendErrorLine v s n old new = ((f : WriteFault) × IsAgainst v s n f × PutsFront old new (plan_line f))
     ⊎ (IsConvertible v s n × PutsFront old new (converted_line v))
 
 -- nothing is printed of a plan, and its line of what is against it

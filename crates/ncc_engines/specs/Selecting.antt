@@ -12,9 +12,9 @@ use Rattle.ncc_layout.specs.declared.placed_file.Placed.{Placed}
 use Rattle.ncc_layout.specs.declared.placed_var.PlacedVar.{PlacedVar}
 use Rattle.ncc_check.specs.FromStore.{SettledBy}
 use Rattle.ncc_check.specs.Passes.{Passes, PassesWith}
-use Rattle.ncc_lines.specs.declared.halt.Halt.{Halt}
+use Rattle.ncc_lines.specs.declared.send_error.SendError.{SendError}
 use Rattle.ncc_lines.specs.declared.style.FloatStyle.{FloatStyle}
-use Rattle.ncc_lines.specs.declared.halt.Halt.TheVariants as halts
+use Rattle.ncc_lines.specs.declared.send_error.SendError.TheVariants as send_errors
 use Rattle.ncc_slab.specs.Refusals.{slab_fault}
 use Rattle.ncc_slab.specs.Selected.{places_of}
 use Rattle.ncc_slab.specs.Stretches.{all_stretches}
@@ -82,11 +82,11 @@ pub record IsSelection (c : Contents) (name : List ℕ) (p : Pick) (style : Floa
   pub text_is : text ≡ sheet_or_line (refusal c p number) (table c p style texts number)
 
 -- the answer, where names and rows were sent (true) or the line of a refusal
-abbrev pub sheet_answer : Result Bool Halt → Answer
+abbrev pub sheet_answer : Result Bool SendError → Answer
 sheet_answer (Ok true) = Passed
 sheet_answer (Ok false) = Refused
-sheet_answer (Err halts.Device) = Device
-sheet_answer (Err halts.Memory) = Memory
+sheet_answer (Err send_errors.Device) = Device
+sheet_answer (Err send_errors.Memory) = Memory
 
 -- ---- of bytes
 

@@ -8,7 +8,7 @@ ghost use Rattle.ncc_check.specs.Passes.{HasOwnElements};
 ghost use Rattle.ncc_answers.specs.Answers.{Fails};
 ghost use Rattle.ncc_engines.specs.Checking.{ChecksInto, IsFaultOf};
 
-use ncc_answers::{Answer, answered, judged};
+use ncc_answers::{Answer, answer_of_report, answer_of_sent};
 use ncc_check::{Refusal, check, laws};
 use ncc_header::Sink;
 use ncc_lines::{send_file_fault, send_report};
@@ -36,8 +36,11 @@ pub fn check_engine<S: Store, W: Sink>(
     laws::passing_has_no_fault();
     laws::one_report();
     match check(alloc, store, limit) {
-        Ok(report) => answered(send_report(alloc, &report, sink), judged(strict, &report)),
-        Err(Refusal::Fault(fault)) => answered(send_file_fault(fault, sink), Answer::Refused),
+        Ok(report) => answer_of_sent(
+            send_report(alloc, &report, sink),
+            answer_of_report(strict, &report),
+        ),
+        Err(Refusal::Fault(fault)) => answer_of_sent(send_file_fault(fault, sink), Answer::Refused),
         Err(Refusal::Device) => Answer::Device,
         Err(Refusal::Memory) => Answer::Memory,
     }

@@ -12,7 +12,7 @@ ghost use Rattle.ncc_convert.specs.Copying.{pieces_of};
 ghost use Rattle.ncc_write.specs.Planned.{IsPlanned};
 ghost use Rattle.ncc_engines.specs.Converting.{ConversionCounts, ConvertsInto};
 
-use ncc_answers::{Answer, answered};
+use ncc_answers::{Answer, answer_of_sent};
 use ncc_check::NcFile;
 use ncc_convert::convert;
 use ncc_header::Sink;
@@ -45,5 +45,5 @@ pub fn convert_engine<S: Store, W: Sink + Drop, P: Progress>(
         (file_length_of (placed_of file.old)) }
 {
     let (sink, done) = convert(alloc, file, built, sink, progress);
-    (sink, answered(done, Answer::Passed))
+    (sink, answer_of_sent(done, Answer::Passed))
 }

@@ -16,7 +16,7 @@ ghost use Rattle.ncc_write.specs.Extends.{HoldsSome, with_fills};
 ghost use Rattle.ncc_answers.specs.Answers.{ChecksBy, Fails};
 ghost use Rattle.ncc_engines.specs.Extending.{ExtendsByFew, ExtendsInto, IsFilled, IsFrontOfRefusal, LeavesAtStop, LeavesBytes, Settles, Tells};
 
-use ncc_answers::{Answer, answered};
+use ncc_answers::{Answer, answer_of_sent};
 use ncc_check::laws::appending::opens_as_one;
 use ncc_check::{AppendError, Refusal, laws as check_laws, open};
 use ncc_header::Sink;
@@ -38,7 +38,7 @@ fn tell<W: Sink>(extended: Result<(), AppendError>, records: u64, sink: &mut W) 
     ensures untold { result ≡ Answer.Memory → sink.new ≡ sink.old }
 {
     match extended {
-        Ok(()) => answered(send_records(records, sink), Answer::Passed),
+        Ok(()) => answer_of_sent(send_records(records, sink), Answer::Passed),
         Err(error) => {
             if error == AppendError::Device {
                 return Answer::Device;
@@ -46,7 +46,7 @@ fn tell<W: Sink>(extended: Result<(), AppendError>, records: u64, sink: &mut W) 
             if error == AppendError::Memory {
                 return Answer::Memory;
             }
-            answered(send_append_refusal(error, sink), Answer::Refused)
+            answer_of_sent(send_append_refusal(error, sink), Answer::Refused)
         }
     }
 }
@@ -96,7 +96,7 @@ pub fn extend_engine<S: Store, W: Sink>(
             Refusal::Fault(fault) => {
                 (
                     store,
-                    answered(send_file_fault(fault, sink), Answer::Refused),
+                    answer_of_sent(send_file_fault(fault, sink), Answer::Refused),
                 )
             }
             Refusal::Device => (store, Answer::Device),

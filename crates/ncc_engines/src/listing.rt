@@ -9,7 +9,7 @@ ghost use Rattle.ncc_header.specs.Answers.{Begins, IsLeft};
 ghost use Rattle.ncc_answers.specs.Answers.{Fails};
 ghost use Rattle.ncc_engines.specs.Listing.{IsFaultOf, Lists};
 
-use ncc_answers::{Answer, answered};
+use ncc_answers::{Answer, answer_of_sent};
 use ncc_check::{Refusal, header_in};
 use ncc_header::{HeaderError, Sink, Source, laws, read_header};
 use ncc_lines::{FloatStyle, send_fault, send_file_fault, send_header};
@@ -38,8 +38,8 @@ pub fn list_engine<R: Source, W: Sink>(
 {
     laws::header_or_stop();
     match read_header(alloc, source, limit) {
-        Ok(header) => answered(send_header(alloc, &header, style, sink), Answer::Passed),
-        Err(HeaderError::Fault(fault)) => answered(send_fault(fault, sink), Answer::Refused),
+        Ok(header) => answer_of_sent(send_header(alloc, &header, style, sink), Answer::Passed),
+        Err(HeaderError::Fault(fault)) => answer_of_sent(send_fault(fault, sink), Answer::Refused),
         Err(HeaderError::Device) => Answer::Device,
         Err(HeaderError::Memory) => Answer::Memory,
     }
@@ -64,8 +64,8 @@ pub fn list_store_engine<S: Store, W: Sink>(
 {
     laws::header_or_stop();
     match header_in(alloc, store, limit) {
-        Ok(header) => answered(send_header(alloc, &header, style, sink), Answer::Passed),
-        Err(Refusal::Fault(fault)) => answered(send_file_fault(fault, sink), Answer::Refused),
+        Ok(header) => answer_of_sent(send_header(alloc, &header, style, sink), Answer::Passed),
+        Err(Refusal::Fault(fault)) => answer_of_sent(send_file_fault(fault, sink), Answer::Refused),
         Err(Refusal::Device) => Answer::Device,
         Err(Refusal::Memory) => Answer::Memory,
     }

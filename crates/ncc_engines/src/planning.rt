@@ -8,7 +8,7 @@ ghost use Rattle.ncc_build.specs.Builds.{schema_of as planned_schema};
 ghost use Rattle.ncc_write.specs.Planned.{IsPlanned};
 ghost use Rattle.ncc_engines.specs.Planning.{PlansInto};
 
-use ncc_answers::{Answer, answered};
+use ncc_answers::{Answer, answer_of_sent};
 use ncc_check::NcFile;
 use ncc_convert::send_plan_refusal;
 use ncc_header::Sink;
@@ -40,5 +40,5 @@ pub fn plan<S: Store, W: Sink>(
     if fault == WriteFault::Memory {
         return Err(Answer::Memory);
     }
-    Err(answered(send_plan_refusal(fault, sink), Answer::Refused))
+    Err(answer_of_sent(send_plan_refusal(fault, sink), Answer::Refused))
 }

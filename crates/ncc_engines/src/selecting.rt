@@ -16,12 +16,12 @@ ghost use Rattle.ncc_csv.specs.declared.pick.Pick.{Pick as GivenPick};
 ghost use Rattle.ncc_slab.specs.declared.fault.SlabFault.{SlabFault as GivenFault};
 ghost use Rattle.ncc_lines.specs.declared.style.FloatStyle.{FloatStyle as GivenStyle};
 
-use ncc_answers::{Answer, answered};
+use ncc_answers::{Answer, answer_of_sent};
 use ncc_check::{NcFile, Refusal, laws as check_laws, open};
 use ncc_csv::{Pick, laws as csv_laws, send_refusal, send_sheet, var_named};
 use ncc_header::Sink;
 use ncc_header::laws::header_or_stop;
-use ncc_lines::{FloatStyle, Halt, Progress, send_file_fault};
+use ncc_lines::{FloatStyle, Progress, SendError, send_file_fault};
 use ncc_slab::SlabFault;
 use ncc_store::Store;
 use std::alloc::Global;
@@ -37,14 +37,14 @@ fn one_csv_text()
 }
 
 /// What a selection comes to that was sent, or refused.
-fn told(sent: Result<bool, Halt>) -> Answer
+fn answer_of_sheet(sent: Result<bool, SendError>) -> Answer
     ensures { result ≡ sheet_answer sent }
 {
     match sent {
         Ok(true) => Answer::Passed,
         Ok(false) => Answer::Refused,
-        Err(Halt::Device) => Answer::Device,
-        Err(Halt::Memory) => Answer::Memory,
+        Err(SendError::Device) => Answer::Device,
+        Err(SendError::Memory) => Answer::Memory,
     }
 }
 
@@ -82,15 +82,17 @@ fn select<S: Store, W: Sink, P: Progress>(
     check_laws::open_file_places_all(file);
     csv_laws::pick_fault_is_shape_fault();
     let Some(var) = var_named(file.schema().vars.as_slice(), name) else {
-        return answered(send_refusal(SlabFault::NoVariable, sink), Answer::Refused);
+        return answer_of_sent(send_refusal(SlabFault::NoVariable, sink), Answer::Refused);
     };
     match pick.slab(alloc, file.placed().shape(var)) {
-        Ok(slab) => told(send_sheet(alloc, file, var, &slab, style, texts, sink, progress)),
+        Ok(slab) => answer_of_sheet(send_sheet(
+            alloc, file, var, &slab, style, texts, sink, progress,
+        )),
         Err(fault) => {
             if fault == SlabFault::Memory {
                 return Answer::Memory;
             }
-            answered(send_refusal(fault, sink), Answer::Refused)
+            answer_of_sent(send_refusal(fault, sink), Answer::Refused)
         }
     }
 }
@@ -132,7 +134,7 @@ pub fn csv_engine<S: Store, W: Sink, P: Progress>(
             Refusal::Fault(fault) => {
                 (
                     store,
-                    answered(send_file_fault(fault, sink), Answer::Refused),
+                    answer_of_sent(send_file_fault(fault, sink), Answer::Refused),
                 )
             }
             Refusal::Device => (store, Answer::Device),

@@ -17,7 +17,7 @@ use Rattle.ncc_header.specs.Awaited.{AreNamesOf, names_told, unfinished_at}
 use Rattle.ncc_header.specs.Decoder.{HasFailed, Took, limit_of}
 use Rattle.ncc_header.specs.Fields.{header}
 use Rattle.ncc_header.specs.Grammar.{Grammar, done, field, Outcome, reads, stops, read, unless_wrong}
-use Rattle.ncc_header.specs.Standing.{FailedOn, IsSettled, StopsForGood}
+use Rattle.ncc_header.specs.State.{FailedOn, IsSettled, StopsForGood}
 use Rattle.ncc_header.proofs.GrammarLaws.{whole_front}
 use Rattle.ncc_check.specs.FromStore.{SettledBy}
 use Rattle.ncc_check.proofs.FromStore.{Apart, HeaderIsBegun, OneStop, StopStays, begins_more, front_and_rest, more_taken}
@@ -176,7 +176,7 @@ faulted_on d taken piece limit e f is failed took =
 pub goes_on_in : (d : Decoder) (taken : List ℕ) (place : Option Unfinished) → Took d taken → limit_of d ≡ longest → ¬ HasFailed d errors.Memory
     → ((some more : List ℕ) (h : Header) → Took d some → Begins (some ++ more) (limit_of d) h → length some < h.length → IfSome place (λ u. part_at (length some) (parts_of h.schema) ≡ Some u.part))
     → ((some more : List ℕ) (h : Header) → Took d some → Begins (some ++ more) (limit_of d) h → IfSome place (λ u. AreNamesOf h.schema (names_told u)))
-    → (place ≡ unfinished_at d.standing) → ((some : List ℕ) → Took d some → ¬ HasFailed d errors.Memory → place ≡ None → IsSettled some (limit_of d)) → GoesOnIn taken place
+    → (place ≡ unfinished_at d.state) → ((some : List ℕ) → Took d some → ¬ HasFailed d errors.Memory → place ≡ None → IsSettled some (limit_of d)) → GoesOnIn taken place
 goes_on_in d taken place took limit fresh part names exact settled = record {
   part = λ more h b. part taken more h took (subst (λ (l : ℕ). Begins (taken ++ more) l h) (sym limit) b);
   names = λ more h b. names taken more h took (subst (λ (l : ℕ). Begins (taken ++ more) l h) (sym limit) b);

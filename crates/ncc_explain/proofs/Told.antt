@@ -3,8 +3,8 @@ use Rattle.std.proofs.Common.{◌≡◌, ◌≢◌, ℕ, Bool, List, Option, Res
 use Rattle.ncc_schema.specs.Device.{Puts}
 use Rattle.ncc_check.specs.Passes.{Passes}
 use Rattle.ncc_json.specs.declared.wording.Wording.{Wording}
-use Rattle.ncc_lines.specs.declared.halt.Halt.{Halt}
-use Rattle.ncc_lines.specs.declared.halt.Halt.TheVariants as halts
+use Rattle.ncc_lines.specs.declared.send_error.SendError.{SendError}
+use Rattle.ncc_lines.specs.declared.send_error.SendError.TheVariants as send_errors
 use Rattle.ncc_lines.specs.Sends.{SendsAll}
 use Rattle.ncc_answers.specs.declared.answer.Answer.{Answer}
 use Rattle.ncc_answers.specs.declared.answer.Answer.TheVariants.{Passed, Refused, Device, Memory}
@@ -22,11 +22,11 @@ module _ (wording : Wording) (bytes : List ℕ) (limit : ℕ) (strict : Bool) wh
   written Device text is = absurd is
   written Memory text is = absurd is
 
-  pub gone : (old new : Option (List ℕ)) (text : List ℕ) (answer : Answer) (result : Result (Unit {0}) Halt) → result ≢ Err halts.Memory → IsToldText wording bytes limit strict answer text
+  pub gone : (old new : Option (List ℕ)) (text : List ℕ) (answer : Answer) (result : Result (Unit {0}) SendError) → result ≢ Err send_errors.Memory → IsToldText wording bytes limit strict answer text
       → SendsAll old new text result → Gone old new (answer_of result answer)
   gone old new text answer (Ok x) never is s = (text, s, written answer text is)
-  gone old new text answer (Err halts.Device) never is s = (s.0, s.3, inr (answer, s.1, subst (IsToldText wording bytes limit strict answer) s.2 is))
-  gone old new text answer (Err halts.Memory) never is s = absurd (never refl)
+  gone old new text answer (Err send_errors.Device) never is s = (s.0, s.3, inr (answer, s.1, subst (IsToldText wording bytes limit strict answer) s.2 is))
+  gone old new text answer (Err send_errors.Memory) never is s = absurd (never refl)
 
   pub passes : (answer : Answer) (text : List ℕ) → answer ≡ Passed → IsToldText wording bytes limit strict answer text → Passes bytes limit
   passes Passed text e is = (is.header, is.passes)

@@ -9,8 +9,8 @@ use Rattle.ncc_check.specs.Checks.{RefusalCounts}
 use Rattle.ncc_check.specs.Examining.{refusal_from}
 use Rattle.ncc_check.specs.FromStore.{ReadsFew, reads_for}
 use Rattle.ncc_check.proofs.FromStore.{Apart, OneStop, StopStays}
-use Rattle.ncc_lines.specs.declared.halt.Halt.{Halt}
-use Rattle.ncc_explain.specs.Explaining.{HaltCounts, ReadsTwice}
+use Rattle.ncc_lines.specs.declared.send_error.SendError.{SendError}
+use Rattle.ncc_explain.specs.Explaining.{SendErrorCounts, ReadsTwice}
 use Rattle.ncc_explain.proofs.Fronts.{fault_in_settled}
 
 -- where the header was read once
@@ -31,7 +31,7 @@ twice stays apart one g old mid new bytes limit f stop few more near = record {
 }
 
 -- a failure of the second reading is the only one
-pub then_counts : {T : Type 0} (r : Result T Halt) (e : Unsound) (f : Fault) (old mid new : ℕ) → e ≡ unsound.Header f → RefusalCounts old mid (refusal_from e) → HaltCounts mid new r → HaltCounts old new r
+pub then_counts : {T : Type 0} (r : Result T SendError) (e : Unsound) (f : Fault) (old mid new : ℕ) → e ≡ unsound.Header f → RefusalCounts old mid (refusal_from e) → SendErrorCounts mid new r → SendErrorCounts old new r
 then_counts r e f old mid new is first second =
     let same : mid ≡ old = subst (λ (u : Unsound). RefusalCounts old mid (refusal_from u)) is first in
-    subst (λ (n : ℕ). HaltCounts n new r) same second
+    subst (λ (n : ℕ). SendErrorCounts n new r) same second

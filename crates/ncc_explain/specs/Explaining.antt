@@ -13,8 +13,8 @@ use Rattle.ncc_check.specs.Examining.{FailsIn, HasSizes, IsChecked}
 use Rattle.ncc_check.specs.Faults.{HasLayoutFault}
 use Rattle.ncc_check.specs.FromStore.{IsBegun, SettledBy, reads_for}
 use Rattle.ncc_check.specs.Passes.{PassesWith}
-use Rattle.ncc_lines.specs.declared.halt.Halt.{Halt}
-use Rattle.ncc_lines.specs.declared.halt.Halt.TheVariants as halts
+use Rattle.ncc_lines.specs.declared.send_error.SendError.{SendError}
+use Rattle.ncc_lines.specs.declared.send_error.SendError.TheVariants as send_errors
 use Rattle.ncc_answers.specs.declared.answer.Answer.{Answer}
 use Rattle.ncc_answers.specs.declared.answer.Answer.TheVariants.{Passed, Refused, Device, Memory}
 use Rattle.ncc_answers.specs.Judged.{verdict}
@@ -127,7 +127,7 @@ pub record ReadsTwice {S : Type 0} (g : Ghosts S) (old new : S) (bytes : List �
   pub reach : (n : ℕ) → SettledBy bytes limit n → g.reach new ≤ max (g.reach old) (n * 65536 + 8)
 
 -- a device is blamed only where it failed
-abbrev pub HaltCounts : {T : Type 0} → (old new : ℕ) → Result T Halt → Type 0
-HaltCounts old new (Ok x) = new ≡ old
-HaltCounts old new (Err halts.Device) = Rose old new
-HaltCounts old new (Err halts.Memory) = new ≡ old
+abbrev pub SendErrorCounts : {T : Type 0} → (old new : ℕ) → Result T SendError → Type 0
+SendErrorCounts old new (Ok x) = new ≡ old
+SendErrorCounts old new (Err send_errors.Device) = Rose old new
+SendErrorCounts old new (Err send_errors.Memory) = new ≡ old

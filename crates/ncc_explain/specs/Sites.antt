@@ -10,7 +10,7 @@ use Rattle.ncc_header.specs.Awaited.{AreNamesOf, names_told, unfinished_at}
 use Rattle.ncc_header.specs.Decoder.{Took, limit_of}
 use Rattle.ncc_header.specs.Fields.{header}
 use Rattle.ncc_header.specs.Grammar.{lacking}
-use Rattle.ncc_header.specs.Standing.{IsSettled}
+use Rattle.ncc_header.specs.State.{IsSettled}
 use Rattle.ncc_parts.specs.Parts.{part_at, parts_of}
 use Rattle.ncc_explain.specs.declared.site.Site.{Site}
 
@@ -39,7 +39,7 @@ pub record GoesOnIn (front : List ℕ) (place : Option Unfinished) : Type 0 wher
   pub part : (more : List ℕ) (h : TheHeader) → Begins (front ++ more) longest h → length front < h.length
       → IfSome place (λ u. part_at (length front) (parts_of h.schema) ≡ Some u.part)
   pub names : (more : List ℕ) (h : TheHeader) → Begins (front ++ more) longest h → IfSome place (λ u. AreNamesOf h.schema (names_told u))
-  pub told : (d : Decoder) × Took d front × (limit_of d ≡ longest) × (place ≡ unfinished_at d.standing)
+  pub told : (d : Decoder) × Took d front × (limit_of d ≡ longest) × (place ≡ unfinished_at d.state)
   pub settled : place ≡ None → IsSettled front longest
 
 -- what is found at the offset of this fault, in bytes whose header may have so many bytes

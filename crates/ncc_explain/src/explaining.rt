@@ -15,11 +15,11 @@ use crate::examining::{Examined, examine};
 use crate::objects::{header_fault_object, layout_fault_object, report_object};
 use crate::site::Site;
 use crate::telling::{told_header_fault, told_layout_fault, told_report};
-use ncc_answers::{Answer, answered, judged};
+use ncc_answers::{Answer, answer_of_report, answer_of_sent};
 use ncc_check::{Checked, Unplaced, laws};
 use ncc_header::{Fault, Sink};
 use ncc_json::Wording;
-use ncc_lines::Halt;
+use ncc_lines::SendError;
 use ncc_places::send_text;
 use ncc_store::Store;
 use std::alloc::{AllocError, Global};
@@ -85,7 +85,7 @@ fn told_of(
     match found {
         Examined::Passing(found) => Ok((
             report_text(alloc, &found, wording)?,
-            judged(strict, &found.report),
+            answer_of_report(strict, &found.report),
         )),
         Examined::Unplaced(found) => Ok((
             layout_fault_text(alloc, &found, wording)?,
@@ -124,11 +124,11 @@ pub fn explain_engine<S: Store, W: Sink>(
     laws::passing_elements_are_apart();
     let found = match examine(alloc, store, limit) {
         Ok(found) => found,
-        Err(Halt::Device) => return Answer::Device,
-        Err(Halt::Memory) => return Answer::Memory,
+        Err(SendError::Device) => return Answer::Device,
+        Err(SendError::Memory) => return Answer::Memory,
     };
     match told_of(alloc, found, limit, strict, wording) {
-        Ok((text, answer)) => answered(send_text(&text, sink), answer),
+        Ok((text, answer)) => answer_of_sent(send_text(&text, sink), answer),
         Err(_) => Answer::Memory,
     }
 }

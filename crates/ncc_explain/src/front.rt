@@ -4,13 +4,13 @@ ghost use Rattle.std.specs.Prelude.{◌≡◌, ◌+◌, ◌++◌, ◌≤◌, ℕ
 ghost use Rattle.ncc_store.specs.Reading.{ReadsOnly};
 ghost use Rattle.ncc_header.specs.declared.fault.HeaderError.TheVariants as errors;
 ghost use Rattle.ncc_header.specs.Decoder.{HasFailed, Took, limit_of};
-ghost use Rattle.ncc_header.specs.Standing.{IsSettled};
+ghost use Rattle.ncc_header.specs.State.{IsSettled};
 ghost use Rattle.ncc_check.specs.FromStore.{reads_for};
-ghost use Rattle.ncc_explain.specs.Explaining.{HaltCounts};
+ghost use Rattle.ncc_explain.specs.Explaining.{SendErrorCounts};
 ghost use Rattle.ncc_explain.specs.Sites.{IsFront, longest};
 
 use ncc_header::{Decoder, Fed, HeaderError};
-use ncc_lines::Halt;
+use ncc_lines::SendError;
 use ncc_store::{Store, laws as store_laws};
 use std::alloc::Global;
 
@@ -23,7 +23,7 @@ fn feed_piece<S: Store>(
     decoder: &mut Decoder,
     at: u64,
     room: &mut [u8],
-) -> Result<bool, Halt>
+) -> Result<bool, SendError>
     requires there { IsTrue S.tells_bytes → at + length room.old ≤ length (S.bytes store.old) }
     requires fresh { ¬ HasFailed decoder.old errors.Memory }
     ensures more { result ≡ Ok true → (taken : List ℕ) → Took decoder.old taken
@@ -35,22 +35,22 @@ fn feed_piece<S: Store>(
         → OnOk result (room.new ≡ take (length room.old) (drop at (S.bytes store.old))) }
     ensures fresh { OnOk result (¬ HasFailed decoder.new errors.Memory) }
     ensures limit { limit_of decoder.new ≡ limit_of decoder.old }
-    ensures store { ReadsOnly S.Store store.old store.new (λ a b. HaltCounts a b result) true 1
+    ensures store { ReadsOnly S.Store store.old store.new (λ a b. SendErrorCounts a b result) true 1
         (at + length room.old) }
 {
     let Ok(()) = store.read_at(at, room) else {
-        return Err(Halt::Device);
+        return Err(SendError::Device);
     };
     match decoder.feed(room) {
         Ok(Fed::More) => Ok(true),
         Ok(Fed::Done(_)) => Ok(false),
         Err(HeaderError::Fault(_)) => Ok(false),
-        Err(_) => Err(Halt::Memory),
+        Err(_) => Err(SendError::Memory),
     }
 }
 
 /// Feeds a decoder the first `end` bytes of a store, or as many as settle what the header is.
-fn feed_front<S: Store>(store: &mut S, decoder: &mut Decoder, end: u64) -> Result<(), Halt>
+fn feed_front<S: Store>(store: &mut S, decoder: &mut Decoder, end: u64) -> Result<(), SendError>
     requires there { IsTrue S.tells_bytes → end ≤ length (S.bytes store.old) }
     requires took { Took decoder.old [] }
     requires fresh { ¬ HasFailed decoder.old errors.Memory }
@@ -59,7 +59,7 @@ fn feed_front<S: Store>(store: &mut S, decoder: &mut Decoder, end: u64) -> Resul
         × (IsTrue S.tells_bytes → IsFront (S.bytes store.old) end taken)) }
     ensures fresh { OnOk result (¬ HasFailed decoder.new errors.Memory) }
     ensures limit { OnOk result (limit_of decoder.new ≡ longest) }
-    ensures store { ReadsOnly S.Store store.old store.new (λ a b. HaltCounts a b result) true (reads_for end) end }
+    ensures store { ReadsOnly S.Store store.old store.new (λ a b. SendErrorCounts a b result) true (reads_for end) end }
 {
     store_laws::unmoved_calls_join::<S>();
     let mut piece = [0; PIECE as usize];
@@ -76,13 +76,13 @@ fn feed_front<S: Store>(store: &mut S, decoder: &mut Decoder, end: u64) -> Resul
 }
 
 /// A decoder that was fed the first `end` bytes of a store, or as many as settle what the header is.
-pub fn front_of<S: Store>(alloc: Global, store: &mut S, end: u64) -> Result<Decoder, Halt>
+pub fn front_of<S: Store>(alloc: Global, store: &mut S, end: u64) -> Result<Decoder, SendError>
     requires { IsTrue S.tells_bytes → end ≤ length (S.bytes store.old) }
     ensures ok { IfOk result (λ d. (taken : List ℕ) × Took d taken
         × (IsTrue S.tells_bytes → IsFront (S.bytes store.old) end taken)) }
     ensures fresh { IfOk result (λ d. ¬ HasFailed d errors.Memory) }
     ensures limit { IfOk result (λ d. limit_of d ≡ longest) }
-    ensures store { ReadsOnly S.Store store.old store.new (λ a b. HaltCounts a b result) true (reads_for end) end }
+    ensures store { ReadsOnly S.Store store.old store.new (λ a b. SendErrorCounts a b result) true (reads_for end) end }
 {
     let mut decoder = Decoder::new(alloc, u64::MAX);
     feed_front(store, &mut decoder, end)?;

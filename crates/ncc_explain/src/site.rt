@@ -5,13 +5,13 @@ ghost use Rattle.ncc_values.specs.Failures.{Counts};
 ghost use Rattle.ncc_store.specs.Reading.{ReadsOnly};
 ghost use Rattle.ncc_header.specs.Answers.{Stops};
 ghost use Rattle.ncc_check.specs.FromStore.{reads_for};
-ghost use Rattle.ncc_explain.specs.Explaining.{HaltCounts};
+ghost use Rattle.ncc_explain.specs.Explaining.{SendErrorCounts};
 ghost use Rattle.ncc_explain.specs.Sites.{IsSite, number_at};
 
 use crate::front::front_of;
 use ncc_header::laws::{header_is_begun, header_or_stop};
 use ncc_header::{Fault, Unfinished};
-use ncc_lines::Halt;
+use ncc_lines::SendError;
 use ncc_parts::unfinished;
 use ncc_store::{Device, Store, laws as store_laws};
 use ncc_values::number;
@@ -55,10 +55,10 @@ pub fn site_of<S: Store>(
     store: &mut S,
     limit: u64,
     fault: Fault,
-) -> Result<Site, Halt>
+) -> Result<Site, SendError>
     ensures site { IsTrue S.tells_bytes → Stops (S.bytes store.old) limit fault
         → IfOk result (IsSite (S.bytes store.old) limit fault) }
-    ensures store { ReadsOnly S.Store store.old store.new (λ a b. HaltCounts a b result) true
+    ensures store { ReadsOnly S.Store store.old store.new (λ a b. SendErrorCounts a b result) true
         (2 + reads_for fault.offset) limit }
     ensures near { S.reach store.new ≤ max (S.reach store.old) (fault.offset + 8) }
 {
@@ -66,12 +66,12 @@ pub fn site_of<S: Store>(
     header_or_stop();
     store_laws::unmoved_calls_join::<S>();
     let Ok(file_length) = store.len() else {
-        return Err(Halt::Device);
+        return Err(SendError::Device);
     };
     let end = file_length.min(limit);
     let decoder = front_of(alloc, store, fault.offset.min(end))?;
     let Ok(value) = number_at(store, fault.offset, decoder.wants(), end) else {
-        return Err(Halt::Device);
+        return Err(SendError::Device);
     };
     Ok(Site {
         place: unfinished(decoder),

@@ -4,14 +4,14 @@ use Rattle.std.proofs.lemmas.List.{length-append, length-take-le, take-append-dr
 use Rattle.ncc_header.specs.declared.fault.Fault.{Fault}
 use Rattle.ncc_header.specs.declared.fault.HeaderError.{HeaderError}
 use Rattle.ncc_header.specs.declared.fault.HeaderError.TheVariants as errors
-use Rattle.ncc_header.specs.declared.standing.Fed.{Fed}
-use Rattle.ncc_header.specs.declared.standing.Fed.TheVariants.{More, Done}
+use Rattle.ncc_header.specs.declared.state.Fed.{Fed}
+use Rattle.ncc_header.specs.declared.state.Fed.TheVariants.{More, Done}
 use Rattle.std.specs.Prelude.{true, false, is_some}
 use Rattle.ncc_header.specs.declared.reading.Reading.{Reading}
 use Rattle.ncc_header.specs.Answers.{Stops}
 use Rattle.ncc_header.specs.Steps.{size_of}
 use Rattle.ncc_header.specs.Reading.{next_of}
-use Rattle.ncc_header.specs.Standing.{HasTaken, cut_at, IsWhole, StopsForGood, FailedOn, Feeds, FedOrMemory}
+use Rattle.ncc_header.specs.State.{HasTaken, cut_at, IsWhole, StopsForGood, FailedOn, Feeds, FedOrMemory}
 use Rattle.ncc_header.proofs.Deciding.{begins_before}
 use Rattle.ncc_header.proofs.Feeding.{cut_stops}
 use Rattle.ncc_header.proofs.HeaderLaws.{apart, one_fault, one_header, whole_begins}

@@ -21,15 +21,15 @@ use Rattle.ncc_schema.specs.declared.schema.Schema.{Schema}
 use Rattle.ncc_header.specs.Grammar.{Plain, CountOfTagged, Begin, Grammar, done, Spells, Field, fields, ◌>>=◌, ◌into◌, repeat}
 use Rattle.ncc_schema.specs.Schema.{Place}
 use Rattle.ncc_schema.specs.Header.{IsHeader, exactly, zeros, canon_name, canon_head, canon_list, canon_dimids, canon_dim, canon_attr, canon_var, canon}
-use Rattle.ncc_header.specs.Fields.{nc_type, values, bytes, list_tag, magic, version, numrecs, nelems_wrong, tag_wrong, list_nelems_wrong, length_wrong, dimid_wrong, begin_wrong, number, number_field, padding, name, label_of_count, list_nelems, list_head, list, dim, attr, attrs, dimid, dimids, var, header}
+use Rattle.ncc_header.specs.Fields.{nc_type, values, bytes, list_tag, magic, version, numrecs, nelems_wrong, tag_wrong, list_nelems_wrong, dim_length_wrong, dimid_wrong, begin_wrong, number, number_field, padding, name, label_of_count, list_nelems, list_head, list, dim, attr, attrs, dimid, dimids, var, header}
 use Rattle.ncc_header.specs.Marks.{marks, mark_of, all_zero, header_marks}
 use Rattle.ncc_header.proofs.GrammarLaws.{joined}
 use Rattle.ncc_header.proofs.FieldsLaws.{fields-join}
 use Rattle.ncc_header.proofs.Exact.{Exact, ◌then◌, exact_then, exact_number, exact_bytes, exact_padding}
-use Rattle.ncc_header.proofs.RulesOfLists.{exact_nelems, exact_name}
-use Rattle.ncc_header.proofs.RulesOfVars.{exact_type, exact_values, var_flat, var_of, var_parts}
+use Rattle.ncc_header.proofs.ExactLists.{exact_nelems, exact_name}
+use Rattle.ncc_header.proofs.ExactVars.{exact_type, exact_values, var_flat, var_of, var_parts}
 use Rattle.ncc_header.proofs.HeaderLaws.{fields_spell}
-use Rattle.ncc_header.proofs.Rules.{exact_magic, exact_version, exact_numrecs, header_flat, whole, parts, lists, zip_maps}
+use Rattle.ncc_header.proofs.ExactHeader.{exact_magic, exact_version, exact_numrecs, header_flat, whole, parts, lists, zip_maps}
 use Rattle.ncc_schema.proofs.Sizes.{length-canon_head}
 
 -- ---- parts
@@ -407,8 +407,8 @@ clean_list v own one = clean_counted (clean_head v own) one
 
 clean_dim : (v : Version) (before : List Dim) → Clean (dim v before) (canon_dim v)
 clean_dim v before = clean_into (λ x. record { name = x.0; length = x.1 }) (λ d. (d.name, d.length)) (λ a b sp. refl)
-    (clean_then (clean_name v) (λ _. clean_exact (exact_number Plain (count_width_of v) (length_wrong v before))
-    (number_plain (count_width_of v) (length_wrong v before))))
+    (clean_then (clean_name v) (λ _. clean_exact (exact_number Plain (count_width_of v) (dim_length_wrong v before))
+    (number_plain (count_width_of v) (dim_length_wrong v before))))
 
 clean_attr : (v : Version) → Clean (attr v) (canon_attr v)
 clean_attr v =

@@ -6,10 +6,10 @@ use Rattle.ncc_header.specs.declared.fault.FaultKind.TheVariants.{EndsEarly}
 use Rattle.ncc_header.specs.declared.fault.HeaderError.{HeaderError}
 use Rattle.ncc_header.specs.declared.fault.HeaderError.TheVariants as errors
 use Rattle.ncc_schema.specs.declared.schema.Header.{Header}
-use Rattle.ncc_header.specs.declared.standing.Fed.{Fed}
-use Rattle.ncc_header.specs.declared.standing.Fed.TheVariants.{More, Done}
+use Rattle.ncc_header.specs.declared.state.Fed.{Fed}
+use Rattle.ncc_header.specs.declared.state.Fed.TheVariants.{More, Done}
 use Rattle.ncc_header.specs.Answers.{Begins, Stops, Answers, OrMemory}
-use Rattle.ncc_header.specs.Standing.{IsWhole, IsSettled, FailedOn, Feeds, front_taken}
+use Rattle.ncc_header.specs.State.{IsWhole, IsSettled, FailedOn, Feeds, front_taken}
 use Rattle.ncc_header.proofs.HeaderLaws.{apart, one_begins, one_fault, header_stop_stays, whole_begins}
 
 abbrev answer : Result Header HeaderError → Result Header HeaderError

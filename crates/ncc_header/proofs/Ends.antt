@@ -6,15 +6,15 @@ use Rattle.std.proofs.lemmas.Slice.Zip.{firsts-zip, seconds-zip}
 use Rattle.ncc_schema.specs.declared.schema.Attr.{Attr}
 use Rattle.ncc_schema.specs.declared.schema.Var.{Var}
 use Rattle.ncc_schema.specs.declared.schema.VarPlace.{VarPlace}
-use Rattle.ncc_header.specs.declared.built.Begun.{Begun}
-use Rattle.ncc_header.specs.declared.built.Built.{Built}
-use Rattle.ncc_header.specs.declared.built.Lists.{Lists}
-use Rattle.ncc_header.specs.declared.built.Next.{Next}
-use Rattle.ncc_header.specs.declared.built.Next.TheVariants as nexts
-use Rattle.ncc_header.specs.declared.built.Owner.{Owner}
-use Rattle.ncc_header.specs.declared.built.Owner.TheVariants as owners
-use Rattle.ncc_header.specs.declared.built.Parts.{Parts}
-use Rattle.ncc_header.specs.declared.built.Vars.{Vars}
+use Rattle.ncc_header.specs.declared.partial.Begun.{Begun}
+use Rattle.ncc_header.specs.declared.partial.Partial.{Partial}
+use Rattle.ncc_header.specs.declared.partial.Lists.{Lists}
+use Rattle.ncc_header.specs.declared.partial.Next.{Next}
+use Rattle.ncc_header.specs.declared.partial.Next.TheVariants as nexts
+use Rattle.ncc_header.specs.declared.partial.Owner.{Owner}
+use Rattle.ncc_header.specs.declared.partial.Owner.TheVariants as owners
+use Rattle.ncc_header.specs.declared.partial.Parts.{Parts}
+use Rattle.ncc_header.specs.declared.partial.Vars.{Vars}
 use Rattle.ncc_header.specs.Fields.{attrs, var}
 use Rattle.ncc_header.specs.Grammar.{Grammar, done, ◌>>=◌, repeat}
 use Rattle.ncc_schema.specs.Schema.{Place, place_of, places_of}
@@ -49,10 +49,10 @@ before_more (y ∷ vars) [] x p h = absurd (omega (arith, h))
 before_more (y ∷ vars) (q ∷ places) x p h = ap (λ (rest : List (Var × Place)). (y, place_of q) ∷ rest) (before_more vars places x p (omega (arith, h)))
 
 -- where no field is left, all are behind
-pub is_whole : (next : Next) (b : Built) → size_of (left_of next b) ≡ None → next ≡ nexts.Whole
+pub is_whole : (next : Next) (b : Partial) → size_of (left_of next b) ≡ None → next ≡ nexts.Whole
 is_whole nexts.Magic b h = absurd cc
 is_whole nexts.VersionByte b h = absurd cc
-is_whole nexts.RecordCount b h = absurd cc
+is_whole nexts.NumRecs b h = absurd cc
 is_whole nexts.DimsTag b h = absurd cc
 is_whole (nexts.DimsCount t) b h = absurd cc
 is_whole (nexts.NameLength x) b h = absurd cc
@@ -70,6 +70,6 @@ is_whole (nexts.VarsCount t) b h = absurd cc
 is_whole nexts.DimIdsCount b h = absurd cc
 is_whole (nexts.DimId k) b h = absurd cc
 is_whole nexts.VarType b h = absurd cc
-is_whole (nexts.VarSize t) b h = absurd cc
+is_whole (nexts.Vsize t) b h = absurd cc
 is_whole (nexts.VarBegin t size) b h = absurd cc
 is_whole nexts.Whole b h = refl

@@ -20,7 +20,7 @@ use Rattle.ncc_schema.specs.Schema.{places_of}
 use Rattle.ncc_header.specs.Left.{Given}
 use Rattle.ncc_header.specs.Steps.{size_of}
 use Rattle.ncc_header.specs.Reading.{course, from_start, next_of, held_of, begun_of, onward, Takes, FailsBehind, Waits}
-use Rattle.ncc_header.specs.Standing.{IsWhole, HasTaken, FailedOn, Feeds, IsSettled, lacks_of, fed_of, front_taken, cut_at}
+use Rattle.ncc_header.specs.State.{IsWhole, HasTaken, FailedOn, Feeds, IsSettled, lacks_of, fed_of, front_taken, cut_at}
 use Rattle.ncc_header.proofs.OneField.{field_ends_early, field_too_long, lacking_early, lacking_late, lacks_nothing, lacks_none}
 use Rattle.ncc_header.proofs.HeaderLaws.{header_stop_stays, begins_with_read}
 
@@ -32,7 +32,7 @@ has_taken_more old new taken front bytes t k waits = record {
       ∙ ap (from_start old.limit) (append_assoc taken front more)
       ∙ t.goes_on (front ++ more) ∙ k.goes_on more;
   long = omega (arith, k.long, t.long, length-append taken front);
-  partial = λ n is. (waits n is).1;
+  still_short = λ n is. (waits n is).1;
 }
 
 -- nothing comes behind what was taken
@@ -44,7 +44,7 @@ at_end r taken t = ap (λ c. c.outcome) (course_at_end r taken t)
 
 -- a field is next that the input doesn't reach the end of
 ends_early : (r : Reading) (taken : List ℕ) (n : ℕ) → HasTaken r taken → size_of (next_of r) ≡ Some n → r.at + n ≤ r.limit → read header r.limit 0 taken ≡ stops r.at EndsEarly
-ends_early r taken n t is within = at_end r taken t ∙ field_ends_early (next_of r) r.limit r.at n (held_of r) is within (t.partial n is)
+ends_early r taken n t is within = at_end r taken t ∙ field_ends_early (next_of r) r.limit r.at n (held_of r) is within (t.still_short n is)
 
 pub cut_stops : (r : Reading) (taken : List ℕ) (n : ℕ) → HasTaken r taken → size_of (next_of r) ≡ Some n → Stops taken r.limit (cut_at r.limit r.at n)
 cut_stops r taken n t is =
@@ -61,7 +61,7 @@ no_field (field label size wrong next) is = absurd cc
 -- nothing has come of a field that isn't there
 nothing_held : (r : Reading) → size_of (next_of r) ≡ None → held_of r ≡ []
 nothing_held r is =
-    let few : length (held_of r) ≤ unwrap_or (size_of (next_of r)) 0 = r.partial in
+    let few : length (held_of r) ≤ unwrap_or (size_of (next_of r)) 0 = r.still_short in
     let none : unwrap_or (size_of (next_of r)) 0 ≡ 0 = ap (λ (o : Option ℕ). unwrap_or o 0) is in
     nil_from_length (held_of r) (omega (arith, few, none))
 
@@ -145,15 +145,15 @@ fails_again taken piece limit errors.Memory h = tt
 -- ---- what is wanted
 
 lacks_all : (r : Reading) (o : Option ℕ) → size_of (next_of r) ≡ o → ((n : ℕ) → o ≡ Some n → length (held_of r) < n) → lacking (next_of r) r.limit r.at (held_of r) ≡ lacks_of o r.limit r.at (length (held_of r))
-lacks_all r None is partial = let end = no_field (next_of r) is in ap (λ (g : Grammar Given). lacking g r.limit r.at (held_of r)) end.1 ∙ lacks_nothing end.0 r.limit r.at (held_of r)
-lacks_all r (Some n) is partial =
+lacks_all r None is still_short = let end = no_field (next_of r) is in ap (λ (g : Grammar Given). lacking g r.limit r.at (held_of r)) end.1 ∙ lacks_nothing end.0 r.limit r.at (held_of r)
+lacks_all r (Some n) is still_short =
     elim (cases_lt r.limit (r.at + n)) [
       | inl past ↦ rw (lt-ltb r.limit (r.at + n) past) (lacking_late (next_of r) r.limit r.at n (held_of r) is past)
-      | inr within ↦ rw (le-ltb r.limit (r.at + n) within) (lacking_early (next_of r) r.limit r.at n (held_of r) is within (partial n refl))
+      | inr within ↦ rw (le-ltb r.limit (r.at + n) within) (lacking_early (next_of r) r.limit r.at n (held_of r) is within (still_short n refl))
     ]
 
 pub reading_lacks : (r : Reading) (taken : List ℕ) → HasTaken r taken → lacking header r.limit 0 taken ≡ lacks_of (size_of (next_of r)) r.limit r.at (length (held_of r))
-reading_lacks r taken t = ap (λ c. c.lacks) (course_at_end r taken t) ∙ lacks_all r (size_of (next_of r)) refl t.partial
+reading_lacks r taken t = ap (λ c. c.lacks) (course_at_end r taken t) ∙ lacks_all r (size_of (next_of r)) refl t.still_short
 
 -- no field is next: what was taken is a header within the limit
 pub whole_reading : (r : Reading) (taken : List ℕ) → HasTaken r taken → size_of (next_of r) ≡ None → IsWhole taken r.limit
@@ -172,7 +172,7 @@ settled_all r taken (Some n) t is none =
       )
       | inr within ↦
           let lack : n - length (held_of r) ≡ 0 = rw (le-ltb r.limit (r.at + n) within) at none in
-          absurd (omega (arith, lack, t.partial n is))
+          absurd (omega (arith, lack, t.still_short n is))
     ]
 
 pub reading_settled : (r : Reading) (taken : List ℕ) → HasTaken r taken → lacks_of (size_of (next_of r)) r.limit r.at (length (held_of r)) ≡ 0 → IsSettled taken r.limit

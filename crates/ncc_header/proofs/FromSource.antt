@@ -9,13 +9,13 @@ use Rattle.ncc_header.specs.declared.decoder.Decoder.{Decoder}
 use Rattle.ncc_header.specs.declared.fault.HeaderError.{HeaderError}
 use Rattle.ncc_header.specs.declared.fault.HeaderError.TheVariants as errors
 use Rattle.ncc_schema.specs.declared.schema.Header.{Header}
-use Rattle.ncc_header.specs.declared.standing.Fed.{Fed}
-use Rattle.ncc_header.specs.declared.standing.Fed.TheVariants.{More, Done}
+use Rattle.ncc_header.specs.declared.state.Fed.{Fed}
+use Rattle.ncc_header.specs.declared.state.Fed.TheVariants.{More, Done}
 use Rattle.ncc_schema.specs.Device.{AsksFew, Loses, LosesAtMost}
 use Rattle.ncc_header.specs.Answers.{Answers, AnswersOf, CountsAs, IsLeft}
 use Rattle.ncc_header.specs.Decoder.{Took, limit_of}
 use Rattle.ncc_header.specs.FromSource.{HasFed, FailsFeeding, HasRead, IsOver}
-use Rattle.ncc_header.specs.Standing.{FailedOn, Feeds, IsWhole, front_taken}
+use Rattle.ncc_header.specs.State.{FailedOn, Feeds, IsWhole, front_taken}
 use Rattle.ncc_header.proofs.Deciding.{settled_answers}
 use Rattle.ncc_header.proofs.HeaderLaws.{header_stop_stays}
 

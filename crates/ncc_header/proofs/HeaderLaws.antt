@@ -15,7 +15,7 @@ use Rattle.ncc_header.specs.Fields.{header}
 use Rattle.ncc_header.specs.Marks.{header_marks, header_begins}
 use Rattle.ncc_header.specs.Answers.{Begins, Stops}
 use Rattle.ncc_header.proofs.GrammarLaws.{one_spelling, read-is_spelled, begins_or_stops, not_both, one_stop, stop_stays, limit_covers}
-use Rattle.ncc_header.proofs.Rules.{exact_header}
+use Rattle.ncc_header.proofs.ExactHeader.{exact_header}
 use Rattle.ncc_header.proofs.BeginFields.{length-header_begins}
 
 -- the fields of a header spell it, and what they spell is a header

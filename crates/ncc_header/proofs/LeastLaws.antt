@@ -13,16 +13,16 @@ use Rattle.ncc_schema.specs.declared.schema.Dim.{Dim}
 use Rattle.ncc_schema.specs.declared.schema.Var.{Var}
 use Rattle.ncc_schema.specs.Header.{nc_dimension, nc_variable, nc_attribute}
 use Rattle.ncc_schema.specs.Schema.{Place}
-use Rattle.ncc_header.specs.declared.built.Built.{Built}
-use Rattle.ncc_header.specs.declared.built.Lists.{Lists}
-use Rattle.ncc_header.specs.declared.built.Named.{Named}
-use Rattle.ncc_header.specs.declared.built.Named.TheVariants as named
-use Rattle.ncc_header.specs.declared.built.Next.{Next}
-use Rattle.ncc_header.specs.declared.built.Next.TheVariants as nexts
-use Rattle.ncc_header.specs.declared.built.Owner.{Owner}
-use Rattle.ncc_header.specs.declared.built.Owner.TheVariants as owners
-use Rattle.ncc_header.specs.declared.built.Parts.{Parts}
-use Rattle.ncc_header.specs.declared.built.Vars.{Vars}
+use Rattle.ncc_header.specs.declared.partial.Partial.{Partial}
+use Rattle.ncc_header.specs.declared.partial.Lists.{Lists}
+use Rattle.ncc_header.specs.declared.partial.Named.{Named}
+use Rattle.ncc_header.specs.declared.partial.Named.TheVariants as named
+use Rattle.ncc_header.specs.declared.partial.Next.{Next}
+use Rattle.ncc_header.specs.declared.partial.Next.TheVariants as nexts
+use Rattle.ncc_header.specs.declared.partial.Owner.{Owner}
+use Rattle.ncc_header.specs.declared.partial.Owner.TheVariants as owners
+use Rattle.ncc_header.specs.declared.partial.Parts.{Parts}
+use Rattle.ncc_header.specs.declared.partial.Vars.{Vars}
 use Rattle.ncc_header.specs.Grammar.{Grammar, done, ◌>>=◌, repeat}
 use Rattle.ncc_header.specs.Fields.{magic, version, numrecs, nelems, name, bytes, padding, list, list_head, list_tag, list_nelems, dim, dim_length, attr, attrs, nc_type, values, var, dimid, dimids, vsize, begin}
 use Rattle.ncc_header.specs.Least.{rest_of_dims, rest_of_vars, rest_of_owner, rest_of_attrs, rest_of_named, rest_of}
@@ -149,10 +149,10 @@ counted_long v t item = front (list_nelems v t) (repeat item []) (count_width_of
 size_and : {A B : Type 0} (g : Grammar A) (f : A → Grammar B) (m n k : ℕ) → k ≤ m + n → AtLeast g m → ((a : A) → AtLeast (f a) n) → AtLeast (g >>= f) k
 size_and g f m n k le h more = fewer k (m + n) le (both g f m n h more)
 
-pub least : (next : Next) (b : Built) → AtLeast (left_of next b) (next_size next b + rest_of next b.lists)
+pub least : (next : Next) (b : Partial) → AtLeast (left_of next b) (next_size next b + rest_of next b.lists)
 least nexts.Magic b = both magic (λ letters. version >>= from_version) 3 29 (one _ 3 _ _) (λ letters. both version from_version 1 28 (one _ 1 _ _) from_version_long)
 least nexts.VersionByte b = both version from_version 1 28 (one _ 1 _ _) from_version_long
-least nexts.RecordCount b = let v = b.lists.parts.version in both (numrecs v) (from_count v) (count_width_of v) 24 (one _ (count_width_of v) _ _) (from_count_long v)
+least nexts.NumRecs b = let v = b.lists.parts.version in both (numrecs v) (from_count v) (count_width_of v) 24 (one _ (count_width_of v) _ _) (from_count_long v)
 least nexts.DimsTag b = from_count_long b.lists.parts.version b.lists.parts.count
 least (nexts.DimsCount t) b =
     let v = b.lists.parts.version in
@@ -210,7 +210,7 @@ least nexts.VarType b =
     let l = b.lists in
     fewer (4 + (8 + rest_of_vars l)) (12 + rest_of_vars l) (omega arith)
     (in_var_long l.parts l.vars (from_type l.parts.version l.var.name l.var.dims.items l.attrs.items) 12 (from_type_long l.parts.version l.var.name l.var.dims.items l.attrs.items))
-least (nexts.VarSize t) b =
+least (nexts.Vsize t) b =
     let l = b.lists in
     let w = count_width_of l.parts.version in
     fewer (w + (4 + rest_of_vars l)) ((w + 4) + rest_of_vars l) (omega arith)

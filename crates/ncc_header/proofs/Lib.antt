@@ -2,10 +2,10 @@ pub mod GrammarLaws
 mod FieldsLaws
 mod Exact
 mod Judgements
-mod RulesOfLists
-mod RulesOfDims
-mod RulesOfVars
-mod Rules
+mod ExactLists
+mod ExactDims
+mod ExactVars
+mod ExactHeader
 mod BeginFields
 pub mod HeaderLaws
 mod Recounting

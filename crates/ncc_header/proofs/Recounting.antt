@@ -11,7 +11,7 @@ use Rattle.ncc_values.specs.declared.version.Version.TheVariants.{V1, V2, V5}
 use Rattle.ncc_schema.specs.declared.schema.Count.{Count}
 use Rattle.ncc_schema.specs.declared.schema.Header.{Header}
 use Rattle.ncc_schema.specs.declared.schema.Schema.{Schema}
-use Rattle.ncc_schema.specs.Header.{IsHeader, counted, with_count_field}
+use Rattle.ncc_schema.specs.Header.{IsHeader, numrecs_word, with_count_field}
 use Rattle.ncc_schema.specs.Schema.{with_count, header_with_count, places_of}
 use Rattle.ncc_schema.proofs.CountField.{start_of, old_field, new_field, Parts, parts_of, with_rest}
 use Rattle.ncc_header.specs.Grammar.{Plain, Grammar, done, field, Field, fields, ◌>>=◌}
@@ -20,7 +20,7 @@ use Rattle.ncc_header.specs.Marks.{marks, begins, header_marks, header_begins}
 use Rattle.ncc_header.specs.Answers.{Begins}
 use Rattle.ncc_header.proofs.Exact.{◌then◌, flat}
 use Rattle.ncc_header.proofs.FieldsLaws.{fields_first}
-use Rattle.ncc_header.proofs.Rules.{Whole, whole, lists}
+use Rattle.ncc_header.proofs.ExactHeader.{Whole, whole, lists}
 
 -- the fields are the same, whatever is told of them
 fields-into : {A B : Type 0} (g : Grammar A) (to : A → B) (at : ℕ) (b : List ℕ) → fields (g >>= λ a. done (to a)) at b ≡ fields g at b
@@ -88,7 +88,7 @@ module _ (s : Schema) (n : ℕ) where
   v = s.version
 
   old_long : length (old_field s) ≡ count_width_of v
-  old_long = length-big_endian (count_width_of v) (counted v s.count)
+  old_long = length-big_endian (count_width_of v) (numrecs_word v s.count)
 
   new_long : length (new_field s n) ≡ count_width_of v
   new_long = length-big_endian (count_width_of v) n

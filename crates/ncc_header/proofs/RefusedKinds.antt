@@ -8,12 +8,12 @@ use Rattle.ncc_values.specs.declared.version.Version.{Version}
 use Rattle.ncc_header.specs.declared.fault.FaultKind.{FaultKind}
 use Rattle.ncc_header.specs.declared.fault.FaultKind.TheVariants.{BadMagic, BadVersion, NegativeCount, BadTag, BadType, TwoRecordDims, BadDimId, RecordDimNotFirst, NegativeOffset, EndsEarly}
 use Rattle.ncc_schema.specs.declared.schema.Dim.{Dim}
-use Rattle.ncc_header.specs.declared.built.Built.{Built}
-use Rattle.ncc_header.specs.declared.built.Next.{Next}
-use Rattle.ncc_header.specs.declared.built.Next.TheVariants as nexts
+use Rattle.ncc_header.specs.declared.partial.Partial.{Partial}
+use Rattle.ncc_header.specs.declared.partial.Next.{Next}
+use Rattle.ncc_header.specs.declared.partial.Next.TheVariants as nexts
 use Rattle.ncc_header.specs.declared.fault.Wrong.{Wrong}
 use Rattle.ncc_schema.specs.Schema.{count_limit, length_limit, offset_limit, record_dims, is_record}
-use Rattle.ncc_header.specs.Fields.{unless, at_tag_if, first, magic_wrong, version_wrong, nelems_wrong, tag_wrong, list_nelems_wrong, length_wrong, type_wrong, dimid_wrong, begin_wrong}
+use Rattle.ncc_header.specs.Fields.{unless, at_tag_if, first, magic_wrong, version_wrong, nelems_wrong, tag_wrong, list_nelems_wrong, dim_length_wrong, nc_type_wrong, dimid_wrong, begin_wrong}
 use Rattle.ncc_header.specs.Left.{left_of}
 use Rattle.ncc_header.specs.Steps.{IsRefused}
 
@@ -48,11 +48,11 @@ tag_other own n = unless_other ((n == 0) || (n == own)) BadTag (λ h. cc)
 list_count_other : (v : Version) (t n : ℕ) → Other (list_nelems_wrong v t n)
 list_count_other v t n = first_other (nelems_wrong v n) (at_tag_if ((t == 0) && not (n == 0)) BadTag) (count_other v n) (at_tag_other ((t == 0) && not (n == 0)) BadTag (λ h. cc))
 
-length_other : (v : Version) (before : List Dim) (n : ℕ) → Other (length_wrong v before n)
+length_other : (v : Version) (before : List Dim) (n : ℕ) → Other (dim_length_wrong v before n)
 length_other v before n = first_other (unless (ltb n (length_limit v)) NegativeCount) (unless (not ((n == 0) && ltb 0 (record_dims before))) TwoRecordDims)
     (unless_other (ltb n (length_limit v)) NegativeCount (λ h. cc)) (unless_other (not ((n == 0) && ltb 0 (record_dims before))) TwoRecordDims (λ h. cc))
 
-type_other : (v : Version) (n : ℕ) → Other (type_wrong v n)
+type_other : (v : Version) (n : ℕ) → Other (nc_type_wrong v n)
 type_other v n = unless_other (is_some (type_of_code v n)) BadType (λ h. cc)
 
 dimid_other : (dims : List Dim) (before : List ℕ) (n : ℕ) → Other (dimid_wrong dims before n)
@@ -62,10 +62,10 @@ dimid_other dims before n = first_other (unless (ltb n (length dims)) BadDimId) 
 begin_other : (v : Version) (n : ℕ) → Other (begin_wrong v n)
 begin_other v n = unless_other (ltb n (offset_limit v)) NegativeOffset (λ h. cc)
 
-pub refused_other : (next : Next) (b : Built) (front : List ℕ) (w : Wrong) → IsRefused (left_of next b) front w → w.kind ≢ EndsEarly
+pub refused_other : (next : Next) (b : Partial) (front : List ℕ) (w : Wrong) → IsRefused (left_of next b) front w → w.kind ≢ EndsEarly
 refused_other nexts.Magic b front w h = (magic_other (number_of front)).never w h
 refused_other nexts.VersionByte b front w h = (version_other (number_of front)).never w h
-refused_other nexts.RecordCount b front w h = absurd cc
+refused_other nexts.NumRecs b front w h = absurd cc
 refused_other nexts.DimsTag b front w h = (tag_other 10 (number_of front)).never w h
 refused_other (nexts.DimsCount t) b front w h = (list_count_other b.lists.parts.version t (number_of front)).never w h
 refused_other (nexts.NameLength x) b front w h = (count_other b.lists.parts.version (number_of front)).never w h
@@ -83,6 +83,6 @@ refused_other (nexts.VarsCount t) b front w h = (list_count_other b.lists.parts.
 refused_other nexts.DimIdsCount b front w h = (count_other b.lists.parts.version (number_of front)).never w h
 refused_other (nexts.DimId k) b front w h = (dimid_other b.lists.parts.dims.items b.lists.var.dims.items (number_of front)).never w h
 refused_other nexts.VarType b front w h = (type_other b.lists.parts.version (number_of front)).never w h
-refused_other (nexts.VarSize t) b front w h = absurd cc
+refused_other (nexts.Vsize t) b front w h = absurd cc
 refused_other (nexts.VarBegin t size) b front w h = (begin_other b.lists.parts.version (number_of front)).never w h
 refused_other nexts.Whole b front w h = absurd h

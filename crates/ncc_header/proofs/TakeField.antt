@@ -3,7 +3,7 @@ use Rattle.std.proofs.Common.{◌≡◌, ℕ, ◌+◌, ◌≤◌, List, [], ◌�
 use Rattle.std.proofs.lemmas.List.{length-append}
 use Rattle.ncc_header.specs.declared.reading.Reading.{Reading}
 use Rattle.ncc_schema.specs.declared.schema.Mark.{Mark}
-use Rattle.ncc_header.specs.declared.built.Built.{Built}
+use Rattle.ncc_header.specs.declared.partial.Partial.{Partial}
 use Rattle.ncc_header.specs.declared.fault.StepError.{StepError}
 use Rattle.ncc_header.specs.declared.fault.StepError.TheVariants as steps
 use Rattle.ncc_header.specs.Grammar.{Label, Plain, Padding, CountOfTagged, Begin, Grammar, Field, fields}
@@ -53,21 +53,21 @@ takes_field old new n front is within long adv shown begun none limit at = recor
 }
 
 -- the field's last bytes are refused
-fails_field : (old : Reading) (new : Built) (n : ℕ) (front : List ℕ) (e : StepError) → size_of (next_of old) ≡ Some n → old.at + n ≤ old.limit → length (held_of old) + length front ≡ n → Steps old.next old.built old.at (held_of old ++ front) (Err e) new → FailsBehind old front (told_of old.at e)
+fails_field : (old : Reading) (new : Partial) (n : ℕ) (front : List ℕ) (e : StepError) → size_of (next_of old) ≡ Some n → old.at + n ≤ old.limit → length (held_of old) + length front ≡ n → Steps old.next old.partial old.at (held_of old ++ front) (Err e) new → FailsBehind old front (told_of old.at e)
 fails_field old new n front steps.Memory is within long s = tt
 fails_field old new n front (steps.Wrong w) is within long s = record {
   stays = λ more. field_is_refused (next_of old) old.limit old.at n (held_of old) front more w is within (length-append (held_of old) front ∙ long) s;
-  other = refused_other old.next old.built (held_of old ++ front) w s;
+  other = refused_other old.next old.partial (held_of old ++ front) w s;
 }
 
 -- ---- bytes behind those that stand where they stay
 
 -- nothing is held behind those
-come_all : (r : Reading) → r.held.items ≡ [] → held_of r ≡ come_of r.next r.built
-come_all r none = ap (λ (h : List ℕ). come_of r.next r.built ++ h) none ∙ append-nil (come_of r.next r.built)
+come_all : (r : Reading) → r.held.items ≡ [] → held_of r ≡ come_of r.next r.partial
+come_all r none = ap (λ (h : List ℕ). come_of r.next r.partial ++ h) none ∙ append-nil (come_of r.next r.partial)
 
-pub takes_bytes : (old new : Reading) (n : ℕ) (bytes : List ℕ) → size_of (next_of old) ≡ Some n → old.at + n ≤ old.limit → length (come_of old.next old.built ++ bytes) ≡ n → old.held.items ≡ [] → new.held.items ≡ []
-    → StepsTo old.next old.built old.at (come_of old.next old.built ++ bytes) new.next new.built → new.marks.items ≡ old.marks.items ++ mark_of (label_of (next_of old)) old.at (come_of old.next old.built ++ bytes)
+pub takes_bytes : (old new : Reading) (n : ℕ) (bytes : List ℕ) → size_of (next_of old) ≡ Some n → old.at + n ≤ old.limit → length (come_of old.next old.partial ++ bytes) ≡ n → old.held.items ≡ [] → new.held.items ≡ []
+    → StepsTo old.next old.partial old.at (come_of old.next old.partial ++ bytes) new.next new.partial → new.marks.items ≡ old.marks.items ++ mark_of (label_of (next_of old)) old.at (come_of old.next old.partial ++ bytes)
     → new.limit ≡ old.limit → new.at ≡ old.at + n → Takes old new bytes
 takes_bytes old new n bytes is within long none none' steps marks limit at =
     let come = come_all old none in
@@ -77,10 +77,10 @@ takes_bytes old new n bytes is within long none none' steps marks limit at =
     (marks ∙ ap (λ (x : List ℕ). old.marks.items ++ mark_of (label_of (next_of old)) old.at (x ++ bytes)) (sym come))
     steps.begins (come_all new none' ∙ steps.fresh) limit at
 
-pub fails_bytes : (old : Reading) (new : Built) (n : ℕ) (bytes : List ℕ) (e : StepError) → size_of (next_of old) ≡ Some n → old.at + n ≤ old.limit → length (come_of old.next old.built ++ bytes) ≡ n → old.held.items ≡ []
-    → Steps old.next old.built old.at (come_of old.next old.built ++ bytes) (Err e) new → FailsBehind old bytes (told_of old.at e)
+pub fails_bytes : (old : Reading) (new : Partial) (n : ℕ) (bytes : List ℕ) (e : StepError) → size_of (next_of old) ≡ Some n → old.at + n ≤ old.limit → length (come_of old.next old.partial ++ bytes) ≡ n → old.held.items ≡ []
+    → Steps old.next old.partial old.at (come_of old.next old.partial ++ bytes) (Err e) new → FailsBehind old bytes (told_of old.at e)
 fails_bytes old new n bytes e is within long none steps =
     let come = come_all old none in
     fails_field old new n bytes e is within
     (sym (length-append (held_of old) bytes) ∙ ap (λ (x : List ℕ). length (x ++ bytes)) come ∙ long)
-    (subst (λ (x : List ℕ). Steps old.next old.built old.at (x ++ bytes) (Err e) new) (sym come) steps)
+    (subst (λ (x : List ℕ). Steps old.next old.partial old.at (x ++ bytes) (Err e) new) (sym come) steps)

@@ -4,8 +4,8 @@ use Rattle.std.proofs.lemmas.List.{length-append, length-drop, length-take-le, t
 use Rattle.std.proofs.Math.Seq.{take-append-add}
 use Rattle.ncc_header.specs.declared.fault.FaultKind.TheVariants.{HeaderTooLong}
 use Rattle.ncc_header.specs.declared.reading.Reading.{Reading}
-use Rattle.ncc_header.specs.declared.built.Next.{Next}
-use Rattle.ncc_header.specs.declared.built.Next.TheVariants as nexts
+use Rattle.ncc_header.specs.declared.partial.Next.{Next}
+use Rattle.ncc_header.specs.declared.partial.Next.TheVariants as nexts
 use Rattle.ncc_header.specs.Left.{idle_of}
 use Rattle.ncc_header.specs.Steps.{size_of}
 use Rattle.ncc_header.specs.Reading.{next_of, held_of, onward, Takes, Went, StopsBehind}
@@ -53,7 +53,7 @@ too_long r n rest is past = record {
 pub idle_few : (next : Next) → idle_of next ≤ 2
 idle_few nexts.Magic = omega arith
 idle_few nexts.VersionByte = omega arith
-idle_few nexts.RecordCount = omega arith
+idle_few nexts.NumRecs = omega arith
 idle_few nexts.DimsTag = omega arith
 idle_few (nexts.DimsCount t) = omega arith
 idle_few (nexts.NameLength x) = omega arith
@@ -71,7 +71,7 @@ idle_few (nexts.VarsCount t) = omega arith
 idle_few nexts.DimIdsCount = omega arith
 idle_few (nexts.DimId k) = omega arith
 idle_few nexts.VarType = omega arith
-idle_few (nexts.VarSize t) = omega arith
+idle_few (nexts.Vsize t) = omega arith
 idle_few (nexts.VarBegin t size) = omega arith
 idle_few nexts.Whole = omega arith
 

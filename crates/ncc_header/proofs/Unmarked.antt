@@ -19,16 +19,16 @@ use Rattle.ncc_schema.specs.declared.schema.Schema.{Schema}
 use Rattle.ncc_header.specs.Grammar.{Plain, CountOfTagged, Begin, Grammar, done, Spells, Field, fields, ◌>>=◌, ◌into◌, repeat}
 use Rattle.ncc_schema.specs.Schema.{Place}
 use Rattle.ncc_schema.specs.Header.{IsHeader, list_tag, exactly, zeros, canon_name, canon_head, canon_list, canon_dimids, canon_dim, canon_attr, canon_var, canon}
-use Rattle.ncc_header.specs.Fields.{magic, version, numrecs, nelems_wrong, tag_wrong, list_nelems_wrong, length_wrong, dimid_wrong, begin_wrong, at_tag_if, number, number_field, padding, name, label_of_count, list_nelems, list_head, list, dim, attr, attrs, dimid, dimids, var, header}
+use Rattle.ncc_header.specs.Fields.{magic, version, numrecs, nelems_wrong, tag_wrong, list_nelems_wrong, dim_length_wrong, dimid_wrong, begin_wrong, at_tag_if, number, number_field, padding, name, label_of_count, list_nelems, list_head, list, dim, attr, attrs, dimid, dimids, var, header}
 use Rattle.ncc_header.specs.Marks.{marks, mark_of, all_zero, header_marks}
 use Rattle.ncc_header.proofs.GrammarLaws.{joined}
 use Rattle.ncc_header.proofs.FieldsLaws.{fields-join}
 use Rattle.ncc_header.proofs.Exact.{Exact, ◌then◌, exact_then, exact_number, exact_bytes, exact_padding}
 use Rattle.ncc_header.proofs.Judgements.{first-none}
-use Rattle.ncc_header.proofs.RulesOfLists.{tag_takes, exact_nelems, exact_name}
-use Rattle.ncc_header.proofs.RulesOfVars.{exact_type, exact_values, var_flat, var_of, var_parts}
+use Rattle.ncc_header.proofs.ExactLists.{tag_takes, exact_nelems, exact_name}
+use Rattle.ncc_header.proofs.ExactVars.{exact_type, exact_values, var_flat, var_of, var_parts}
 use Rattle.ncc_header.proofs.HeaderLaws.{fields_spell}
-use Rattle.ncc_header.proofs.Rules.{exact_magic, exact_version, exact_numrecs, header_flat, whole, parts, lists, zip_maps}
+use Rattle.ncc_header.proofs.ExactHeader.{exact_magic, exact_version, exact_numrecs, header_flat, whole, parts, lists, zip_maps}
 
 -- ---- marks of parts
 
@@ -171,7 +171,7 @@ unmarked_list v own one = unmarked_counted (unmarked_head v own) one
 
 unmarked_dim : (v : Version) (before : List Dim) → Unmarked (dim v before) (canon_dim v)
 unmarked_dim v before = unmarked_into (λ x. record { name = x.0; length = x.1 }) (λ d. (d.name, d.length)) (λ a b sp. refl)
-    (unmarked_then (unmarked_name v) (λ _. unmarked_exact (exact_number Plain (count_width_of v) (length_wrong v before))))
+    (unmarked_then (unmarked_name v) (λ _. unmarked_exact (exact_number Plain (count_width_of v) (dim_length_wrong v before))))
 
 unmarked_attr : (v : Version) → Unmarked (attr v) (canon_attr v)
 unmarked_attr v =

@@ -5,18 +5,18 @@ use Rattle.ncc_schema.specs.declared.names.NameOf.{NameOf}
 use Rattle.ncc_schema.specs.declared.names.NameOf.TheVariants as of
 use Rattle.ncc_schema.specs.declared.schema.Schema.{Schema}
 use Rattle.ncc_schema.specs.Names.{name_of}
-use Rattle.ncc_header.specs.declared.built.Built.{Built}
-use Rattle.ncc_header.specs.declared.built.Lists.{Lists}
-use Rattle.ncc_header.specs.declared.built.Named.{Named}
-use Rattle.ncc_header.specs.declared.built.Named.TheVariants as named
-use Rattle.ncc_header.specs.declared.built.Next.{Next}
-use Rattle.ncc_header.specs.declared.built.Next.TheVariants as nexts
-use Rattle.ncc_header.specs.declared.built.Owner.{Owner}
-use Rattle.ncc_header.specs.declared.built.Owner.TheVariants as owners
+use Rattle.ncc_header.specs.declared.partial.Partial.{Partial}
+use Rattle.ncc_header.specs.declared.partial.Lists.{Lists}
+use Rattle.ncc_header.specs.declared.partial.Named.{Named}
+use Rattle.ncc_header.specs.declared.partial.Named.TheVariants as named
+use Rattle.ncc_header.specs.declared.partial.Next.{Next}
+use Rattle.ncc_header.specs.declared.partial.Next.TheVariants as nexts
+use Rattle.ncc_header.specs.declared.partial.Owner.{Owner}
+use Rattle.ncc_header.specs.declared.partial.Owner.TheVariants as owners
 use Rattle.ncc_header.specs.declared.part.Part.{Part}
 use Rattle.ncc_header.specs.declared.part.Part.TheVariants as parts
-use Rattle.ncc_header.specs.declared.standing.Standing.{Standing}
-use Rattle.ncc_header.specs.declared.standing.Standing.TheVariants as standings
+use Rattle.ncc_header.specs.declared.state.State.{State}
+use Rattle.ncc_header.specs.declared.state.State.TheVariants as states
 use Rattle.ncc_header.specs.declared.unfinished.Unfinished.{Unfinished}
 
 -- ---- where a decoder stands
@@ -41,7 +41,7 @@ named_part named.Var l = parts.Var (var_number l)
 abbrev pub next_part : Next → Lists → Option Part
 next_part nexts.Magic l = Some parts.Magic
 next_part nexts.VersionByte l = Some parts.Magic
-next_part nexts.RecordCount l = Some parts.NumRecs
+next_part nexts.NumRecs l = Some parts.NumRecs
 next_part nexts.DimsTag l = Some parts.DimList
 next_part (nexts.DimsCount t) l = Some parts.DimList
 next_part (nexts.NameLength x) l = Some (named_part x l)
@@ -59,7 +59,7 @@ next_part (nexts.VarsCount t) l = Some parts.VarList
 next_part nexts.DimIdsCount l = Some (parts.Var (var_number l))
 next_part (nexts.DimId k) l = Some (parts.Var (var_number l))
 next_part nexts.VarType l = Some (parts.Place (var_number l))
-next_part (nexts.VarSize t) l = Some (parts.Place (var_number l))
+next_part (nexts.Vsize t) l = Some (parts.Place (var_number l))
 next_part (nexts.VarBegin t size) l = Some (parts.Place (var_number l))
 next_part nexts.Whole l = None
 
@@ -86,7 +86,7 @@ named_names (named.Attr o) l = names_around o l
 named_names _ l = []
 
 -- those of the part that the next field is in
-abbrev pub next_names : Next → Built → List (NameOf × List ℕ)
+abbrev pub next_names : Next → Partial → List (NameOf × List ℕ)
 next_names (nexts.NameLength x) b = named_names x b.lists
 next_names (nexts.NameText x n) b = named_names x b.lists
 next_names (nexts.NamePadding x) b = named_names x b.lists
@@ -100,7 +100,7 @@ next_names (nexts.AttrPadding o n) b = attr_names o b.lists b.name
 next_names nexts.DimIdsCount b = var_names b.lists
 next_names (nexts.DimId k) b = var_names b.lists
 next_names nexts.VarType b = var_names b.lists
-next_names (nexts.VarSize t) b = var_names b.lists
+next_names (nexts.Vsize t) b = var_names b.lists
 next_names (nexts.VarBegin t size) b = var_names b.lists
 next_names _ b = []
 
@@ -122,7 +122,7 @@ next_name (nexts.AttrPadding o n) text var = Some text
 next_name nexts.DimIdsCount text var = Some var
 next_name (nexts.DimId k) text var = Some var
 next_name nexts.VarType text var = Some var
-next_name (nexts.VarSize t) text var = Some var
+next_name (nexts.Vsize t) text var = Some var
 next_name (nexts.VarBegin t size) text var = Some var
 next_name _ text var = None
 
@@ -149,13 +149,13 @@ abbrev pub unfinished_in : Option Part → (name owner : Option (List ℕ)) → 
 unfinished_in None name owner = None
 unfinished_in (Some p) name owner = Some (record { part = p; name = name; owner = owner })
 
-abbrev pub unfinished_of : Next → Built → Option Unfinished
+abbrev pub unfinished_of : Next → Partial → Option Unfinished
 unfinished_of next b = unfinished_in (next_part next b.lists) (next_name next b.name b.lists.var.name) (next_owner next b.lists.var.name)
 
 -- a decoder that has failed stands nowhere
-abbrev pub unfinished_at : Standing → Option Unfinished
-unfinished_at (standings.Reading r) = unfinished_of r.next r.built
-unfinished_at (standings.Failed limit e) = None
+abbrev pub unfinished_at : State → Option Unfinished
+unfinished_at (states.Reading r) = unfinished_of r.next r.partial
+unfinished_at (states.Failed limit e) = None
 
 -- the names that are told, one by one
 abbrev pub item_of : Part → List NameOf

@@ -57,11 +57,11 @@ tag_wrong own t = unless ((t == 0) || (t == own)) BadTag
 abbrev pub list_nelems_wrong : Version → (t : ℕ) → ℕ → Option Wrong
 list_nelems_wrong v t n = first (nelems_wrong v n) (at_tag_if ((t == 0) && not (n == 0)) BadTag)
 
-abbrev pub length_wrong : Version → (before : List Dim) → ℕ → Option Wrong
-length_wrong v before n = first (unless (ltb n (length_limit v)) NegativeCount) (unless (not ((n == 0) && ltb 0 (record_dims before))) TwoRecordDims)
+abbrev pub dim_length_wrong : Version → (before : List Dim) → ℕ → Option Wrong
+dim_length_wrong v before n = first (unless (ltb n (length_limit v)) NegativeCount) (unless (not ((n == 0) && ltb 0 (record_dims before))) TwoRecordDims)
 
-abbrev pub type_wrong : Version → ℕ → Option Wrong
-type_wrong v n = unless (is_some (type_of_code v n)) BadType
+abbrev pub nc_type_wrong : Version → ℕ → Option Wrong
+nc_type_wrong v n = unless (is_some (type_of_code v n)) BadType
 
 -- a dimension's number, after the variable's numbers before it
 abbrev pub dimid_wrong : List Dim → (before : List ℕ) → ℕ → Option Wrong
@@ -119,7 +119,7 @@ list v own item = do
   repeat item [] n
 
 abbrev pub dim_length : Version → (before : List Dim) → Grammar ℕ
-dim_length v before = number (count_width_of v) (length_wrong v before)
+dim_length v before = number (count_width_of v) (dim_length_wrong v before)
 
 -- dim = name dim_length
 abbrev pub dim : Version → (before : List Dim) → Grammar Dim
@@ -130,7 +130,7 @@ dim v before = do
 
 -- nc_type
 abbrev pub nc_type : Version → Grammar XType
-nc_type v = number 4 (type_wrong v) into λ n. unwrap_or (type_of_code v n) Byte
+nc_type v = number 4 (nc_type_wrong v) into λ n. unwrap_or (type_of_code v n) Byte
 
 -- [values ...]
 abbrev pub values : XType → (number : ℕ) → Grammar Values

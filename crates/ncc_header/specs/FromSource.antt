@@ -4,10 +4,10 @@ use Rattle.std.specs.Io.KnownBytes.{IsAtEnd}
 use Rattle.ncc_header.specs.declared.decoder.Decoder.{Decoder}
 use Rattle.ncc_header.specs.declared.fault.HeaderError.{HeaderError}
 use Rattle.ncc_header.specs.declared.fault.HeaderError.TheVariants as errors
-use Rattle.ncc_header.specs.declared.standing.Fed.{Fed}
+use Rattle.ncc_header.specs.declared.state.Fed.{Fed}
 use Rattle.ncc_header.specs.Decoder.{Took, HasFailed, limit_of}
 use Rattle.ncc_schema.specs.Device.{Loses}
-use Rattle.ncc_header.specs.Standing.{FailedOn, Feeds, IsSettled, front_taken}
+use Rattle.ncc_header.specs.State.{FailedOn, Feeds, IsSettled, front_taken}
 
 -- the decoder was fed n bytes that the source has lost, with room for so many
 pub record HasFed (old now : Option (List ℕ)) (d e : Decoder) (room n : ℕ) : Type 0 where

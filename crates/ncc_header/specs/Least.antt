@@ -1,12 +1,12 @@
 -- How many bytes are surely still to come of a header.
 use Rattle.std.specs.Prelude.{ℕ, ◌+◌, ◌-◌, ◌*◌, min, ltb, if◌then◌else◌, Option, Some, None}
-use Rattle.ncc_header.specs.declared.built.Lists.{Lists}
-use Rattle.ncc_header.specs.declared.built.Owner.{Owner}
-use Rattle.ncc_header.specs.declared.built.Owner.TheVariants as owners
-use Rattle.ncc_header.specs.declared.built.Named.{Named}
-use Rattle.ncc_header.specs.declared.built.Named.TheVariants as named
-use Rattle.ncc_header.specs.declared.built.Next.{Next}
-use Rattle.ncc_header.specs.declared.built.Next.TheVariants as nexts
+use Rattle.ncc_header.specs.declared.partial.Lists.{Lists}
+use Rattle.ncc_header.specs.declared.partial.Owner.{Owner}
+use Rattle.ncc_header.specs.declared.partial.Owner.TheVariants as owners
+use Rattle.ncc_header.specs.declared.partial.Named.{Named}
+use Rattle.ncc_header.specs.declared.partial.Named.TheVariants as named
+use Rattle.ncc_header.specs.declared.partial.Next.{Next}
+use Rattle.ncc_header.specs.declared.partial.Next.TheVariants as nexts
 
 -- after the dimension that has begun: each has 8 bytes at least, and two lists follow
 abbrev pub rest_of_dims : Lists → ℕ
@@ -36,7 +36,7 @@ rest_of_named named.Var l = 24 + rest_of_vars l
 abbrev pub rest_of : Next → Lists → ℕ
 rest_of nexts.Magic l = 29
 rest_of nexts.VersionByte l = 28
-rest_of nexts.RecordCount l = 24
+rest_of nexts.NumRecs l = 24
 rest_of nexts.DimsTag l = 20
 rest_of (nexts.DimsCount t) l = 16
 rest_of (nexts.NameLength x) l = rest_of_named x l
@@ -54,7 +54,7 @@ rest_of (nexts.VarsCount t) l = 0
 rest_of nexts.DimIdsCount l = 20 + rest_of_vars l
 rest_of (nexts.DimId k) l = k * 4 + 20 + rest_of_vars l
 rest_of nexts.VarType l = 8 + rest_of_vars l
-rest_of (nexts.VarSize t) l = 4 + rest_of_vars l
+rest_of (nexts.Vsize t) l = 4 + rest_of_vars l
 rest_of (nexts.VarBegin t size) l = rest_of_vars l
 rest_of nexts.Whole l = 0
 

@@ -10,17 +10,17 @@ use Rattle.ncc_schema.specs.declared.schema.Dim.{Dim}
 use Rattle.ncc_schema.specs.declared.schema.Attr.{Attr}
 use Rattle.ncc_schema.specs.declared.schema.Var.{Var}
 use Rattle.ncc_schema.specs.declared.schema.Schema.{Schema}
-use Rattle.ncc_header.specs.declared.built.Built.{Built}
-use Rattle.ncc_header.specs.declared.built.Lists.{Lists}
-use Rattle.ncc_header.specs.declared.built.Parts.{Parts}
-use Rattle.ncc_header.specs.declared.built.Vars.{Vars}
-use Rattle.ncc_header.specs.declared.built.Begun.{Begun}
-use Rattle.ncc_header.specs.declared.built.Owner.{Owner}
-use Rattle.ncc_header.specs.declared.built.Owner.TheVariants as owners
-use Rattle.ncc_header.specs.declared.built.Named.{Named}
-use Rattle.ncc_header.specs.declared.built.Named.TheVariants as named
-use Rattle.ncc_header.specs.declared.built.Next.{Next}
-use Rattle.ncc_header.specs.declared.built.Next.TheVariants as nexts
+use Rattle.ncc_header.specs.declared.partial.Partial.{Partial}
+use Rattle.ncc_header.specs.declared.partial.Lists.{Lists}
+use Rattle.ncc_header.specs.declared.partial.Parts.{Parts}
+use Rattle.ncc_header.specs.declared.partial.Vars.{Vars}
+use Rattle.ncc_header.specs.declared.partial.Begun.{Begun}
+use Rattle.ncc_header.specs.declared.partial.Owner.{Owner}
+use Rattle.ncc_header.specs.declared.partial.Owner.TheVariants as owners
+use Rattle.ncc_header.specs.declared.partial.Named.{Named}
+use Rattle.ncc_header.specs.declared.partial.Named.TheVariants as named
+use Rattle.ncc_header.specs.declared.partial.Next.{Next}
+use Rattle.ncc_header.specs.declared.partial.Next.TheVariants as nexts
 use Rattle.ncc_header.specs.Grammar.{Grammar, done, ◌>>=◌, repeat}
 use Rattle.ncc_schema.specs.Header.{nc_dimension, nc_variable}
 use Rattle.ncc_schema.specs.Schema.{Place, places_of}
@@ -137,10 +137,10 @@ with_name named.Var l text = in_var l.parts l.vars (from_rank l.parts text)
 
 -- ---- what is left
 
-abbrev pub left_of : Next → Built → Grammar Given
+abbrev pub left_of : Next → Partial → Grammar Given
 left_of nexts.Magic b = header
 left_of nexts.VersionByte b = version >>= from_version
-left_of nexts.RecordCount b = from_version b.lists.parts.version
+left_of nexts.NumRecs b = from_version b.lists.parts.version
 left_of nexts.DimsTag b = from_count b.lists.parts.version b.lists.parts.count
 left_of (nexts.DimsCount t) b = (list_nelems b.lists.parts.version t >>= repeat (dim b.lists.parts.version) []) >>= with_dims b.lists.parts.version b.lists.parts.count
 left_of (nexts.NameLength x) b = name b.lists.parts.version >>= with_name x b.lists
@@ -158,7 +158,7 @@ left_of (nexts.VarsCount t) b = (list_nelems b.lists.parts.version t >>= repeat 
 left_of nexts.DimIdsCount b = in_var b.lists.parts b.lists.vars (from_rank b.lists.parts b.lists.var.name)
 left_of (nexts.DimId k) b = in_var b.lists.parts b.lists.vars ((dimid b.lists.parts.version b.lists.parts.dims.items b.lists.var.dims.items >>= λ n. repeat (dimid b.lists.parts.version b.lists.parts.dims.items) (b.lists.var.dims.items ++ n ∷ []) k) >>= λ dims. from_dims_of_var b.lists.parts.version b.lists.var.name dims)
 left_of nexts.VarType b = in_var b.lists.parts b.lists.vars (from_type b.lists.parts.version b.lists.var.name b.lists.var.dims.items b.lists.attrs.items)
-left_of (nexts.VarSize t) b = in_var b.lists.parts b.lists.vars (from_vsize b.lists.parts.version (var_of b.lists t))
+left_of (nexts.Vsize t) b = in_var b.lists.parts b.lists.vars (from_vsize b.lists.parts.version (var_of b.lists t))
 left_of (nexts.VarBegin t size) b = in_var b.lists.parts b.lists.vars (from_begin b.lists.parts.version (var_of b.lists t) size)
 left_of nexts.Whole b = done (schema_of b.lists.parts b.lists.parts.gatts.items b.lists.vars.vars.items, places_of b.lists.vars.places.items)
 
@@ -189,7 +189,7 @@ begins_of (nexts.AttrPadding o n) v = begins_of_owner o v
 begins_of nexts.DimIdsCount v = begins_of_vars v
 begins_of (nexts.DimId k) v = begins_of_vars v
 begins_of nexts.VarType v = begins_of_vars v
-begins_of (nexts.VarSize t) v = begins_of_vars v
+begins_of (nexts.Vsize t) v = begins_of_vars v
 begins_of (nexts.VarBegin t size) v = begins_of_vars v
 begins_of nexts.Whole v = begins_of_vars v
 begins_of _ v = []
@@ -197,17 +197,17 @@ begins_of _ v = []
 -- ---- the field that comes next
 
 -- its bytes that stand where they stay: those of a name, and whole values of an attribute
-abbrev pub come_of : Next → Built → List ℕ
+abbrev pub come_of : Next → Partial → List ℕ
 come_of (nexts.NameText x n) b = b.name
 come_of (nexts.AttrValues o k) b = bytes_of b.body.values
 come_of _ b = []
 
 -- its bytes that have come, where these are held after those that stand
-abbrev pub front_of : Next → Built → (held : List ℕ) → List ℕ
+abbrev pub front_of : Next → Partial → (held : List ℕ) → List ℕ
 front_of next b held = come_of next b ++ held
 
 -- fewer bytes are held at once: none of a name, a part of a value, or a field of 8 bytes
-abbrev pub part_of : Next → Built → ℕ
+abbrev pub part_of : Next → Partial → ℕ
 part_of (nexts.NameText x n) b = 1
 part_of (nexts.AttrValues o k) b = bytes_each (type_of b.body.values)
 part_of _ b = 9
@@ -224,6 +224,6 @@ idle_of _ = 0
 abbrev pub first_at : Next → ℕ
 first_at nexts.Magic = 0
 first_at nexts.VersionByte = 3
-first_at nexts.RecordCount = 4
+first_at nexts.NumRecs = 4
 first_at nexts.DimsTag = 8
 first_at _ = 12

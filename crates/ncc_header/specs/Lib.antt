@@ -6,8 +6,8 @@ pub mod Left
 pub mod Steps
 pub mod Least
 pub mod Reading
-pub mod Passing
-pub mod Standing
+pub mod AtFront
+pub mod State
 pub mod Decoder
 pub mod FromSource
 pub mod Awaited

@@ -36,15 +36,15 @@ from_start limit input = course header limit 0 [] [] input
 
 -- what is left to read
 abbrev pub next_of : Reading → Grammar Given
-next_of r = left_of r.next r.built
+next_of r = left_of r.next r.partial
 
 -- the bytes of the next field that have come
 abbrev pub held_of : Reading → List ℕ
-held_of r = front_of r.next r.built r.held.items
+held_of r = front_of r.next r.partial r.held.items
 
 -- where the begin fields so far were
 abbrev pub begun_of : Reading → List ℕ
-begun_of r = begins_of r.next r.built.lists.vars
+begun_of r = begins_of r.next r.partial.lists.vars
 
 -- of an input of which a reading has come so far, where these bytes come next
 abbrev pub onward : Reading → (more : List ℕ) → Course

@@ -1,7 +1,7 @@
 -- What a step over the next field does.
 use Rattle.std.specs.Prelude.{◌≡◌, ℕ, ◌+◌, ◌≤◌, List, [], ◌∷◌, ◌++◌, length, unwrap_or, Option, Some, None, Result, Ok, Err}
-use Rattle.ncc_header.specs.declared.built.Built.{Built}
-use Rattle.ncc_header.specs.declared.built.Next.{Next}
+use Rattle.ncc_header.specs.declared.partial.Partial.{Partial}
+use Rattle.ncc_header.specs.declared.partial.Next.{Next}
 use Rattle.ncc_header.specs.declared.fault.StepError.{StepError}
 use Rattle.ncc_header.specs.declared.fault.StepError.TheVariants as errors
 use Rattle.ncc_header.specs.declared.fault.Wrong.{Wrong}
@@ -42,20 +42,20 @@ Judges w (Err e) = w ≡ Some e
 -- ---- the header's
 
 -- the next field, at this offset, was these bytes, and now another one is next
-pub record StepsTo (next : Next) (old : Built) (at : ℕ) (front : List ℕ) (after : Next) (new : Built) : Type 0 where
+pub record StepsTo (next : Next) (old : Partial) (at : ℕ) (front : List ℕ) (after : Next) (new : Partial) : Type 0 where
   pub advances : Advances (left_of next old) front (left_of after new)
   pub begins : begins_of after new.lists.vars ≡ with_begin (label_of (left_of next old)) at (begins_of next old.lists.vars)
   pub fresh : come_of after new ≡ []
   pub first : first_at after ≤ first_at next + length front
 
 -- A step takes the next field, or refuses it, unless memory is refused.
-abbrev pub Steps : Next → (old : Built) → (at : ℕ) → (front : List ℕ) → Result Next StepError → (new : Built) → Type 0
+abbrev pub Steps : Next → (old : Partial) → (at : ℕ) → (front : List ℕ) → Result Next StepError → (new : Partial) → Type 0
 Steps next old at front (Ok after) new = StepsTo next old at front after new
 Steps next old at front (Err (errors.Wrong w)) new = IsRefused (left_of next old) front w
 Steps next old at front (Err errors.Memory) new = 12 ≤ first_at next
 
-abbrev pub next_size : Next → Built → ℕ
+abbrev pub next_size : Next → Partial → ℕ
 next_size next b = unwrap_or (size_of (left_of next b)) 0
 
-abbrev pub held_length : Next → Built → (held : List ℕ) → ℕ
+abbrev pub held_length : Next → Partial → (held : List ℕ) → ℕ
 held_length next b held = length (front_of next b held)

@@ -3,17 +3,17 @@
 ghost use Rattle.std.specs.Prelude.{◌≡◌, ◌≤◌, ◌<◌, ◌+◌, ◌++◌, ℕ, List, [], length, take, is_none, None, Ok, Err, IfOk, IfErr};
 ghost use Rattle.ncc_header.specs.declared.fault.Fault.{Fault as TheFault};
 ghost use Rattle.ncc_header.specs.declared.fault.HeaderError.{HeaderError as TheError};
-ghost use Rattle.ncc_header.specs.declared.standing.Fed.TheVariants as TheFed;
+ghost use Rattle.ncc_header.specs.declared.state.Fed.TheVariants as TheFed;
 ghost use Rattle.ncc_header.specs.Answers.{Answers};
 ghost use Rattle.ncc_header.specs.Fields.{header};
 ghost use Rattle.ncc_header.specs.Grammar.{lacking};
 ghost use Rattle.ncc_header.specs.Reading.{next_of};
 ghost use Rattle.ncc_header.specs.Steps.{size_of};
-ghost use Rattle.ncc_header.specs.Standing.{IsSettled, IsWhole, StopsForGood, limit_at, TookAt, HasFailedAt, front_taken, fed_of, Feeds, FedOrMemory};
+ghost use Rattle.ncc_header.specs.State.{IsSettled, IsWhole, StopsForGood, limit_at, TookAt, HasFailedAt, front_taken, fed_of, Feeds, FedOrMemory};
 
 use crate::fault::HeaderError;
 use crate::reading::Reading;
-use crate::standing::{Fed, Standing};
+use crate::state::{Fed, State};
 use crate::taking::take;
 use crate::unfinished::{Unfinished, where_next};
 use ncc_schema::Header;
@@ -23,11 +23,11 @@ use std::alloc::Global;
 #[derive(Debug, Drop)]
 pub struct Decoder {
     alloc: Global,
-    standing: Standing,
+    state: State,
 }
 
 /// What a reading says, once it has taken so many bytes of a piece.
-fn fed(reading: &Reading, used: usize) -> Fed
+fn fed_of(reading: &Reading, used: usize) -> Fed
     ensures { result ≡ fed_of (size_of (next_of reading.now)) used }
 {
     match reading.size() {
@@ -37,36 +37,36 @@ fn fed(reading: &Reading, used: usize) -> Fed
 }
 
 /// Takes a piece.
-fn advance(alloc: Global, standing: &mut Standing, piece: &[u8]) -> Result<Fed, HeaderError>
-    ensures limit { limit_at standing.new ≡ limit_at standing.old }
-    ensures answers { (taken : List ℕ) → TookAt standing.old taken
-        → Feeds taken piece.now (limit_at standing.old) result }
-    ensures takes { (taken : List ℕ) → TookAt standing.old taken
-        → TookAt standing.new (taken ++ front_taken result piece.now) }
-    ensures failed { (e : TheError) → HasFailedAt standing.old e → (result ≡ Err e) × HasFailedAt standing.new e }
-    ensures fails { IfErr result (HasFailedAt standing.new) }
-    ensures fresh { IfOk result (λ _. (e : TheError) → ¬ HasFailedAt standing.new e) }
-    ensures whole { (taken : List ℕ) → TookAt standing.old taken → IsWhole taken (limit_at standing.old)
-        → ¬ HasFailedAt standing.old HeaderError.Memory → result ≡ Ok (TheFed.Done 0) }
+fn advance(alloc: Global, state: &mut State, piece: &[u8]) -> Result<Fed, HeaderError>
+    ensures limit { limit_at state.new ≡ limit_at state.old }
+    ensures answers { (taken : List ℕ) → TookAt state.old taken
+        → Feeds taken piece.now (limit_at state.old) result }
+    ensures takes { (taken : List ℕ) → TookAt state.old taken
+        → TookAt state.new (taken ++ front_taken result piece.now) }
+    ensures failed { (e : TheError) → HasFailedAt state.old e → (result ≡ Err e) × HasFailedAt state.new e }
+    ensures fails { IfErr result (HasFailedAt state.new) }
+    ensures fresh { IfOk result (λ _. (e : TheError) → ¬ HasFailedAt state.new e) }
+    ensures whole { (taken : List ℕ) → TookAt state.old taken → IsWhole taken (limit_at state.old)
+        → ¬ HasFailedAt state.old HeaderError.Memory → result ≡ Ok (TheFed.Done 0) }
     // Eight bytes fit a decoder without memory.
-    ensures few { (taken : List ℕ) → TookAt standing.old taken → length taken + length piece.now ≤ 8
-        → result ≡ Err HeaderError.Memory → HasFailedAt standing.old HeaderError.Memory }
+    ensures few { (taken : List ℕ) → TookAt state.old taken → length taken + length piece.now ≤ 8
+        → result ≡ Err HeaderError.Memory → HasFailedAt state.old HeaderError.Memory }
 {
-    let (limit, error) = match standing {
-        Standing::Failed(_, error) => return Err(*error),
-        Standing::Reading(reading) => {
+    let (limit, error) = match state {
+        State::Failed(_, error) => return Err(*error),
+        State::Reading(reading) => {
             if reading.size().is_none() {
                 return Ok(Fed::Done(0));
             }
             let limit = reading.limit;
             match take(alloc, reading, piece) {
-                Ok(used) => return Ok(fed(reading, used)),
+                Ok(used) => return Ok(fed_of(reading, used)),
                 Err(error) => (limit, error),
             }
         }
     };
     // What was built is dropped here.
-    *standing = Standing::Failed(limit, error);
+    *state = State::Failed(limit, error);
     Err(error)
 }
 
@@ -82,7 +82,7 @@ impl Decoder {
     {
         Decoder {
             alloc,
-            standing: Standing::Reading(Reading::new(alloc, limit)),
+            state: State::Reading(Reading::new(alloc, limit)),
         }
     }
 
@@ -110,7 +110,7 @@ impl Decoder {
         ensures few { (taken : List ℕ) → Took self.old taken → length taken + length piece.now ≤ 8
             → result ≡ Err HeaderError.Memory → HasFailed self.old HeaderError.Memory }
     {
-        advance(self.alloc, &mut self.standing, piece)
+        advance(self.alloc, &mut self.state, piece)
     }
 
     /// How many bytes the field in which the input ends early still lacks. It is 0 where the header is
@@ -122,9 +122,9 @@ impl Decoder {
             → result ≡ 0 → IsSettled taken (limit_of self.now) }
         ensures failed { (e : TheError) → HasFailed self.now e → result ≡ 0 }
     {
-        match &self.standing {
-            Standing::Reading(reading) => reading.lacks(),
-            Standing::Failed(_, _) => 0,
+        match &self.state {
+            State::Reading(reading) => reading.lacks(),
+            State::Failed(_, _) => 0,
         }
     }
 
@@ -132,7 +132,7 @@ impl Decoder {
     /// past the limit, and the next field lacks no more. It is 0 where the header is whole or has a fault
     /// that stays, and after want of memory.
     pub(crate) fn expects(&self) -> u64
-        ensures exact { result ≡ expects_at self.now.standing }
+        ensures exact { result ≡ expects_at self.now.state }
         ensures fewest { (taken more : List ℕ) → Took self.now taken → IsWhole (taken ++ more) (limit_of self.now)
             → result ≤ length more }
         ensures within { (taken : List ℕ) → Took self.now taken → 0 < result
@@ -142,9 +142,9 @@ impl Decoder {
         ensures settled { (taken : List ℕ) → Took self.now taken → ¬ HasFailed self.now HeaderError.Memory
             → result ≡ 0 → IsSettled taken (limit_of self.now) }
     {
-        match &self.standing {
-            Standing::Reading(reading) => reading.expects(),
-            Standing::Failed(_, _) => 0,
+        match &self.state {
+            State::Reading(reading) => reading.expects(),
+            State::Failed(_, _) => 0,
         }
     }
 
@@ -155,22 +155,22 @@ impl Decoder {
         ensures failed { (e : TheError) → HasFailed self e → result ≡ Err e }
         ensures memory { result ≡ Err HeaderError.Memory → HasFailed self HeaderError.Memory }
     {
-        match self.standing {
-            Standing::Reading(reading) => reading.finish(),
-            Standing::Failed(_, error) => Err(error),
+        match self.state {
+            State::Reading(reading) => reading.finish(),
+            State::Failed(_, error) => Err(error),
         }
     }
 
     /// Where in a header the next field is, and the names that are known there; none only where the header is whole
     /// or has a fault that stays, or after want of memory.
     pub fn unfinished(self) -> Option<Unfinished>
-        ensures exact { result ≡ unfinished_at self.standing }
+        ensures exact { result ≡ unfinished_at self.state }
         ensures settled { (taken : List ℕ) → Took self taken → ¬ HasFailed self HeaderError.Memory → result ≡ None
             → IsSettled taken (limit_of self) }
     {
-        match self.standing {
-            Standing::Reading(reading) => where_next(reading.next, reading.built),
-            Standing::Failed(_, _) => None,
+        match self.state {
+            State::Reading(reading) => where_next(reading.next, reading.partial),
+            State::Failed(_, _) => None,
         }
     }
 }

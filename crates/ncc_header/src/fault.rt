@@ -1,10 +1,10 @@
 //! Why a header could not be read.
 
 ghost use Rattle.std.specs.Prelude.{◌≡◌};
-ghost use Rattle.ncc_header.specs.declared.fault.HeaderError.TheVariants.{Device, Memory};
+ghost use Rattle.ncc_header.specs.declared.fault.HeaderError.TheVariants as errors;
 ghost use Rattle.ncc_header.specs.declared.fault.StepError.TheVariants as steps;
 
-use ncc_schema::Failed;
+use ncc_schema::Device;
 use std::alloc::{AllocError, AllocFailed};
 use thiserror::Error;
 
@@ -80,7 +80,7 @@ pub enum StepError {
 }
 
 impl From<AllocError> for HeaderError {
-    ghost from_gives = { λ _ e. e ≡ Memory };
+    ghost from_gives = { λ _ e. e ≡ errors.Memory };
 
     fn from(_e: AllocError) -> HeaderError {
         HeaderError::Memory
@@ -88,17 +88,17 @@ impl From<AllocError> for HeaderError {
 }
 
 impl<T: Drop> From<AllocFailed<T>> for HeaderError {
-    ghost from_gives = { λ _ e. e ≡ Memory };
+    ghost from_gives = { λ _ e. e ≡ errors.Memory };
 
     fn from(_e: AllocFailed<T>) -> HeaderError {
         HeaderError::Memory
     }
 }
 
-impl From<Failed> for HeaderError {
-    ghost from_gives = { λ _ e. e ≡ Device };
+impl From<Device> for HeaderError {
+    ghost from_gives = { λ _ e. e ≡ errors.Device };
 
-    fn from(_e: Failed) -> HeaderError {
+    fn from(_e: Device) -> HeaderError {
         HeaderError::Device
     }
 }

@@ -6,8 +6,8 @@ ghost use Rattle.ncc_values.specs.XType.{size_of as bytes_each};
 ghost use Rattle.ncc_header.specs.Left.{left_of, front_of, part_of, first_at};
 ghost use Rattle.ncc_header.specs.Steps.{next_size, held_length};
 
-use crate::attrs::add_values;
-use crate::built::{Body, Built, Next};
+use crate::partial::{Body, Next, Partial};
+use crate::rules::attr::add_values;
 use arrayvec::ArrayVec;
 use std::alloc::AllocError;
 
@@ -64,22 +64,22 @@ fn gather_values(
 /// stay, and others to those that are held.
 pub fn gather(
     next: Next,
-    built: &mut Built,
+    partial: &mut Partial,
     held: &mut ArrayVec<u8, 8>,
     front: &[u8],
 ) -> Result<(), AllocError>
-    requires room { held_length next built.old held.old.items + length front.now ≤ next_size next built.old }
-    requires part { length held.old.items < part_of next built.old }
-    ensures left { OnOk result (left_of next built.new ≡ left_of next built.old) }
-    ensures lists { OnOk result (built.new.lists ≡ built.old.lists) }
+    requires room { held_length next partial.old held.old.items + length front.now ≤ next_size next partial.old }
+    requires part { length held.old.items < part_of next partial.old }
+    ensures left { OnOk result (left_of next partial.new ≡ left_of next partial.old) }
+    ensures lists { OnOk result (partial.new.lists ≡ partial.old.lists) }
     ensures held { OnOk result
-        (front_of next built.new held.new.items ≡ front_of next built.old held.old.items ++ front.now) }
-    ensures part { OnOk result (length held.new.items < part_of next built.new) }
+        (front_of next partial.new held.new.items ≡ front_of next partial.old held.old.items ++ front.now) }
+    ensures part { OnOk result (length held.new.items < part_of next partial.new) }
     ensures memory { OnErr result (12 ≤ first_at next) }
 {
     match next {
-        Next::NameText(_, _) => built.name.extend_from_slice(front)?,
-        Next::AttrValues(_, _) => gather_values(&mut built.body, held, front)?,
+        Next::NameText(_, _) => partial.name.extend_from_slice(front)?,
+        Next::AttrValues(_, _) => gather_values(&mut partial.body, held, front)?,
         _ => hold_more(held, front),
     }
     Ok(())

@@ -4,7 +4,7 @@
 ghost use Rattle.std.specs.Prelude.{◌≡◌, ◌<◌, ◌^◌};
 ghost use Rattle.ncc_header.specs.Least.{rest_of_dims, rest_of_vars, rest_of_owner, rest_of_attrs, rest_of_named, rest_of};
 
-use crate::built::{Lists, Named, Next, Owner};
+use crate::partial::{Lists, Named, Next, Owner};
 
 /// The least sizes of items in bytes: a dimension is a name and a length, an attribute is a name, a type
 /// and a number of values, and a variable is a name, a rank, a list of attributes, a type, a size and an
@@ -70,7 +70,7 @@ pub fn rest(next: Next, lists: &Lists) -> u128
     match next {
         Next::Magic => 29,
         Next::VersionByte => 28,
-        Next::RecordCount => 24,
+        Next::NumRecs => 24,
         Next::DimsTag => 20,
         Next::DimsCount(_) => 16,
         Next::NameLength(named) | Next::NamePadding(named) => bytes_after_name(named, lists),
@@ -86,7 +86,7 @@ pub fn rest(next: Next, lists: &Lists) -> u128
         Next::DimIdsCount => 20 + bytes_after_var(lists),
         Next::DimId(left) => left as u128 * 4 + 20 + bytes_after_var(lists),
         Next::VarType => 8 + bytes_after_var(lists),
-        Next::VarSize(_) => 4 + bytes_after_var(lists),
+        Next::Vsize(_) => 4 + bytes_after_var(lists),
         Next::VarBegin(_, _) => bytes_after_var(lists),
     }
 }

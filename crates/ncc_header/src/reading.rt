@@ -4,9 +4,9 @@ ghost use Rattle.std.specs.Prelude.{◌≤◌, ◌<◌, length};
 ghost use Rattle.ncc_header.specs.Left.{first_at, part_of};
 ghost use Rattle.ncc_header.specs.Steps.{next_size, held_length};
 
-use crate::built::{Built, Next};
 use crate::fault::{Fault, FaultKind, HeaderError};
 use crate::least::rest;
+use crate::partial::{Next, Partial};
 use crate::step::size;
 use arrayvec::ArrayVec;
 use ncc_schema::{Header, Mark, Schema};
@@ -19,15 +19,15 @@ pub struct Reading {
     pub limit: u64,
     pub at: u64,
     pub next: Next,
-    pub built: Built,
+    pub partial: Partial,
     /// The bytes of the next field that have come, after those that stand where they stay.
     pub held: ArrayVec<u8, 8>,
     /// The marks of the fields so far.
     pub marks: Vec<Mark>,
     ghost within: { at ≤ limit },
     ghost after: { first_at next ≤ at },
-    ghost partial: { held_length next built held.items ≤ next_size next built },
-    ghost part: { length held.items < part_of next built },
+    ghost still_short: { held_length next partial held.items ≤ next_size next partial },
+    ghost part: { length held.items < part_of next partial },
 }
 
 impl Reading {
@@ -36,7 +36,7 @@ impl Reading {
     ghost use Rattle.ncc_header.specs.Least.{rest_of, expects_of};
     ghost use Rattle.ncc_header.specs.Steps.{size_of};
     ghost use Rattle.ncc_header.specs.Reading.{next_of, held_of};
-    ghost use Rattle.ncc_header.specs.Standing.{HasTaken, cut_at, lacks_of};
+    ghost use Rattle.ncc_header.specs.State.{HasTaken, cut_at, lacks_of};
 
     /// A reading of a header of at most `limit` bytes, of which none has come.
     pub fn new(alloc: Global, limit: u64) -> Reading
@@ -47,7 +47,7 @@ impl Reading {
             limit,
             at: 0,
             next: Next::Magic,
-            built: Built::new(alloc),
+            partial: Partial::new(alloc),
             held: ArrayVec::new(),
             marks: Vec::new(alloc),
         }
@@ -57,7 +57,7 @@ impl Reading {
     pub fn size(&self) -> Option<u128>
         ensures { result ≡ size_of (next_of self.now) }
     {
-        size(self.next, &self.built)
+        size(self.next, &self.partial)
     }
 
     /// How many bytes of the next field have come.
@@ -66,9 +66,9 @@ impl Reading {
     {
         let held = self.held.len() as u128;
         match self.next {
-            Next::NameText(_, _) => self.built.name.len() as u128 + held,
+            Next::NameText(_, _) => self.partial.name.len() as u128 + held,
             Next::AttrValues(_, _) => {
-                let values = &self.built.body.values;
+                let values = &self.partial.body.values;
                 values.len() as u128 * values.xtype().size() as u128 + held
             }
             _ => held,
@@ -89,13 +89,13 @@ impl Reading {
 
     /// How many bytes are surely still to come, where the next field ends within the limit.
     pub fn expects(&self) -> u64
-        ensures { result ≡ expects_of (size_of (next_of self.now)) (rest_of self.now.next self.now.built.lists)
+        ensures { result ≡ expects_of (size_of (next_of self.now)) (rest_of self.now.next self.now.partial.lists)
             self.now.limit self.now.at (length (held_of self.now)) }
     {
         let room = (self.limit - self.at) as u128;
         match self.size() {
             Some(size) if size <= room => {
-                let least = size + rest(self.next, &self.built.lists);
+                let least = size + rest(self.next, &self.partial.lists);
                 (least.min(room) - self.held_len()) as u64
             }
             _ => 0,
@@ -103,7 +103,7 @@ impl Reading {
     }
 
     /// Why an input is refused that ends at the next field, of this size in bytes.
-    fn cut_short(&self, size: u128) -> Fault
+    fn fault_at_end(&self, size: u128) -> Fault
         ensures { result ≡ cut_at self.now.limit self.now.at size }
     {
         let kind = if size > (self.limit - self.at) as u128 {
@@ -124,10 +124,10 @@ impl Reading {
         ensures memory { IfErr result (λ e. e ≢ HeaderError.Memory) }
     {
         if let Some(size) = self.size() {
-            return Err(HeaderError::Fault(self.cut_short(size)));
+            return Err(HeaderError::Fault(self.fault_at_end(size)));
         }
-        let built = self.built;
-        let lists = built.lists;
+        let partial = self.partial;
+        let lists = partial.lists;
         let (parts, vars) = (lists.parts, lists.vars);
         let schema = Schema {
             version: parts.version,

@@ -3,26 +3,26 @@
 ghost use Rattle.std.specs.Prelude.{◌≡◌, ◌≢◌, ◌+◌, ◌-◌, ◌≤◌, ◌<◌, ◌^◌, ℕ, List, [], ◌++◌, length, take, Some, None, Err, OnOk, IfOk, IfErr, IfSome, IfNone};
 ghost use Rattle.ncc_header.specs.Left.{left_of, come_of, idle_of};
 ghost use Rattle.ncc_header.specs.Marks.{mark_of};
-ghost use Rattle.ncc_header.specs.Passing.{NeedsMemory};
+ghost use Rattle.ncc_header.specs.AtFront.{NeedsMemory};
 ghost use Rattle.ncc_header.specs.Steps.{size_of, label_of, StepsTo, Steps};
 ghost use Rattle.ncc_header.specs.Reading.{next_of, held_of, told_of, Takes, Went, FailsBehind, Waits, WaitsBehind, effort_of};
 
-use crate::built::{Built, Named, Next};
 use crate::fault::{Fault, FaultKind, HeaderError, StepError};
 use crate::gathering::gather;
 use crate::judge::push_mark;
+use crate::partial::{Named, Next, Partial};
 use crate::reading::Reading;
+use crate::rules::whole_attr::take_attr;
+use crate::rules::whole_dim::take_dim;
+use crate::rules::whole_var::{take_tail, take_var};
 use crate::step::step;
-use crate::whole_attr::take_attr;
-use crate::whole_dim::take_dim;
-use crate::whole_var::{take_tail, take_var};
 use arrayvec::ArrayVec;
 use ncc_schema::Mark;
 use std::alloc::{AllocError, Global};
 use std::mem;
 
 /// The error of a field at this offset that is not taken.
-fn told(at: u64, error: StepError) -> HeaderError
+fn error_at(at: u64, error: StepError) -> HeaderError
     ensures { result ≡ told_of at error }
 {
     match error {
@@ -38,21 +38,21 @@ fn told(at: u64, error: StepError) -> HeaderError
 fn marked_step(
     alloc: Global,
     next: Next,
-    built: &mut Built,
+    partial: &mut Partial,
     marks: &mut Vec<Mark>,
     at: u64,
     bytes: &[u8],
 ) -> Result<Next, StepError>
-    requires whole { size_of (left_of next built.old) ≡ Some (length (come_of next built.old ++ bytes.now)) }
-    requires small { length (come_of next built.old ++ bytes.now) < 2 ^ 64 }
-    ensures steps { Steps next built.old at (come_of next built.old ++ bytes.now) result built.new }
+    requires whole { size_of (left_of next partial.old) ≡ Some (length (come_of next partial.old ++ bytes.now)) }
+    requires small { length (come_of next partial.old ++ bytes.now) < 2 ^ 64 }
+    ensures steps { Steps next partial.old at (come_of next partial.old ++ bytes.now) result partial.new }
     ensures marks { OnOk result (marks.new.items
-        ≡ marks.old.items ++ mark_of (label_of (left_of next built.old)) at (come_of next built.old ++ bytes.now)) }
-    ensures idle { length (come_of next built.old ++ bytes.now) ≡ 0
+        ≡ marks.old.items ++ mark_of (label_of (left_of next partial.old)) at (come_of next partial.old ++ bytes.now)) }
+    ensures idle { length (come_of next partial.old ++ bytes.now) ≡ 0
         → IfOk result (λ after. idle_of after < idle_of next) }
 {
     push_mark(marks, next, at, bytes)?;
-    step(alloc, next, built, at, bytes)
+    step(alloc, next, partial, at, bytes)
 }
 
 /// Takes the next field, of this size in bytes: these are its bytes after those that stand where they
@@ -65,7 +65,7 @@ fn take_bytes(
 ) -> Result<(), HeaderError>
     requires none { reading.old.held.items ≡ [] }
     requires size { size_of (next_of reading.old) ≡ Some size }
-    requires last { length (come_of reading.old.next reading.old.built ++ bytes.now) ≡ size }
+    requires last { length (come_of reading.old.next reading.old.partial ++ bytes.now) ≡ size }
     requires within { reading.old.at + size ≤ reading.old.limit }
     ensures takes { OnOk result (Takes reading.old reading.new bytes.now) }
     ensures less { OnOk result (effort_of reading.new < effort_of reading.old) }
@@ -73,8 +73,8 @@ fn take_bytes(
     ensures memory { result ≡ Err HeaderError.Memory → 12 ≤ reading.old.at }
 {
     let at = reading.at;
-    let (built, marks) = (&mut reading.built, &mut reading.marks);
-    match marked_step(alloc, reading.next, built, marks, at, bytes) {
+    let (partial, marks) = (&mut reading.partial, &mut reading.marks);
+    match marked_step(alloc, reading.next, partial, marks, at, bytes) {
         Ok(next) => {
             reading.next = next;
             reading.at = at + size;
@@ -83,7 +83,7 @@ fn take_bytes(
         Err(error) => {
             // What a reading promises holds of any that begins, whatever was built.
             reading.next = Next::Magic;
-            Err(told(at, error))
+            Err(error_at(at, error))
         }
     }
 }
@@ -100,7 +100,7 @@ fn hold(reading: &mut Reading, front: &[u8]) -> Result<(), HeaderError>
     ensures held { OnOk result (held_of reading.new ≡ held_of reading.old ++ front.now) }
     ensures memory { IfErr result (λ e. (e ≡ HeaderError.Memory) × (12 ≤ reading.old.at)) }
 {
-    match gather(reading.next, &mut reading.built, &mut reading.held, front) {
+    match gather(reading.next, &mut reading.partial, &mut reading.held, front) {
         Ok(()) => Ok(()),
         Err(_) => {
             reading.next = Next::Magic;
@@ -215,7 +215,7 @@ fn take_item(alloc: Global, reading: &mut Reading, rest: &[u8]) -> Result<Option
     ensures less { IfOk result (λ o. IfSome o (λ n. effort_of reading.new < effort_of reading.old)) }
     ensures none { IfOk result (λ o. IfNone o (reading.new ≡ reading.old)) }
     ensures memory { IfErr result (λ _. 12 ≤ reading.old.at) }
-    ensures needs { IfErr result (λ _. NeedsMemory reading.old.next reading.old.built rest.now) }
+    ensures needs { IfErr result (λ _. NeedsMemory reading.old.next reading.old.partial rest.now) }
 {
     match reading.next {
         Next::NameLength(Named::Attr(owner)) => take_attr(alloc, reading, owner, rest),
@@ -236,7 +236,7 @@ fn take_item_within(
     ensures less { IfOk result (λ o. IfSome o (λ n. effort_of reading.new < effort_of reading.old)) }
     ensures none { IfOk result (λ o. IfNone o (reading.new ≡ reading.old)) }
     ensures memory { IfErr result (λ _. 12 ≤ reading.old.at) }
-    ensures needs { IfErr result (λ _. NeedsMemory reading.old.next reading.old.built
+    ensures needs { IfErr result (λ _. NeedsMemory reading.old.next reading.old.partial
         (take (reading.old.limit - reading.old.at) rest.now)) }
 {
     if !reading.held.is_empty() {

@@ -3,8 +3,8 @@
 ghost use Rattle.std.specs.Prelude.{◌≡◌, length};
 ghost use Rattle.ncc_header.specs.Awaited.{attr_part, list_part, named_owner, named_part, next_name, next_owner, next_part, owner_name, unfinished_of};
 
-use crate::built::{Built, Lists, Named, Next, Owner};
 use crate::part::Part;
+use crate::partial::{Lists, Named, Next, Owner, Partial};
 use ncc_values::Name;
 
 /// The part of a header that a decoder's next field is in, and the names that are known there.
@@ -54,7 +54,7 @@ fn next_part(next: Next, lists: &Lists) -> Option<Part>
 {
     match next {
         Next::Magic | Next::VersionByte => Some(Part::Magic),
-        Next::RecordCount => Some(Part::NumRecs),
+        Next::NumRecs => Some(Part::NumRecs),
         Next::DimsTag | Next::DimsCount(_) => Some(Part::DimList),
         Next::NameLength(named) => Some(named_part(named, lists)),
         Next::NameText(named, _) => Some(named_part(named, lists)),
@@ -68,7 +68,7 @@ fn next_part(next: Next, lists: &Lists) -> Option<Part>
         Next::AttrPadding(owner, _) => Some(attr_part(owner, lists)),
         Next::VarsTag | Next::VarsCount(_) => Some(Part::VarList),
         Next::DimIdsCount | Next::DimId(_) => Some(Part::Var(lists.vars.vars.len())),
-        Next::VarType | Next::VarSize(_) => Some(Part::Place(lists.vars.vars.len())),
+        Next::VarType | Next::Vsize(_) => Some(Part::Place(lists.vars.vars.len())),
         Next::VarBegin(_, _) => Some(Part::Place(lists.vars.vars.len())),
         Next::Whole => None,
     }
@@ -113,17 +113,17 @@ fn next_names(next: Next, name: Name, var: Name) -> (Option<Name>, Option<Name>)
         Next::AttrsTag(Owner::Variable) => (Some(var), None),
         Next::AttrsCount(Owner::Variable, _) => (Some(var), None),
         Next::DimIdsCount | Next::DimId(_) => (Some(var), None),
-        Next::VarType | Next::VarSize(_) | Next::VarBegin(_, _) => (Some(var), None),
+        Next::VarType | Next::Vsize(_) | Next::VarBegin(_, _) => (Some(var), None),
         _ => (None, None),
     }
 }
 
 /// Where in a header the next field is, after what the fields so far gave; none where no field is left.
-pub fn where_next(next: Next, built: Built) -> Option<Unfinished>
-    ensures { result ≡ unfinished_of next built }
+pub fn where_next(next: Next, partial: Partial) -> Option<Unfinished>
+    ensures { result ≡ unfinished_of next partial }
 {
-    let part = next_part(next, &built.lists)?;
-    let (last, lists) = (built.name, built.lists);
+    let part = next_part(next, &partial.lists)?;
+    let (last, lists) = (partial.name, partial.lists);
     let begun = lists.var;
     let (name, owner) = next_names(next, last, begun.name);
     Some(Unfinished { part, name, owner })

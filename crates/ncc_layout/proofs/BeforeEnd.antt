@@ -8,7 +8,7 @@ use Rattle.ncc_layout.specs.declared.placed_file.Placed.{Placed}
 use Rattle.ncc_layout.specs.Extents.{records_of, LeastBegin}
 use Rattle.ncc_layout.specs.Elements.{var_at, no_var, place_of, record_in, record_of, Inside, LiesInFile, LiesInSlab, IsShaped, HasShape}
 use Rattle.ncc_layout.specs.Placed.{header_length_of, file_length_of, record_size_of_file, records_of_file, vars_of, extents_of_file, KeepsRules}
-use Rattle.ncc_layout.specs.Rules.{PastHeader}
+use Rattle.ncc_layout.specs.Rules.InHeader.{NotInHeader}
 use Rattle.ncc_layout.proofs.Membership.{In, in_filter, in_map, all_in}
 use Rattle.ncc_layout.proofs.Own.{lies_in_slab}
 use Rattle.ncc_layout.proofs.OneMoreRoom.{record_ends, fixed_ends}
@@ -42,8 +42,8 @@ module _ (p : Placed) (keeps : KeepsRules p) (begin n : ℕ) (index : List ℕ) 
   among : In (extents_of_file p) x.extent
   among = in_map (λ (y : PlacedVar). y.extent) (vars_of p) x (at_is_in (vars_of p) n no_var there)
 
-  past_header : header_length_of p ≤ place
-  past_header = omega (arith, in_slab.begins, all_in (PastHeader (header_length_of p)) (extents_of_file p) x.extent keeps.rules.past_header among)
+  not_in_header : header_length_of p ≤ place
+  not_in_header = omega (arith, in_slab.begins, all_in (NotInHeader (header_length_of p)) (extents_of_file p) x.extent keeps.rules.not_in_header among)
 
   in_first : x.extent.is_record ≡ false → record_of x index ≡ 0
   in_first is = ap (λ (b : Bool). record_in b index) is
@@ -72,7 +72,7 @@ module _ (p : Placed) (keeps : KeepsRules p) (begin n : ℕ) (index : List ℕ) 
   by_kind false is = omega (arith, fixed_below is)
 
   pub before_end : LiesInFile (header_length_of p) (begin + records_of_file p * record_size_of_file p) x place
-  before_end = (past_header, by_kind x.extent.is_record refl)
+  before_end = (not_in_header, by_kind x.extent.is_record refl)
 
   pub before_records : x.extent.is_record ≡ false → LiesInFile (header_length_of p) begin x place
-  before_records is = (past_header, fixed_below is)
+  before_records is = (not_in_header, fixed_below is)

@@ -10,10 +10,17 @@ use Rattle.ncc_schema.specs.Schema.{Place}
 use Rattle.ncc_layout.specs.declared.extent.Extent.{Extent}
 use Rattle.ncc_layout.specs.declared.fault.LayoutFaultKind.{LayoutFaultKind}
 use Rattle.ncc_layout.specs.declared.fault.LayoutFaultKind.TheVariants.{TooLarge, InHeader, Overlap, RecordWindow, FixedAfterRecords, Truncated}
-use Rattle.ncc_layout.specs.Sizes.{rounded, room, record_sum, record_size_of, Fit, FirstTooLarge}
+use Rattle.ncc_layout.specs.Sizes.{rounded, room, record_sum, record_size_of, NoneTooLarge, FirstTooLarge}
 use Rattle.ncc_layout.specs.Extents.{end, extents_of, fixed_of, records_of, record_count}
-use Rattle.ncc_layout.specs.Rules.{ByKind, PastHeader, EndsBy, InWindow, BeforeRecords, LastWithin, Within, Apart, AllApart, IsPlaced}
-use Rattle.ncc_layout.specs.Faults.{FailsFirst, Before, FirstShared, FirstFault}
+use Rattle.ncc_layout.specs.Rules.ByKind.{ByKind, EndsBy}
+use Rattle.ncc_layout.specs.Rules.InHeader.{NotInHeader}
+use Rattle.ncc_layout.specs.Rules.RecordWindow.{InRecordWindow}
+use Rattle.ncc_layout.specs.Rules.FixedAfterRecords.{NotFixedAfterRecords}
+use Rattle.ncc_layout.specs.Rules.Truncated.{LastNotTruncated, NotTruncated}
+use Rattle.ncc_layout.specs.Rules.Overlap.{Apart, NoOverlap}
+use Rattle.ncc_layout.specs.Rules.{IsPlaced}
+use Rattle.ncc_layout.specs.Faults.{FailsFirst, FirstFault}
+use Rattle.ncc_layout.specs.Rules.Overlap.{Before, FirstShared}
 use Rattle.ncc_layout.proofs.Membership.{In, in_from_contains, contains_from_in}
 use Rattle.ncc_layout.proofs.OneFault.{fails_not_all, not_before_itself, order}
 
@@ -52,7 +59,7 @@ by_kind false P Q p q = q
 ends_by : (further : ℕ) (records : List Extent) (e : Extent) → Decided (EndsBy further records e)
 ends_by further records e = all_decided (λ (r : Extent). end e ≤ r.begin + further) (λ r. at_most (end e) (r.begin + further)) records
 
-within : (file record_size records : ℕ) (e : Extent) → Decided (LastWithin file record_size records e)
+within : (file record_size records : ℕ) (e : Extent) → Decided (LastNotTruncated file record_size records e)
 within file record_size zero e = inl tt
 within file record_size (suc n) e = at_most _ file
 
@@ -137,7 +144,7 @@ earliest_or_none has decide (x ∷ es) = by_first (decide x) (earliest_or_none h
     by_first (inl holds) (inr none) = inl (x, inl refl, holds, no_other none)
     by_first (inr breaks) (inr none) = inr (none_of breaks none)
 
-apart_or_shared : (es : List Extent) → AllApart es ⊎ ((n : ℕ) × FirstShared es n)
+apart_or_shared : (es : List Extent) → NoOverlap es ⊎ ((n : ℕ) × FirstShared es n)
 apart_or_shared es = by_earliest (earliest_or_none (Shares es) (shares_or_not es) es)
   where
     pair_apart : ((e : Extent) → In es e → Shares es e → ⊥) → (d e : Extent) → In es d → In es e → Before d e → Apart d e
@@ -147,7 +154,7 @@ apart_or_shared es = by_earliest (earliest_or_none (Shares es) (shares_or_not es
         by_apart (inl apart) = apart
         by_apart (inr shared) = absurd (none e e_in (d, d_in, before, shared))
 
-    all_apart : ((e : Extent) → In es e → Shares es e → ⊥) → AllApart es
+    all_apart : ((e : Extent) → In es e → Shares es e → ⊥) → NoOverlap es
     all_apart none d e d_there e_there other = by_order (order d e)
       where
         d_in : In es d
@@ -168,7 +175,7 @@ apart_or_shared es = by_earliest (earliest_or_none (Shares es) (shares_or_not es
         by_apart (inl apart) = apart
         by_apart (inr shared) = absurd (later.3 e e_in (d, d_in, before, shared) sooner)
 
-    by_earliest : Earliest (Shares es) es ⊎ ((e : Extent) → In es e → Shares es e → ⊥) → AllApart es ⊎ ((n : ℕ) × FirstShared es n)
+    by_earliest : Earliest (Shares es) es ⊎ ((e : Extent) → In es e → Shares es e → ⊥) → NoOverlap es ⊎ ((n : ℕ) × FirstShared es n)
     by_earliest (inr none) = inl (all_apart none)
     by_earliest (inl later) = inr (
       later.0.variable,
@@ -186,19 +193,19 @@ apart_or_shared es = by_earliest (earliest_or_none (Shares es) (shares_or_not es
 
 -- ---- sizes
 
-fit_or_not : (dims : List Dim) (vars : List Var) → Decided (Fit dims vars)
+fit_or_not : (dims : List Dim) (vars : List Var) → Decided (NoneTooLarge dims vars)
 fit_or_not dims vars = by_both (all_decided (λ x. rounded dims x ≤ room) (λ x. at_most (rounded dims x) room) vars) (at_most (record_sum dims vars) room)
   where
-    by_both : Decided (AllByRecursion (λ x. rounded dims x ≤ room) vars) → Decided (record_sum dims vars ≤ room) → Decided (Fit dims vars)
+    by_both : Decided (AllByRecursion (λ x. rounded dims x ≤ room) vars) → Decided (record_sum dims vars ≤ room) → Decided (NoneTooLarge dims vars)
     by_both (inl each) (inl together) = inl (record { each = each; together = together })
     by_both (inr breaks) together = inr (λ fit. breaks fit.each)
     by_both (inl each) (inr breaks) = inr (λ fit. breaks fit.together)
 
-fit_or_first : (s : Schema) (more done : ℕ) → done + more ≡ length s.vars → Fit s.dims (take done s.vars) → Fit s.dims s.vars ⊎ ((n : ℕ) × FirstTooLarge s n)
-fit_or_first s zero done all fit = inl (subst (Fit s.dims) (take_all done s.vars (omega (arith, all))) fit)
+fit_or_first : (s : Schema) (more done : ℕ) → done + more ≡ length s.vars → NoneTooLarge s.dims (take done s.vars) → NoneTooLarge s.dims s.vars ⊎ ((n : ℕ) × FirstTooLarge s n)
+fit_or_first s zero done all fit = inl (subst (NoneTooLarge s.dims) (take_all done s.vars (omega (arith, all))) fit)
 fit_or_first s (suc more) done all fit = by_next (fit_or_not s.dims (take (done + 1) s.vars)) (λ fits. fit_or_first s more (done + 1) (omega (arith, all)) fits)
   where
-    by_next : Decided (Fit s.dims (take (done + 1) s.vars)) → (Fit s.dims (take (done + 1) s.vars) → Fit s.dims s.vars ⊎ ((n : ℕ) × FirstTooLarge s n)) → Fit s.dims s.vars ⊎ ((n : ℕ) × FirstTooLarge s n)
+    by_next : Decided (NoneTooLarge s.dims (take (done + 1) s.vars)) → (NoneTooLarge s.dims (take (done + 1) s.vars) → NoneTooLarge s.dims s.vars ⊎ ((n : ℕ) × FirstTooLarge s n)) → NoneTooLarge s.dims s.vars ⊎ ((n : ℕ) × FirstTooLarge s n)
     by_next (inl fits) rest = rest fits
     by_next (inr breaks) rest = inr (done, record { there = omega (arith, all); before = fit; here = breaks })
 
@@ -217,41 +224,41 @@ module _ (s : Schema) (places : List Place) (header file : ℕ) where
   abbrev Either : Type 0
   Either = IsPlaced s places header file ⊎ ((kind : LayoutFaultKind) × (n : ℕ) × FirstFault s places header file kind n)
 
-  by_within : Fit s.dims s.vars → AllByRecursion (PastHeader header) es → AllApart (fixed_of es) → AllApart (records_of es) → AllByRecursion (InWindow size es) es → AllByRecursion (BeforeRecords es) es
-      → AllByRecursion (Within file size records) es ⊎ ((n : ℕ) × FailsFirst (Within file size records) es n) → Either
+  by_within : NoneTooLarge s.dims s.vars → AllByRecursion (NotInHeader header) es → NoOverlap (fixed_of es) → NoOverlap (records_of es) → AllByRecursion (InRecordWindow size es) es → AllByRecursion (NotFixedAfterRecords es) es
+      → AllByRecursion (NotTruncated file size records) es ⊎ ((n : ℕ) × FailsFirst (NotTruncated file size records) es n) → Either
   by_within fit past fixed of_records window first (inl all) = inl (record {
-    fit = fit;
-    rules = record { past_header = past; fixed_apart = fixed; records_apart = of_records; window = window; fixed_first = first; within = all };
+    none_too_large = fit;
+    rules = record { not_in_header = past; no_fixed_overlap = fixed; no_record_overlap = of_records; in_record_window = window; not_fixed_after_records = first; not_truncated = all };
   })
   by_within fit past fixed of_records window first (inr fails) = inr (Truncated, fails.0, (fit, (past, fixed, of_records, window, first, fails.1)))
 
-  by_first : Fit s.dims s.vars → AllByRecursion (PastHeader header) es → AllApart (fixed_of es) → AllApart (records_of es) → AllByRecursion (InWindow size es) es
-      → AllByRecursion (BeforeRecords es) es ⊎ ((n : ℕ) × FailsFirst (BeforeRecords es) es n) → Either
+  by_first : NoneTooLarge s.dims s.vars → AllByRecursion (NotInHeader header) es → NoOverlap (fixed_of es) → NoOverlap (records_of es) → AllByRecursion (InRecordWindow size es) es
+      → AllByRecursion (NotFixedAfterRecords es) es ⊎ ((n : ℕ) × FailsFirst (NotFixedAfterRecords es) es n) → Either
   by_first fit past fixed of_records window (inl all) =
       by_within fit past fixed of_records window all
-      (first_or_all (Within file size records) (λ e. by_kind e.is_record (LastWithin file size records e) (end e ≤ file) (within file size records e) (at_most (end e) file)) es)
+      (first_or_all (NotTruncated file size records) (λ e. by_kind e.is_record (LastNotTruncated file size records e) (end e ≤ file) (within file size records e) (at_most (end e) file)) es)
   by_first fit past fixed of_records window (inr fails) = inr (FixedAfterRecords, fails.0, (fit, (past, fixed, of_records, window, fails.1)))
 
-  by_window : Fit s.dims s.vars → AllByRecursion (PastHeader header) es → AllApart (fixed_of es) → AllApart (records_of es)
-      → AllByRecursion (InWindow size es) es ⊎ ((n : ℕ) × FailsFirst (InWindow size es) es n) → Either
+  by_window : NoneTooLarge s.dims s.vars → AllByRecursion (NotInHeader header) es → NoOverlap (fixed_of es) → NoOverlap (records_of es)
+      → AllByRecursion (InRecordWindow size es) es ⊎ ((n : ℕ) × FailsFirst (InRecordWindow size es) es n) → Either
   by_window fit past fixed of_records (inl all) =
       by_first fit past fixed of_records all
-      (first_or_all (BeforeRecords es) (λ e. by_kind e.is_record (Unit {0}) (EndsBy 0 (records_of es) e) (inl tt) (ends_by 0 (records_of es) e)) es)
+      (first_or_all (NotFixedAfterRecords es) (λ e. by_kind e.is_record (Unit {0}) (EndsBy 0 (records_of es) e) (inl tt) (ends_by 0 (records_of es) e)) es)
   by_window fit past fixed of_records (inr fails) = inr (RecordWindow, fails.0, (fit, (past, fixed, of_records, fails.1)))
 
-  by_apart : Fit s.dims s.vars → AllByRecursion (PastHeader header) es → AllApart (fixed_of es) ⊎ ((n : ℕ) × FirstShared (fixed_of es) n) → AllApart (records_of es) ⊎ ((n : ℕ) × FirstShared (records_of es) n) → Either
+  by_apart : NoneTooLarge s.dims s.vars → AllByRecursion (NotInHeader header) es → NoOverlap (fixed_of es) ⊎ ((n : ℕ) × FirstShared (fixed_of es) n) → NoOverlap (records_of es) ⊎ ((n : ℕ) × FirstShared (records_of es) n) → Either
   by_apart fit past (inl fixed) (inl of_records) =
       by_window fit past fixed of_records
-      (first_or_all (InWindow size es) (λ e. by_kind e.is_record (EndsBy size (records_of es) e) (Unit {0}) (ends_by size (records_of es) e) (inl tt)) es)
+      (first_or_all (InRecordWindow size es) (λ e. by_kind e.is_record (EndsBy size (records_of es) e) (Unit {0}) (ends_by size (records_of es) e) (inl tt)) es)
   by_apart fit past (inr shared) other = inr (Overlap, shared.0, (fit, (past, inl shared.1)))
   by_apart fit past (inl fixed) (inr shared) = inr (Overlap, shared.0, (fit, (past, inr (fixed, shared.1))))
 
-  by_header : Fit s.dims s.vars → AllByRecursion (PastHeader header) es ⊎ ((n : ℕ) × FailsFirst (PastHeader header) es n) → Either
+  by_header : NoneTooLarge s.dims s.vars → AllByRecursion (NotInHeader header) es ⊎ ((n : ℕ) × FailsFirst (NotInHeader header) es n) → Either
   by_header fit (inl past) = by_apart fit past (apart_or_shared (fixed_of es)) (apart_or_shared (records_of es))
   by_header fit (inr fails) = inr (InHeader, fails.0, (fit, fails.1))
 
-  by_sizes : Fit s.dims s.vars ⊎ ((n : ℕ) × FirstTooLarge s n) → Either
-  by_sizes (inl fit) = by_header fit (first_or_all (PastHeader header) (λ e. at_most header e.begin) es)
+  by_sizes : NoneTooLarge s.dims s.vars ⊎ ((n : ℕ) × FirstTooLarge s n) → Either
+  by_sizes (inl fit) = by_header fit (first_or_all (NotInHeader header) (λ e. at_most header e.begin) es)
   by_sizes (inr large) = inr (TooLarge, large.0, large.1)
 
   pub placed_or_first_fault : Either

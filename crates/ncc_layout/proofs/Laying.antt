@@ -13,10 +13,15 @@ use Rattle.ncc_schema.specs.declared.schema.Schema.{Schema}
 use Rattle.ncc_schema.specs.Schema.{Place, place_of, places_of, count_limit, LegalDims, LegalVar, Sound, is_record_var}
 use Rattle.ncc_layout.specs.declared.extent.Extent.{Extent}
 use Rattle.ncc_layout.specs.declared.placed_var.PlacedVar.{PlacedVar}
-use Rattle.ncc_layout.specs.Sizes.{up, product, inner, slab, rounded, record_vars, record_slabs, record_bytes, record_size_of, room, Fit}
+use Rattle.ncc_layout.specs.Sizes.{up, product, inner, slab, rounded, record_vars, record_slabs, record_bytes, record_size_of, room, NoneTooLarge}
 use Rattle.ncc_layout.specs.Extents.{extent_of, extents_from, extents_of, NumberedFrom, records_of, slabs_of_records, record_count}
-use Rattle.ncc_layout.specs.Rules.{PastHeader, InWindow, BeforeRecords, Within, Rules}
-use Rattle.ncc_layout.specs.Faults.{FailsFirst, FirstShared, FirstOverlap, RuleFails, PlaceFails, FirstFault}
+use Rattle.ncc_layout.specs.Rules.InHeader.{NotInHeader}
+use Rattle.ncc_layout.specs.Rules.RecordWindow.{InRecordWindow}
+use Rattle.ncc_layout.specs.Rules.FixedAfterRecords.{NotFixedAfterRecords}
+use Rattle.ncc_layout.specs.Rules.Truncated.{NotTruncated}
+use Rattle.ncc_layout.specs.Rules.{Rules}
+use Rattle.ncc_layout.specs.Faults.{FailsFirst, RuleFails, PlaceFails, FirstFault}
+use Rattle.ncc_layout.specs.Rules.Overlap.{FirstShared, FirstOverlap}
 use Rattle.ncc_layout.specs.declared.fault.LayoutFaultKind.{LayoutFaultKind}
 use Rattle.ncc_layout.specs.declared.fault.LayoutFaultKind.TheVariants.{TooLarge, InHeader, Overlap, RecordWindow, FixedAfterRecords, Truncated}
 use Rattle.ncc_values.specs.declared.version.Version.{Version}
@@ -127,7 +132,7 @@ each_sized dims records n [] places all = tt
 each_sized dims records n (x ∷ vars) [] all = tt
 each_sized dims records n (x ∷ vars) (p ∷ places) all = (all.0, each_sized dims records (suc n) vars places all.1)
 
-pub sized : (s : Schema) (places : List Place) (records : ℕ) → length places ≡ length s.vars → Fit s.dims s.vars → AreSized (record_size_of s) (placed_with s places records)
+pub sized : (s : Schema) (places : List Place) (records : ℕ) → length places ≡ length s.vars → NoneTooLarge s.dims s.vars → AreSized (record_size_of s) (placed_with s places records)
 sized s places records long fit =
     let slabs : slabs_of_records (map (λ y. y.extent) (placed_with s places records)) ≡ record_slabs s.dims s.vars =
     ap slabs_of_records (extents_same s.dims records 0 s.vars places) ∙ slabs_same s.dims 0 s.vars places long in
@@ -213,11 +218,11 @@ overlap_below es n h (inr shared) = shared_below (λ (e : Extent). e.is_record) 
 
 rule_below : (header file record_size records : ℕ) (es : List Extent) (kind : LayoutFaultKind) (n : ℕ) → NumberedFrom 0 es → RuleFails header file record_size records es kind n → n < length es
 rule_below header file record_size records es TooLarge n h fails = absurd fails
-rule_below header file record_size records es InHeader n h fails = fails_below (PastHeader header) es n fails
+rule_below header file record_size records es InHeader n h fails = fails_below (NotInHeader header) es n fails
 rule_below header file record_size records es Overlap n h fails = overlap_below es n h fails.1
-rule_below header file record_size records es RecordWindow n h fails = fails_below (InWindow record_size es) es n fails.3
-rule_below header file record_size records es FixedAfterRecords n h fails = fails_below (BeforeRecords es) es n fails.4
-rule_below header file record_size records es Truncated n h fails = fails_below (Within file record_size records) es n fails.5
+rule_below header file record_size records es RecordWindow n h fails = fails_below (InRecordWindow record_size es) es n fails.3
+rule_below header file record_size records es FixedAfterRecords n h fails = fails_below (NotFixedAfterRecords es) es n fails.4
+rule_below header file record_size records es Truncated n h fails = fails_below (NotTruncated file record_size records) es n fails.5
 
 length_from : (dims : List Dim) (n : ℕ) (vars : List Var) (places : List Place) → length places ≡ length vars → length (extents_from dims n vars places) ≡ length vars
 length_from dims n [] places e = refl
@@ -252,7 +257,7 @@ module _ (s : Schema) (places : List Place) (header file : ℕ) (es : List Exten
       (subst (λ (n : ℕ). Judged header n f.record_size f.records es found) frame.length_is
       (subst (λ (n : ℕ). Judged n f.file_length f.record_size f.records es found) frame.header_is h))))
 
-  pub fault_found : Fit s.dims s.vars → (found : Option (LayoutFaultKind × ℕ)) (kind : LayoutFaultKind) (n : ℕ) → Judged f.header_length f.file_length f.record_size f.records es found → found ≡ Some (kind, n)
+  pub fault_found : NoneTooLarge s.dims s.vars → (found : Option (LayoutFaultKind × ℕ)) (kind : LayoutFaultKind) (n : ℕ) → Judged f.header_length f.file_length f.record_size f.records es found → found ≡ Some (kind, n)
       → FirstFault s places header file kind n
   fault_found fit found kind n h some =
       as_first_fault s places header file kind n (fit, subst (Judged header file (record_size_of s) (record_count s places file) (extents_of s places)) some (judged_so found h))
@@ -282,7 +287,7 @@ module _ (s : Schema) (places : List Place) (header file : ℕ) (es : List Exten
       subst (AreLaid f.header_length f.file_length f.record_size f.records)
       (sym (ap (placed_on s.dims f.records s.vars) is ∙ placed_same s.dims f.records 0 s.vars places)) all
 
-  pub sized_so : length places ≡ length s.vars → Fit s.dims s.vars → AreSized f.record_size (placed_on s.dims f.records s.vars es)
+  pub sized_so : length places ≡ length s.vars → NoneTooLarge s.dims s.vars → AreSized f.record_size (placed_on s.dims f.records s.vars es)
   sized_so long fit =
       subst (AreSized f.record_size) (sym (ap (placed_on s.dims f.records s.vars) is ∙ placed_same s.dims f.records 0 s.vars places))
       (subst (λ (n : ℕ). AreSized n (placed_with s places f.records)) (sym frame.size_is) (sized s places f.records long fit))

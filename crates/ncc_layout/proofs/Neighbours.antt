@@ -6,8 +6,8 @@ use Rattle.std.proofs.lemmas.Bool.{cases_lt}
 use Rattle.std.proofs.lemmas.List.Sorted.{Contains-permutation, IsPermutation-sym}
 use Rattle.ncc_layout.specs.declared.extent.Extent.{Extent}
 use Rattle.ncc_layout.specs.Extents.{end}
-use Rattle.ncc_layout.specs.Rules.{Apart}
-use Rattle.ncc_layout.specs.Faults.{Before, InOrderFrom, InOrder, FirstInsideFrom, FirstInside, FirstShared}
+use Rattle.ncc_layout.specs.Rules.Overlap.{Apart}
+use Rattle.ncc_layout.specs.Rules.Overlap.{Before, InOrderFrom, InOrder, FirstInsideFrom, FirstInside, FirstShared}
 use Rattle.ncc_layout.proofs.Membership.{In, in_from_contains, contains_from_in}
 use Rattle.ncc_layout.proofs.OneFault.{one_shared, not_before_itself}
 

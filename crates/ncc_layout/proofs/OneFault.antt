@@ -11,10 +11,16 @@ use Rattle.ncc_schema.specs.Schema.{Place}
 use Rattle.ncc_layout.specs.declared.extent.Extent.{Extent}
 use Rattle.ncc_layout.specs.declared.fault.LayoutFaultKind.{LayoutFaultKind}
 use Rattle.ncc_layout.specs.declared.fault.LayoutFaultKind.TheVariants.{TooLarge, InHeader, Overlap, RecordWindow, FixedAfterRecords, Truncated}
-use Rattle.ncc_layout.specs.Sizes.{rounded, room, record_size_of, Fit, FirstTooLarge}
+use Rattle.ncc_layout.specs.Sizes.{rounded, room, record_size_of, NoneTooLarge, FirstTooLarge}
 use Rattle.ncc_layout.specs.Extents.{NumberedFrom, extents_of, fixed_of, records_of, record_count}
-use Rattle.ncc_layout.specs.Rules.{PastHeader, AllApart, InWindow, BeforeRecords, Within, IsPlaced}
-use Rattle.ncc_layout.specs.Faults.{FailsFirst, Before, FirstShared, FirstOverlap, FirstFault}
+use Rattle.ncc_layout.specs.Rules.InHeader.{NotInHeader}
+use Rattle.ncc_layout.specs.Rules.Overlap.{NoOverlap}
+use Rattle.ncc_layout.specs.Rules.RecordWindow.{InRecordWindow}
+use Rattle.ncc_layout.specs.Rules.FixedAfterRecords.{NotFixedAfterRecords}
+use Rattle.ncc_layout.specs.Rules.Truncated.{NotTruncated}
+use Rattle.ncc_layout.specs.Rules.{IsPlaced}
+use Rattle.ncc_layout.specs.Faults.{FailsFirst, FirstFault}
+use Rattle.ncc_layout.specs.Rules.Overlap.{Before, FirstShared, FirstOverlap}
 use Rattle.ncc_layout.proofs.Membership.{In, in_from_contains, filter_in}
 use Rattle.ncc_layout.proofs.Laying.{numbered}
 use Rattle.ncc_layout.proofs.Own.{one_numbered}
@@ -41,14 +47,14 @@ all_take P zero xs all = tt
 all_take P (suc n) [] all = tt
 all_take P (suc n) (x ∷ xs) all = (all.0, all_take P n xs all.1)
 
-pub fit_take : (dims : List Dim) (vars : List Var) (n : ℕ) → Fit dims vars → Fit dims (take n vars)
+pub fit_take : (dims : List Dim) (vars : List Var) (n : ℕ) → NoneTooLarge dims vars → NoneTooLarge dims (take n vars)
 fit_take dims vars n fit = record {
   each = all_take (λ x. rounded dims x ≤ room) n vars fit.each;
   together = omega (arith, record_sum_first dims n vars, fit.together);
 }
 
 not_sooner : (s : Schema) (m n : ℕ) → FirstTooLarge s m → FirstTooLarge s n → m < n → ⊥
-not_sooner s m n h k less = h.here (subst (Fit s.dims) (take-take (m + 1) n s.vars (omega (arith, less))) (fit_take s.dims (take n s.vars) (m + 1) k.before))
+not_sooner s m n h k less = h.here (subst (NoneTooLarge s.dims) (take-take (m + 1) n s.vars (omega (arith, less))) (fit_take s.dims (take n s.vars) (m + 1) k.before))
 
 one_number : (m n : ℕ) → (m < n → ⊥) → (n < m → ⊥) → m ≡ n
 one_number m n h k = by_order (cases_lt m n) (cases_lt n m)
@@ -86,7 +92,7 @@ one_shared es m n h k = by_order (order h.later k.later)
     by_order (inr (inl before)) = absurd (k.shared (h.first k.earlier k.later k.earlier_there k.later_there k.ordered before))
     by_order (inr (inr same)) = sym h.number_is ∙ same ∙ k.number_is
 
-shared_not_apart : (p : Extent → Bool) (es : List Extent) (n : ℕ) → NumberedFrom 0 es → FirstShared (filter p es) n → AllApart (filter p es) → ⊥
+shared_not_apart : (p : Extent → Bool) (es : List Extent) (n : ℕ) → NumberedFrom 0 es → FirstShared (filter p es) n → NoOverlap (filter p es) → ⊥
 shared_not_apart p es n h shared apart =
     shared.shared (apart shared.earlier shared.later shared.earlier_there shared.later_there (λ same.
     let x = (filter_in p es shared.earlier (in_from_contains (filter p es) shared.earlier shared.earlier_there)).0 in
@@ -94,7 +100,7 @@ shared_not_apart p es n h shared apart =
     let one = one_extent es shared.earlier shared.later h x y same in
     not_before_itself shared.later (subst (λ (z : Extent). Before z shared.later) one shared.ordered)))
 
-overlap_not_apart : (es : List Extent) (n : ℕ) → NumberedFrom 0 es → FirstOverlap es n → AllApart (fixed_of es) × AllApart (records_of es) → ⊥
+overlap_not_apart : (es : List Extent) (n : ℕ) → NumberedFrom 0 es → FirstOverlap es n → NoOverlap (fixed_of es) × NoOverlap (records_of es) → ⊥
 overlap_not_apart es n h (inl shared) apart = shared_not_apart (λ (e : Extent). not e.is_record) es n h shared apart.0
 overlap_not_apart es n h (inr shared) apart = shared_not_apart (λ (e : Extent). e.is_record) es n h shared.1 apart.1
 
@@ -136,14 +142,14 @@ module _ (s : Schema) (places : List Place) (header file : ℕ) where
   es = extents_of s places
 
   abbrev within : Extent → Type 0
-  within = Within file (record_size_of s) (record_count s places file)
+  within = NotTruncated file (record_size_of s) (record_count s places file)
 
   RuleHolds : LayoutFaultKind → Type 0
-  RuleHolds TooLarge = Fit s.dims s.vars
-  RuleHolds InHeader = AllByRecursion (PastHeader header) es
-  RuleHolds Overlap = AllApart (fixed_of es) × AllApart (records_of es)
-  RuleHolds RecordWindow = AllByRecursion (InWindow (record_size_of s) es) es
-  RuleHolds FixedAfterRecords = AllByRecursion (BeforeRecords es) es
+  RuleHolds TooLarge = NoneTooLarge s.dims s.vars
+  RuleHolds InHeader = AllByRecursion (NotInHeader header) es
+  RuleHolds Overlap = NoOverlap (fixed_of es) × NoOverlap (records_of es)
+  RuleHolds RecordWindow = AllByRecursion (InRecordWindow (record_size_of s) es) es
+  RuleHolds FixedAfterRecords = AllByRecursion (NotFixedAfterRecords es) es
   RuleHolds Truncated = AllByRecursion within es
 
   in_order : NumberedFrom 0 es
@@ -152,20 +158,20 @@ module _ (s : Schema) (places : List Place) (header file : ℕ) where
   broken : (kind : LayoutFaultKind) (n : ℕ) → FirstFault s places header file kind n → RuleHolds kind → ⊥
   unfolding RuleHolds
   broken TooLarge n h holds = h.here (fit_take s.dims s.vars (n + 1) holds)
-  broken InHeader n h holds = fails_not_all (PastHeader header) es n h.1 holds
+  broken InHeader n h holds = fails_not_all (NotInHeader header) es n h.1 holds
   broken Overlap n h holds = overlap_not_apart es n in_order h.1.1 holds
-  broken RecordWindow n h holds = fails_not_all (InWindow (record_size_of s) es) es n h.1.3 holds
-  broken FixedAfterRecords n h holds = fails_not_all (BeforeRecords es) es n h.1.4 holds
+  broken RecordWindow n h holds = fails_not_all (InRecordWindow (record_size_of s) es) es n h.1.3 holds
+  broken FixedAfterRecords n h holds = fails_not_all (NotFixedAfterRecords es) es n h.1.4 holds
   broken Truncated n h holds = fails_not_all within es n h.1.5 holds
 
   all_hold : (kind : LayoutFaultKind) → IsPlaced s places header file → RuleHolds kind
   unfolding RuleHolds
-  all_hold TooLarge h = h.fit
-  all_hold InHeader h = h.rules.past_header
-  all_hold Overlap h = (h.rules.fixed_apart, h.rules.records_apart)
-  all_hold RecordWindow h = h.rules.window
-  all_hold FixedAfterRecords h = h.rules.fixed_first
-  all_hold Truncated h = h.rules.within
+  all_hold TooLarge h = h.none_too_large
+  all_hold InHeader h = h.rules.not_in_header
+  all_hold Overlap h = (h.rules.no_fixed_overlap, h.rules.no_record_overlap)
+  all_hold RecordWindow h = h.rules.in_record_window
+  all_hold FixedAfterRecords h = h.rules.not_fixed_after_records
+  all_hold Truncated h = h.rules.not_truncated
 
   pub no_fault : (kind : LayoutFaultKind) (n : ℕ) → IsPlaced s places header file → FirstFault s places header file kind n → ⊥
   no_fault kind n placed h = broken kind n h (all_hold kind placed)
@@ -205,10 +211,10 @@ module _ (s : Schema) (places : List Place) (header file : ℕ) where
 
   one_variable : (kind : LayoutFaultKind) (m n : ℕ) → FirstFault s places header file kind m → FirstFault s places header file kind n → m ≡ n
   one_variable TooLarge m n h k = one_number m n (not_sooner s m n h k) (not_sooner s n m k h)
-  one_variable InHeader m n h k = fails_once (PastHeader header) es m n h.1 k.1
+  one_variable InHeader m n h k = fails_once (NotInHeader header) es m n h.1 k.1
   one_variable Overlap m n h k = one_overlap es m n in_order h.1.1 k.1.1
-  one_variable RecordWindow m n h k = fails_once (InWindow (record_size_of s) es) es m n h.1.3 k.1.3
-  one_variable FixedAfterRecords m n h k = fails_once (BeforeRecords es) es m n h.1.4 k.1.4
+  one_variable RecordWindow m n h k = fails_once (InRecordWindow (record_size_of s) es) es m n h.1.3 k.1.3
+  one_variable FixedAfterRecords m n h k = fails_once (NotFixedAfterRecords es) es m n h.1.4 k.1.4
   one_variable Truncated m n h k = fails_once within es m n h.1.5 k.1.5
 
   pub one_first_fault : (kind other : LayoutFaultKind) (m n : ℕ) → FirstFault s places header file kind m → FirstFault s places header file other n → (kind ≡ other) × (m ≡ n)

@@ -9,7 +9,7 @@ use Rattle.ncc_schema.specs.Schema.{Place, is_record_var, with_count}
 use Rattle.ncc_layout.specs.declared.placed_var.PlacedVar.{PlacedVar}
 use Rattle.ncc_layout.specs.declared.placed_file.Placed.{Placed}
 use Rattle.ncc_layout.specs.Sizes.{inner, record_size_of}
-use Rattle.ncc_layout.specs.Extents.{extent_of, extents_of, counted, record_count}
+use Rattle.ncc_layout.specs.Extents.{extent_of, extents_of, number_of_records, record_count}
 use Rattle.ncc_layout.specs.Rules.{Rules, IsPlaced}
 use Rattle.ncc_layout.specs.Elements.{placed_var, placed_from, lengthened, with_records}
 use Rattle.ncc_layout.specs.Placed.{Holds, HasOneMore}
@@ -31,7 +31,7 @@ with_more dims n m k (x ∷ vars) (p ∷ places) =
 
 module _ (s : Schema) (places : List Place) (header file more n : ℕ) (p : Placed) (known : s.count ≡ Known n) (holds : Holds s places header file p) where
   records : p.records ≡ n
-  records = holds.records_are ∙ ap (counted (record_size_of s) file (extents_of s places)) known
+  records = holds.records_are ∙ ap (number_of_records (record_size_of s) file (extents_of s places)) known
 
   extents : map (λ x. x.extent) p.vars.items ≡ extents_of s places
   extents = ap (map (λ (x : PlacedVar). x.extent)) holds.vars_are ∙ extents_same s.dims (record_count s places file) 0 s.vars places

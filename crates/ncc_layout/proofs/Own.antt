@@ -9,7 +9,12 @@ use Rattle.ncc_layout.specs.declared.extent.Extent.{Extent}
 use Rattle.ncc_layout.specs.declared.placed_var.PlacedVar.{PlacedVar}
 use Rattle.ncc_layout.specs.Sizes.{product}
 use Rattle.ncc_layout.specs.Extents.{NumberedFrom, end, fixed_of, records_of}
-use Rattle.ncc_layout.specs.Rules.{ByKind, PastHeader, EndsBy, InWindow, BeforeRecords, LastWithin, Within, Apart}
+use Rattle.ncc_layout.specs.Rules.ByKind.{ByKind, EndsBy}
+use Rattle.ncc_layout.specs.Rules.InHeader.{NotInHeader}
+use Rattle.ncc_layout.specs.Rules.RecordWindow.{InRecordWindow}
+use Rattle.ncc_layout.specs.Rules.FixedAfterRecords.{NotFixedAfterRecords}
+use Rattle.ncc_layout.specs.Rules.Truncated.{LastNotTruncated, NotTruncated}
+use Rattle.ncc_layout.specs.Rules.Overlap.{Apart}
 use Rattle.ncc_layout.specs.Elements.{row_major, offset_in, place_of, record_in, record_of, Inside, Element, Owns, LiesInFile, LiesInSlab, IsShaped, HasShape, AreLaid, Own}
 use Rattle.ncc_layout.proofs.Membership.{In, in_from_contains, contains_from_in, in_map, in_filter, all_in}
 use Rattle.ncc_layout.proofs.RowMajor.{row_major_below, one_index}
@@ -167,13 +172,13 @@ module _ (header length record_size records : ℕ) (vars : List PlacedVar) (laid
   -- a record's slab ends by the end of the record
   window : (x y : PlacedVar) → In vars x → In vars y → x.extent.is_record ≡ true → y.extent.is_record ≡ true → end x.extent ≤ y.extent.begin + record_size
   window x y h k is also =
-      let rule : InWindow record_size extents x.extent = all_in (InWindow record_size extents) extents x.extent laid.rules.window (there x h) in
+      let rule : InRecordWindow record_size extents x.extent = all_in (InRecordWindow record_size extents) extents x.extent laid.rules.in_record_window (there x h) in
       let ends : EndsBy record_size (records_of extents) x.extent = subst (λ (b : Bool). ByKind b (EndsBy record_size (records_of extents) x.extent) (Unit {0})) is rule in
       all_in (λ (r : Extent). end x.extent ≤ r.begin + record_size) (records_of extents) y.extent ends (among_records y k also)
 
-  fixed_first : (x y : PlacedVar) → In vars x → In vars y → x.extent.is_record ≡ false → y.extent.is_record ≡ true → end x.extent ≤ y.extent.begin
-  fixed_first x y h k is also =
-      let rule : BeforeRecords extents x.extent = all_in (BeforeRecords extents) extents x.extent laid.rules.fixed_first (there x h) in
+  not_fixed_after_records : (x y : PlacedVar) → In vars x → In vars y → x.extent.is_record ≡ false → y.extent.is_record ≡ true → end x.extent ≤ y.extent.begin
+  not_fixed_after_records x y h k is also =
+      let rule : NotFixedAfterRecords extents x.extent = all_in (NotFixedAfterRecords extents) extents x.extent laid.rules.not_fixed_after_records (there x h) in
       let ends : EndsBy 0 (records_of extents) x.extent = subst (λ (b : Bool). ByKind b (Unit {0}) (EndsBy 0 (records_of extents) x.extent)) is rule in
       omega (arith, all_in (λ (r : Extent). end x.extent ≤ r.begin + 0) (records_of extents) y.extent ends (among_records y k also))
 
@@ -184,9 +189,9 @@ module _ (header length record_size records : ℕ) (vars : List PlacedVar) (laid
   one_of_kind x y h k same shared = by_kind x.extent.is_record refl
     where
       by_kind : (b : Bool) → x.extent.is_record ≡ b → x.extent.variable ≡ y.extent.variable
-      by_kind true is = same_number x.extent.variable y.extent.variable (λ differ. shared (laid.rules.records_apart x.extent y.extent
+      by_kind true is = same_number x.extent.variable y.extent.variable (λ differ. shared (laid.rules.no_record_overlap x.extent y.extent
           (contains_from_in (records_of extents) x.extent (among_records x h is)) (contains_from_in (records_of extents) y.extent (among_records y k (sym same ∙ is))) differ))
-      by_kind false is = same_number x.extent.variable y.extent.variable (λ differ. shared (laid.rules.fixed_apart x.extent y.extent
+      by_kind false is = same_number x.extent.variable y.extent.variable (λ differ. shared (laid.rules.no_fixed_overlap x.extent y.extent
           (contains_from_in (fixed_of extents) x.extent (among_fixed x h is)) (contains_from_in (fixed_of extents) y.extent (among_fixed y k (sym same ∙ is))) differ))
 
   in_one_record : (x y : PlacedVar) (is js : List ℕ) (byte : ℕ) → In vars x → In vars y → Has record_size records x is byte → Has record_size records y js byte
@@ -223,7 +228,7 @@ module _ (header length record_size records : ℕ) (vars : List PlacedVar) (laid
       let a = in_slab record_size records x is byte p in
       let b = in_slab record_size records y js byte q in
       let none : record_of x is * record_size ≡ 0 * record_size = ap (λ (i : ℕ). i * record_size) (a.none kind) in
-      omega (arith, none, a.end, b.begin, fixed_first x y h k kind also)
+      omega (arith, none, a.end, b.begin, not_fixed_after_records x y h k kind also)
 
   one_owner : (x y : PlacedVar) (is js : List ℕ) (byte : ℕ) → In vars x → In vars y → Has record_size records x is byte → Has record_size records y js byte → (x ≡ y) × (is ≡ js)
   one_owner x y is js byte h k p q = by_kinds x.extent.is_record y.extent.is_record refl refl
@@ -242,7 +247,7 @@ module _ (header length record_size records : ℕ) (vars : List PlacedVar) (laid
 
   -- ---- past the header and inside the file
 
-  last_within : (n i : ℕ) (e : Extent) (byte : ℕ) → LastWithin length record_size n e → i < n → byte < end e + i * record_size → byte < length
+  last_within : (n i : ℕ) (e : Extent) (byte : ℕ) → LastNotTruncated length record_size n e → i < n → byte < end e + i * record_size → byte < length
   last_within zero i e byte rule less high = absurd (omega (arith, less))
   last_within (suc n) i e byte rule less high = omega (arith, rule, high, mul-le i record_size n record_size (omega (arith, less)) (omega arith))
 
@@ -253,13 +258,13 @@ module _ (header length record_size records : ℕ) (vars : List PlacedVar) (laid
       a = in_slab record_size records x is byte p
 
       past : header ≤ x.extent.begin
-      past = all_in (PastHeader header) extents x.extent laid.rules.past_header (there x h)
+      past = all_in (NotInHeader header) extents x.extent laid.rules.not_in_header (there x h)
 
-      rule : Within length record_size records x.extent
-      rule = all_in (Within length record_size records) extents x.extent laid.rules.within (there x h)
+      rule : NotTruncated length record_size records x.extent
+      rule = all_in (NotTruncated length record_size records) extents x.extent laid.rules.not_truncated (there x h)
 
-      as_kind : (b : Bool) → x.extent.is_record ≡ b → ByKind b (LastWithin length record_size records x.extent) (end x.extent ≤ length)
-      as_kind b e = subst (λ (c : Bool). ByKind c (LastWithin length record_size records x.extent) (end x.extent ≤ length)) e rule
+      as_kind : (b : Bool) → x.extent.is_record ≡ b → ByKind b (LastNotTruncated length record_size records x.extent) (end x.extent ≤ length)
+      as_kind b e = subst (λ (c : Bool). ByKind c (LastNotTruncated length record_size records x.extent) (end x.extent ≤ length)) e rule
 
       by_kind : (b : Bool) → x.extent.is_record ≡ b → byte < length
       by_kind true e = last_within records (record_of x is) x.extent byte (as_kind true e) (a.below e) a.end

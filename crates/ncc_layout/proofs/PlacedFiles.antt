@@ -9,7 +9,13 @@ use Rattle.ncc_layout.specs.declared.placed_var.PlacedVar.{PlacedVar}
 use Rattle.ncc_layout.specs.declared.placed_file.Placed.{Placed}
 use Rattle.ncc_layout.specs.Sizes.{up, room}
 use Rattle.ncc_layout.specs.Extents.{NumberedFrom, end, fixed_of, records_of}
-use Rattle.ncc_layout.specs.Rules.{ByKind, PastHeader, EndsBy, InWindow, BeforeRecords, LastWithin, Within, AllApart, Rules}
+use Rattle.ncc_layout.specs.Rules.ByKind.{ByKind, EndsBy}
+use Rattle.ncc_layout.specs.Rules.InHeader.{NotInHeader}
+use Rattle.ncc_layout.specs.Rules.RecordWindow.{InRecordWindow}
+use Rattle.ncc_layout.specs.Rules.FixedAfterRecords.{NotFixedAfterRecords}
+use Rattle.ncc_layout.specs.Rules.Truncated.{LastNotTruncated, NotTruncated}
+use Rattle.ncc_layout.specs.Rules.Overlap.{NoOverlap}
+use Rattle.ncc_layout.specs.Rules.{Rules}
 use Rattle.ncc_layout.specs.Elements.{Element, Owns, IsShaped, HasShape, AreLaid, AreSized, Own}
 use Rattle.ncc_layout.specs.Placed.{header_length_of, file_length_of, record_size_of_file, records_of_file, vars_of, extents_of_file, KeepsRules}
 use Rattle.ncc_layout.proofs.Membership.{in_from_contains}
@@ -27,11 +33,11 @@ unit-prop = hlevel props
 ends_by-prop : (further : ℕ) (records : List Extent) (e : Extent) → IsProp (EndsBy further records e)
 ends_by-prop further records e = AllByRecursion-prop (λ (r : Extent). end e ≤ r.begin + further) (λ r. hlevel props) records
 
-last_within-prop : (length record_size records : ℕ) (e : Extent) → IsProp (LastWithin length record_size records e)
+last_within-prop : (length record_size records : ℕ) (e : Extent) → IsProp (LastNotTruncated length record_size records e)
 last_within-prop length record_size zero e = hlevel props
 last_within-prop length record_size (suc n) e = hlevel props
 
-apart-prop : (es : List Extent) → IsProp (AllApart es)
+apart-prop : (es : List Extent) → IsProp (NoOverlap es)
 apart-prop es = hlevel props
 
 -- ---- the numbers of variables
@@ -83,15 +89,15 @@ module _ (p : Placed) where
 
   all_rules : Rules (header_length_of p) (file_length_of p) (record_size_of_file p) (records_of_file p) es
   all_rules = record {
-    past_header = ∥∥₁_elim p.laid (AllByRecursion-prop (PastHeader p.header_length) (λ e. hlevel props) es) (λ laid. laid.rules.past_header);
-    fixed_apart = ∥∥₁_elim p.laid (apart-prop (fixed_of es)) (λ laid. laid.rules.fixed_apart);
-    records_apart = ∥∥₁_elim p.laid (apart-prop (records_of es)) (λ laid. laid.rules.records_apart);
-    window = ∥∥₁_elim p.laid (AllByRecursion-prop (InWindow p.record_size es) (λ e. by_kind-prop e.is_record _ _ (ends_by-prop p.record_size (records_of es) e) unit-prop) es) (λ laid. laid.rules.window);
-    fixed_first = ∥∥₁_elim p.laid (AllByRecursion-prop (BeforeRecords es) (λ e. by_kind-prop e.is_record _ _ unit-prop (ends_by-prop 0 (records_of es) e)) es) (λ laid. laid.rules.fixed_first);
-    within = ∥∥₁_elim p.laid (AllByRecursion-prop (Within p.file_length p.record_size p.records) (λ e. within-prop e) es) (λ laid. laid.rules.within);
+    not_in_header = ∥∥₁_elim p.laid (AllByRecursion-prop (NotInHeader p.header_length) (λ e. hlevel props) es) (λ laid. laid.rules.not_in_header);
+    no_fixed_overlap = ∥∥₁_elim p.laid (apart-prop (fixed_of es)) (λ laid. laid.rules.no_fixed_overlap);
+    no_record_overlap = ∥∥₁_elim p.laid (apart-prop (records_of es)) (λ laid. laid.rules.no_record_overlap);
+    in_record_window = ∥∥₁_elim p.laid (AllByRecursion-prop (InRecordWindow p.record_size es) (λ e. by_kind-prop e.is_record _ _ (ends_by-prop p.record_size (records_of es) e) unit-prop) es) (λ laid. laid.rules.in_record_window);
+    not_fixed_after_records = ∥∥₁_elim p.laid (AllByRecursion-prop (NotFixedAfterRecords es) (λ e. by_kind-prop e.is_record _ _ unit-prop (ends_by-prop 0 (records_of es) e)) es) (λ laid. laid.rules.not_fixed_after_records);
+    not_truncated = ∥∥₁_elim p.laid (AllByRecursion-prop (NotTruncated p.file_length p.record_size p.records) (λ e. within-prop e) es) (λ laid. laid.rules.not_truncated);
   }
     where
-      within-prop : (e : Extent) → IsProp (Within p.file_length p.record_size p.records e)
+      within-prop : (e : Extent) → IsProp (NotTruncated p.file_length p.record_size p.records e)
       within-prop e =
           let fixed-prop : IsProp (end e ≤ p.file_length) = hlevel props in
           by_kind-prop e.is_record _ _ (last_within-prop p.file_length p.record_size p.records e) fixed-prop

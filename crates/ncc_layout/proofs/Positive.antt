@@ -18,14 +18,14 @@ pub product_positive : (dims : List Dim) (ids : List ℕ) → AllByRecursion (Is
 product_positive dims [] all = omega arith
 product_positive dims (d ∷ ids) all = mul-le 1 1 (length_of dims d) (product (map (length_of dims) ids)) (fixed_positive dims d all.0) (product_positive dims ids all.1)
 
-fixed_first : (dims : List Dim) (d : ℕ) (ds : List ℕ) (b : Bool) → b ≡ is_record dims d → LegalDims dims (d ∷ ds) → 0 < product (map (length_of dims) (if b then ds else d ∷ ds))
-fixed_first dims d ds true e legal = product_positive dims ds legal.1
-fixed_first dims d ds false e legal = product_positive dims (d ∷ ds) ((legal.0, sym e), legal.1)
+not_fixed_after_records : (dims : List Dim) (d : ℕ) (ds : List ℕ) (b : Bool) → b ≡ is_record dims d → LegalDims dims (d ∷ ds) → 0 < product (map (length_of dims) (if b then ds else d ∷ ds))
+not_fixed_after_records dims d ds true e legal = product_positive dims ds legal.1
+not_fixed_after_records dims d ds false e legal = product_positive dims (d ∷ ds) ((legal.0, sym e), legal.1)
 
 inner_positive : (dims : List Dim) (ids : List ℕ) (b : Bool) → b ≡ starts_with_record dims ids → LegalDims dims ids → 0 < product (map (length_of dims) (if b then drop 1 ids else ids))
 inner_positive dims [] true e legal = omega arith
 inner_positive dims [] false e legal = omega arith
-inner_positive dims (d ∷ ds) b e legal = fixed_first dims d ds b e legal
+inner_positive dims (d ∷ ds) b e legal = not_fixed_after_records dims d ds b e legal
 
 pub slab_positive : (dims : List Dim) (x : Var) → LegalDims dims x.dims → 0 < slab dims x
 slab_positive dims x legal = mul-le 1 1 (product (inner dims x)) (size_of x.xtype) (inner_positive dims x.dims (is_record_var dims x) refl legal) (size_of-some x.xtype)

@@ -11,7 +11,9 @@ use Rattle.ncc_layout.specs.declared.placed_var.PlacedVar.{PlacedVar}
 use Rattle.ncc_layout.specs.declared.placed_file.Placed.{Placed}
 use Rattle.ncc_layout.specs.Sizes.{product}
 use Rattle.ncc_layout.specs.Extents.{end, records_of}
-use Rattle.ncc_layout.specs.Rules.{ByKind, EndsBy, InWindow, LastWithin, Within}
+use Rattle.ncc_layout.specs.Rules.ByKind.{ByKind, EndsBy}
+use Rattle.ncc_layout.specs.Rules.RecordWindow.{InRecordWindow}
+use Rattle.ncc_layout.specs.Rules.Truncated.{LastNotTruncated, NotTruncated}
 use Rattle.ncc_layout.specs.Elements.{var_at, no_var, IsShaped, HasShape}
 use Rattle.ncc_layout.specs.Placed.{file_length_of, record_size_of_file, records_of_file, vars_of, extents_of_file, KeepsRules}
 
@@ -53,32 +55,32 @@ module _ (p : Placed) (keeps : KeepsRules p) (n : ℕ) (there : n < length (vars
   slab_fits : x.extent.is_record ≡ true → x.extent.slab ≤ record_size_of_file p
   slab_fits is =
       let is_e : e.is_record ≡ true = ap (λ (y : Extent). y.is_record) same ∙ is in
-      let rule : InWindow (record_size_of_file p) (extents_of_file p) e = all_at (InWindow (record_size_of_file p) (extents_of_file p)) (extents_of_file p) n no_var.extent in_extents keeps.rules.window in
+      let rule : InRecordWindow (record_size_of_file p) (extents_of_file p) e = all_at (InRecordWindow (record_size_of_file p) (extents_of_file p)) (extents_of_file p) n no_var.extent in_extents keeps.rules.in_record_window in
       let ends : EndsBy (record_size_of_file p) (records_of (extents_of_file p)) e =
       subst (λ (b : Bool). ByKind b (EndsBy (record_size_of_file p) (records_of (extents_of_file p)) e) (Unit {0})) is_e rule in
       let own : end e ≤ e.begin + record_size_of_file p = kept_at (λ (r : Extent). end e ≤ r.begin + record_size_of_file p) (λ (y : Extent). y.is_record) (extents_of_file p) n no_var.extent in_extents is_e ends in
       omega (arith, own, ap (λ (y : Extent). y.slab) same)
 
-  within : Within (file_length_of p) (record_size_of_file p) (records_of_file p) x.extent
+  within : NotTruncated (file_length_of p) (record_size_of_file p) (records_of_file p) x.extent
   within =
-      subst (Within (file_length_of p) (record_size_of_file p) (records_of_file p)) same
-      (all_at (Within (file_length_of p) (record_size_of_file p) (records_of_file p)) (extents_of_file p) n no_var.extent in_extents keeps.rules.within)
+      subst (NotTruncated (file_length_of p) (record_size_of_file p) (records_of_file p)) same
+      (all_at (NotTruncated (file_length_of p) (record_size_of_file p) (records_of_file p)) (extents_of_file p) n no_var.extent in_extents keeps.rules.not_truncated)
 
   fixed_in_file : x.extent.is_record ≡ false → (ls : List ℕ) → IsShaped (records_of_file p) (size_of x.xtype) x.extent.slab false ls → product ls * size_of x.xtype ≤ file_length_of p
   fixed_in_file is ls shape =
       let ends : end x.extent ≤ file_length_of p =
-      subst (λ (b : Bool). ByKind b (LastWithin (file_length_of p) (record_size_of_file p) (records_of_file p) x.extent) (end x.extent ≤ file_length_of p)) is within in
+      subst (λ (b : Bool). ByKind b (LastNotTruncated (file_length_of p) (record_size_of_file p) (records_of_file p) x.extent) (end x.extent ≤ file_length_of p)) is within in
       omega (arith, shape, ends)
 
-  records_in_file : (records : ℕ) → LastWithin (file_length_of p) (record_size_of_file p) records x.extent → x.extent.slab ≤ record_size_of_file p → records * x.extent.slab ≤ file_length_of p
+  records_in_file : (records : ℕ) → LastNotTruncated (file_length_of p) (record_size_of_file p) records x.extent → x.extent.slab ≤ record_size_of_file p → records * x.extent.slab ≤ file_length_of p
   records_in_file zero last fits = omega arith
   records_in_file (suc m) last fits = omega (arith, last, mul-le m x.extent.slab m (record_size_of_file p) (omega arith) fits)
 
   record_in_file : x.extent.is_record ≡ true → (ls : List ℕ) → IsShaped (records_of_file p) (size_of x.xtype) x.extent.slab true ls → product ls * size_of x.xtype ≤ file_length_of p
   record_in_file is [] shape = absurd shape
   record_in_file is (m ∷ ls) shape =
-      let last : LastWithin (file_length_of p) (record_size_of_file p) (records_of_file p) x.extent =
-      subst (λ (b : Bool). ByKind b (LastWithin (file_length_of p) (record_size_of_file p) (records_of_file p) x.extent) (end x.extent ≤ file_length_of p)) is within in
+      let last : LastNotTruncated (file_length_of p) (record_size_of_file p) (records_of_file p) x.extent =
+      subst (λ (b : Bool). ByKind b (LastNotTruncated (file_length_of p) (record_size_of_file p) (records_of_file p) x.extent) (end x.extent ≤ file_length_of p)) is within in
       let bytes : m * product ls * size_of x.xtype ≡ records_of_file p * x.extent.slab =
       mul_assoc m (product ls) (size_of x.xtype) ∙ ap (λ (k : ℕ). m * k) (sym shape.1) ∙ ap (λ (k : ℕ). k * x.extent.slab) shape.0 in
       omega (arith, bytes, records_in_file (records_of_file p) last (slab_fits is))

@@ -10,8 +10,8 @@ use Rattle.std.proofs.lemmas.List.Sorted.{All-permutation, Contains-permutation,
 use Rattle.std.proofs.lemmas.Map.Keys.{IsDistinct-IsPermutation, IsDistinct-head, IsDistinct-tail}
 use Rattle.ncc_layout.specs.declared.extent.Extent.{Extent}
 use Rattle.ncc_layout.specs.Extents.{end}
-use Rattle.ncc_layout.specs.Rules.{Apart, AllApart}
-use Rattle.ncc_layout.specs.Faults.{Before, FirstShared}
+use Rattle.ncc_layout.specs.Rules.Overlap.{Apart, NoOverlap}
+use Rattle.ncc_layout.specs.Rules.Overlap.{Before, FirstShared}
 use Rattle.ncc_layout.specs.Bounds.{rank, HasBytes, AreNumbered}
 
 -- ---- the order
@@ -107,7 +107,7 @@ module _ (xs ys : List Extent) (moved : IsPermutation xs ys) (bytes : AllByRecur
 
   -- ---- what the search found
 
-  pub all_apart : Chained ys (length ys) → AllApart xs
+  pub all_apart : Chained ys (length ys) → NoOverlap xs
   all_apart chained d e h k other = by_index (at d h) (at e k)
     where
       flip : Apart e d → Apart d e

@@ -89,7 +89,7 @@ module _ (s : Schema) (records : ℕ) (fits : FitsVersion s records) (n : ℕ) (
   fixed_is e ends = omega (arith, ends.fixed, fits.file, fixed_sum_first s.dims n s.vars)
 
   slabs_is : (e : Ends) → AreEnds s before e → e.slabs ≡ slabs_end s before
-  slabs_is e ends = omega (arith, ends.slabs, fits.file, fits.fit.together, record_sum_first s.dims n s.vars)
+  slabs_is e ends = omega (arith, ends.slabs, fits.file, fits.none_too_large.together, record_sum_first s.dims n s.vars)
 
   pub place_is : (e : Ends) → AreEnds s before e → (vsize begin : ℕ) → vsize ≡ vsize_word s.version (rounded s.dims x) → begin ≡ (if is_record_var s.dims x then e.slabs else e.fixed) → record { vsize = vsize; begin = begin } ≡ standard_place s n x
   place_is e ends vsize begin size_is begin_is =

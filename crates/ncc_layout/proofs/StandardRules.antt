@@ -16,8 +16,12 @@ use Rattle.ncc_schema.specs.Schema.{Place, is_record_var}
 use Rattle.ncc_schema.specs.Names.{header_length}
 use Rattle.ncc_layout.specs.declared.extent.Extent.{Extent}
 use Rattle.ncc_layout.specs.Sizes.{up, slab, rounded, record_sum, record_bytes, record_size_of}
-use Rattle.ncc_layout.specs.Extents.{extent_of, extents_from, extents_of, end, fixed_of, records_of, slabs_of_records, counted}
-use Rattle.ncc_layout.specs.Rules.{ByKind, PastHeader, EndsBy, LastWithin, Apart, AllApart, Rules, IsPlaced}
+use Rattle.ncc_layout.specs.Extents.{extent_of, extents_from, extents_of, end, fixed_of, records_of, slabs_of_records, number_of_records}
+use Rattle.ncc_layout.specs.Rules.ByKind.{ByKind, EndsBy}
+use Rattle.ncc_layout.specs.Rules.InHeader.{NotInHeader}
+use Rattle.ncc_layout.specs.Rules.Truncated.{LastNotTruncated}
+use Rattle.ncc_layout.specs.Rules.Overlap.{Apart, NoOverlap}
+use Rattle.ncc_layout.specs.Rules.{Rules, IsPlaced}
 use Rattle.ncc_layout.specs.Standard.{fixed_sum, standard_begin, standard_place, standard_from, standard_places, file_length, FitsVersion, PackedFrom, ArePacked, AreInTurn, AreAligned}
 use Rattle.ncc_layout.proofs.Membership.{In, in_from_contains}
 use Rattle.ncc_layout.proofs.TestsOfRules.{all_from}
@@ -75,7 +79,7 @@ packed_apart_in b (x ∷ es) h d e (inr m) (inl also) differ =
     λ byte p q r s. apart byte r s p q
 packed_apart_in b (x ∷ es) h d e (inr m) (inr n) differ = packed_apart_in (b + up x.slab) es h.1 d e m n differ
 
-packed_apart : (b : ℕ) (es : List Extent) → PackedFrom b es → AllApart es
+packed_apart : (b : ℕ) (es : List Extent) → PackedFrom b es → NoOverlap es
 packed_apart b es h d e m n differ = packed_apart_in b es h d e (in_from_contains es d m) (in_from_contains es e n) differ
 
 packed_in_turn : (b : ℕ) (es : List Extent) → PackedFrom b es → AllPairs (λ d e. d.begin ≤ e.begin) es
@@ -149,7 +153,7 @@ module _ (header behind n file : ℕ) (es : List Extent) (packed : PackedFile he
   by_begins : (further : ℕ) (e : Extent) → end e ≤ behind + further → EndsBy further (records_of es) e
   by_begins further e h = all_from (λ (r : Extent). behind ≤ r.begin) (λ (r : Extent). end e ≤ r.begin + further) (λ r le. omega (arith, h, le)) (records_of es) begins
 
-  last_in : (k : ℕ) (e : Extent) → k ≡ n → end e ≤ behind + stride → LastWithin file stride k e
+  last_in : (k : ℕ) (e : Extent) → k ≡ n → end e ≤ behind + stride → LastNotTruncated file stride k e
   last_in zero e same h = tt
   last_in (suc k) e same h =
       let many : (suc k) * stride ≡ n * stride = ap (λ (m : ℕ). m * stride) same in
@@ -157,17 +161,17 @@ module _ (header behind n file : ℕ) (es : List Extent) (packed : PackedFile he
 
   kept : Rules header file stride n es
   kept = record {
-    past_header = all_kinds (PastHeader header) es
-        (all_from (λ (r : Extent). behind ≤ r.begin) (PastHeader header) (λ r le. omega (arith, le, packed.past)) (records_of es) begins)
+    not_in_header = all_kinds (NotInHeader header) es
+        (all_from (λ (r : Extent). behind ≤ r.begin) (NotInHeader header) (λ r le. omega (arith, le, packed.past)) (records_of es) begins)
         (packed_begins header (fixed_of es) packed.fixed);
-    fixed_apart = packed_apart header (fixed_of es) packed.fixed;
-    records_apart = packed_apart behind (records_of es) packed.records;
-    window = by_kind (EndsBy stride (records_of es)) (λ e. Unit {0}) es
+    no_fixed_overlap = packed_apart header (fixed_of es) packed.fixed;
+    no_record_overlap = packed_apart behind (records_of es) packed.records;
+    in_record_window = by_kind (EndsBy stride (records_of es)) (λ e. Unit {0}) es
         (all_from (λ (e : Extent). end e ≤ behind + stride) (EndsBy stride (records_of es)) (by_begins stride) (records_of es) ends) (always (fixed_of es));
-    fixed_first = by_kind (λ e. Unit {0}) (EndsBy 0 (records_of es)) es (always (records_of es))
+    not_fixed_after_records = by_kind (λ e. Unit {0}) (EndsBy 0 (records_of es)) es (always (records_of es))
         (all_from (λ (e : Extent). end e ≤ behind) (EndsBy 0 (records_of es)) (λ e le. by_begins 0 e (omega (arith, le))) (fixed_of es) packed.ends);
-    within = by_kind (LastWithin file stride n) (λ e. end e ≤ file) es
-        (all_from (λ (e : Extent). end e ≤ behind + stride) (LastWithin file stride n) (λ e le. last_in n e refl le) (records_of es) ends)
+    not_truncated = by_kind (LastNotTruncated file stride n) (λ e. end e ≤ file) es
+        (all_from (λ (e : Extent). end e ≤ behind + stride) (LastNotTruncated file stride n) (λ e le. last_in n e refl le) (records_of es) ends)
         (all_from (λ (e : Extent). end e ≤ behind) (λ (e : Extent). end e ≤ file) (λ e le. omega (arith, le, long)) (fixed_of es) packed.ends);
   }
 
@@ -303,6 +307,6 @@ module _ (s : Schema) where
       let rules = kept header behind n (file_length s n) es packed_file long in
       let strided : Rules header (file_length s n) (record_size_of s) n es = subst (λ (m : ℕ). Rules header (file_length s n) m n es) (sym stride_is) rules in
       record {
-        fit = fits.fit;
-        rules = subst (λ (c : Count). Rules header (file_length s n) (record_size_of s) (counted (record_size_of s) (file_length s n) es c) es) (sym known) strided;
+        none_too_large = fits.none_too_large;
+        rules = subst (λ (c : Count). Rules header (file_length s n) (record_size_of s) (number_of_records (record_size_of s) (file_length s n) es c) es) (sym known) strided;
       }

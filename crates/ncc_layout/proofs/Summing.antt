@@ -9,7 +9,7 @@ use Rattle.ncc_schema.specs.declared.schema.Dim.{Dim}
 use Rattle.ncc_schema.specs.declared.schema.Var.{Var}
 use Rattle.ncc_layout.specs.declared.sizing.Totals.{Totals}
 use Rattle.ncc_schema.specs.Schema.{is_record_var}
-use Rattle.ncc_layout.specs.Sizes.{up, slab, rounded, record_vars, record_sum, record_bytes, room, Fit, Sums, Adds, is_nil, in_room, with_slab}
+use Rattle.ncc_layout.specs.Sizes.{up, slab, rounded, record_vars, record_sum, record_bytes, room, NoneTooLarge, Sums, Adds, is_nil, in_room, with_slab}
 
 -- ---- sizes
 
@@ -39,7 +39,7 @@ module _ (dims : List Dim) (xs : List Var) (x : Var) where
 
   -- ---- what fits
 
-  pub fits_with_record : is_record_var dims x ≡ true → slab dims x ≤ room → record_sum dims xs + rounded dims x ≤ room → Fit dims xs → Fit dims (xs ++ x ∷ [])
+  pub fits_with_record : is_record_var dims x ≡ true → slab dims x ≤ room → record_sum dims xs + rounded dims x ≤ room → NoneTooLarge dims xs → NoneTooLarge dims (xs ++ x ∷ [])
   fits_with_record is h sum_h fit = record {
     each = all_more (λ y. rounded dims y ≤ room) xs x fit.each (up_in_room (slab dims x) h);
     together = omega (arith, sum_with_record is, sum_h);
@@ -86,7 +86,7 @@ with_slab_is : (t u : Totals) (n : ℕ) → Some u ≡ with_slab t n → (u ≡ 
 with_slab_is t u n e = with_slab_by t u n (ltb room (t.sum + up n)) refl e
 
 -- a record variable is added
-pub adds_record : (dims : List Dim) (x : Var) (t u : Totals) (n : ℕ) → is_record_var dims x ≡ true → Some n ≡ in_room (slab dims x) → Some u ≡ with_slab t n → (before : List Var) → Sums dims before t → Fit dims before → Adds dims before x (Some (n, u))
+pub adds_record : (dims : List Dim) (x : Var) (t u : Totals) (n : ℕ) → is_record_var dims x ≡ true → Some n ≡ in_room (slab dims x) → Some u ≡ with_slab t n → (before : List Var) → Sums dims before t → NoneTooLarge dims before → Adds dims before x (Some (n, u))
 adds_record dims x t u n is small added before sums fit =
     let s = in_room_is (slab dims x) n small in
     let w = with_slab_is t u n added in

@@ -4,8 +4,16 @@ use Rattle.std.specs.List.{AllByRecursion}
 use Rattle.std.proofs.lemmas.Bool.{ltb-true, ltb-false}
 use Rattle.ncc_layout.specs.declared.extent.Extent.{Extent}
 use Rattle.ncc_layout.specs.Extents.{end, records_of}
-use Rattle.ncc_layout.specs.Rules.{ByKind, PastHeader, EndsBy, InWindow, BeforeRecords, LastWithin, Within}
-use Rattle.ncc_layout.specs.Bounds.{least_from, first_begin, begins_before, record_ends_past, fixed_ends_past, last_record, is_cut}
+use Rattle.ncc_layout.specs.Rules.ByKind.{ByKind, EndsBy}
+use Rattle.ncc_layout.specs.Rules.InHeader.{NotInHeader}
+use Rattle.ncc_layout.specs.Rules.RecordWindow.{InRecordWindow}
+use Rattle.ncc_layout.specs.Rules.FixedAfterRecords.{NotFixedAfterRecords}
+use Rattle.ncc_layout.specs.Rules.Truncated.{LastNotTruncated, NotTruncated}
+use Rattle.ncc_layout.specs.Bounds.{least_from, first_begin}
+use Rattle.ncc_layout.specs.Rules.InHeader.{is_in_header}
+use Rattle.ncc_layout.specs.Rules.RecordWindow.{is_past_record_window}
+use Rattle.ncc_layout.specs.Rules.FixedAfterRecords.{is_fixed_after_records}
+use Rattle.ncc_layout.specs.Rules.Truncated.{last_record, is_truncated}
 use Rattle.ncc_layout.proofs.Searching.{Tells}
 
 -- ---- lists
@@ -44,8 +52,8 @@ ends_before further b (r ∷ rs) e is all =
 
 -- ---- the rules
 
-pub tells_past_header : (header : ℕ) → Tells (PastHeader header) (begins_before header)
-tells_past_header header = record {
+pub tells_in_header : (header : ℕ) → Tells (NotInHeader header) (is_in_header header)
+tells_in_header header = record {
   kept = λ e is. ltb-false e.begin header is;
   broken = λ e is h. omega (arith, h, ltb-true e.begin header is);
 }
@@ -67,36 +75,36 @@ fixed_broken true c P h is p = absurd cc
 fixed_broken false c P h is p = h is p
 
 module _ (es : List Extent) (b : ℕ) (is : Some b ≡ first_begin (records_of es)) where
-  pub tells_window : (record_size : ℕ) → Tells (InWindow record_size es) (record_ends_past (b + record_size))
-  tells_window record_size = record {
+  pub tells_record_window : (record_size : ℕ) → Tells (InRecordWindow record_size es) (is_past_record_window (b + record_size))
+  tells_record_window record_size = record {
     kept = λ e test. by_kind_kept e.is_record (ltb (b + record_size) (end e)) (EndsBy record_size (records_of es) e) (λ no. ends_by record_size b (records_of es) e is (ltb-false _ _ no)) test;
     broken = λ e test. by_kind_broken e.is_record (ltb (b + record_size) (end e)) (EndsBy record_size (records_of es) e)
         (λ yes all. omega (arith, ltb-true (b + record_size) (end e) yes, ends_before record_size b (records_of es) e is all)) test;
   }
 
-  pub tells_before_records : Tells (BeforeRecords es) (fixed_ends_past b)
-  tells_before_records = record {
+  pub tells_fixed_after_records : Tells (NotFixedAfterRecords es) (is_fixed_after_records b)
+  tells_fixed_after_records = record {
     kept = λ e test. fixed_kept e.is_record (ltb b (end e)) (EndsBy 0 (records_of es) e) (λ no. ends_by 0 b (records_of es) e is (omega (arith, ltb-false b (end e) no))) test;
     broken = λ e test. fixed_broken e.is_record (ltb b (end e)) (EndsBy 0 (records_of es) e)
         (λ yes all. omega (arith, ltb-true b (end e) yes, ends_before 0 b (records_of es) e is all)) test;
   }
 
-within_kept : (b : Bool) (length record_size records : ℕ) (e : Extent) → is_cut length (last_record record_size records) (record { begin = e.begin; slab = e.slab; variable = e.variable; is_record = b }) ≡ false
-    → ByKind b (LastWithin length record_size records e) (end e ≤ length)
+within_kept : (b : Bool) (length record_size records : ℕ) (e : Extent) → is_truncated length (last_record record_size records) (record { begin = e.begin; slab = e.slab; variable = e.variable; is_record = b }) ≡ false
+    → ByKind b (LastNotTruncated length record_size records e) (end e ≤ length)
 within_kept true length record_size zero e test = tt
 within_kept true length record_size (suc n) e test = ltb-false _ _ test
 within_kept false length record_size zero e test = omega (arith, ltb-false _ _ test)
 within_kept false length record_size (suc n) e test = omega (arith, ltb-false _ _ test)
 
-within_broken : (b : Bool) (length record_size records : ℕ) (e : Extent) → is_cut length (last_record record_size records) (record { begin = e.begin; slab = e.slab; variable = e.variable; is_record = b }) ≡ true
-    → ByKind b (LastWithin length record_size records e) (end e ≤ length) → ⊥
+within_broken : (b : Bool) (length record_size records : ℕ) (e : Extent) → is_truncated length (last_record record_size records) (record { begin = e.begin; slab = e.slab; variable = e.variable; is_record = b }) ≡ true
+    → ByKind b (LastNotTruncated length record_size records e) (end e ≤ length) → ⊥
 within_broken true length record_size zero e test h = absurd cc
 within_broken true length record_size (suc n) e test h = omega (arith, h, ltb-true _ _ test)
 within_broken false length record_size zero e test h = omega (arith, h, ltb-true _ _ test)
 within_broken false length record_size (suc n) e test h = omega (arith, h, ltb-true _ _ test)
 
-pub tells_within : (length record_size records : ℕ) → Tells (Within length record_size records) (is_cut length (last_record record_size records))
-tells_within length record_size records = record {
+pub tells_truncated : (length record_size records : ℕ) → Tells (NotTruncated length record_size records) (is_truncated length (last_record record_size records))
+tells_truncated length record_size records = record {
   kept = λ e test. within_kept e.is_record length record_size records e test;
   broken = λ e test. within_broken e.is_record length record_size records e test;
 }

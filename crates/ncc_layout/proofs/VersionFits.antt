@@ -14,7 +14,7 @@ use Rattle.ncc_layout.specs.declared.fault.SizeError.{SizeError}
 use Rattle.ncc_layout.specs.declared.fault.SizeError.TheVariants as size_error
 use Rattle.ncc_layout.specs.declared.plan_fault.PlanFault.{PlanFault}
 use Rattle.ncc_layout.specs.declared.size_list.Sizes.{Sizes}
-use Rattle.ncc_layout.specs.Sizes.{rounded, Fit, FirstTooLarge, AreSizes, IsSizes}
+use Rattle.ncc_layout.specs.Sizes.{rounded, NoneTooLarge, FirstTooLarge, AreSizes, IsSizes}
 use Rattle.ncc_layout.specs.Standard.{size_limit, standard_from, standard_places, file_length, FitsVersion, OffsetsFit}
 use Rattle.ncc_layout.specs.Plans.{fixed_end, plan_fault, PlanFails, IsStandard}
 use Rattle.ncc_layout.proofs.OneFault.{fit_take}
@@ -32,12 +32,12 @@ all_mapped P f (x ∷ xs) all = (all.0, all_mapped P f xs all.1)
 
 -- ---- sizes that are too large
 
-pub not_fit : (s : Schema) (n : ℕ) → FirstTooLarge s n → Fit s.dims s.vars → ⊥
+pub not_fit : (s : Schema) (n : ℕ) → FirstTooLarge s n → NoneTooLarge s.dims s.vars → ⊥
 not_fit s n first fit = first.here (fit_take s.dims s.vars (n + 1) fit)
 
 pub size_fails : {T : Type 0} (P : T → Type 0) (s : Schema) (records : ℕ) (e : SizeError) (r : Result T PlanFault) → IsErrAnd r (λ f. f ≡ plan_fault e) → IsSizes s (Err e) → MatchResult r P (PlanFails s records)
 size_fails P s records e (Ok x) is sizes = absurd is
-size_fails P s records (size_error.TooLarge n) (Err f) is sizes = subst (PlanFails s records) (sym is) (λ fits. not_fit s n sizes fits.fit)
+size_fails P s records (size_error.TooLarge n) (Err f) is sizes = subst (PlanFails s records) (sym is) (λ fits. not_fit s n sizes fits.none_too_large)
 size_fails P s records size_error.Memory (Err f) is sizes = subst (PlanFails s records) (sym is) tt
 
 -- ---- words and the length of the file
@@ -57,7 +57,7 @@ module _ (s : Schema) (z : Sizes) (sizes : AreSizes s z) (records : ℕ) where
 
   pub fits_from : AllByRecursion (λ n. n ≤ size_limit s.version) z.rounded → capped (capped (fixed_end s s.vars) + capped (records * z.record_size)) < 2 ^ 63 → FitsVersion s records
   fits_from words file = record {
-    fit = sizes.fit;
+    none_too_large = sizes.none_too_large;
     words = all_of_mapped (λ n. n ≤ size_limit s.version) (rounded s.dims) s.vars (subst (AllByRecursion (λ n. n ≤ size_limit s.version)) sizes.rounded words);
     file = subst (λ n. n < 2 ^ 63) length_is (capped_length (fixed_end s s.vars) (records * z.record_size) file);
   }

@@ -3,8 +3,12 @@ use Rattle.std.specs.Prelude.{ℕ, zero, suc, ltb, Bool, true, false, ◌==◌, 
 use Rattle.std.specs.List.{AllByRecursion, IsDistinct}
 use Rattle.ncc_layout.specs.declared.extent.Extent.{Extent}
 use Rattle.ncc_layout.specs.Extents.{end, fixed_of, records_of}
-use Rattle.ncc_layout.specs.Rules.{AllApart, InWindow, BeforeRecords, Rules}
-use Rattle.ncc_layout.specs.Faults.{FailsFirst, FirstShared, FirstOverlap, RuleFails}
+use Rattle.ncc_layout.specs.Rules.Overlap.{NoOverlap}
+use Rattle.ncc_layout.specs.Rules.RecordWindow.{InRecordWindow}
+use Rattle.ncc_layout.specs.Rules.FixedAfterRecords.{NotFixedAfterRecords}
+use Rattle.ncc_layout.specs.Rules.{Rules}
+use Rattle.ncc_layout.specs.Faults.{FailsFirst, RuleFails}
+use Rattle.ncc_layout.specs.Rules.Overlap.{FirstShared, FirstOverlap}
 use Rattle.ncc_layout.specs.declared.fault.LayoutFaultKind.{LayoutFaultKind}
 use Rattle.ncc_layout.specs.declared.fault.LayoutFaultKind.TheVariants.{RecordWindow, FixedAfterRecords}
 
@@ -46,28 +50,6 @@ end_later (Some m) n = max m n
 abbrev pub records_by : (end record_size length : ℕ) → ℕ
 records_by end record_size length = if ltb length end then 0 else 1 + (length - end) / record_size
 
--- ---- tests of one extent
-
-abbrev pub begins_before : (header : ℕ) → Extent → Bool
-begins_before header e = ltb e.begin header
-
-abbrev pub record_ends_past : (window_end : ℕ) → Extent → Bool
-record_ends_past window_end e = e.is_record && ltb window_end (end e)
-
-abbrev pub fixed_ends_past : (begin : ℕ) → Extent → Bool
-fixed_ends_past begin e = not e.is_record && ltb begin (end e)
-
--- ---- the last record
-
--- where it begins, counted from record 0
-abbrev pub last_record : (record_size records : ℕ) → Option ℕ
-last_record record_size zero = None
-last_record record_size (suc n) = Some (n * record_size)
-
-abbrev pub is_cut : (length : ℕ) → Option ℕ → Extent → Bool
-is_cut length None e = if e.is_record then false else ltb length (end e + 0)
-is_cut length (Some further) e = if e.is_record then ltb length (end e + further) else ltb length (end e + 0)
-
 -- ---- what a search for a failing extent found
 
 -- the rule holds of all, or fails first of this one
@@ -85,28 +67,14 @@ AreNumbered es = IsDistinct (λ d e. d.variable == e.variable) es
 
 -- ---- what the judging of all rules found
 
--- the rules on records, of window and of fixed variables
+-- the rules on records: of their windows, and of the fixed variables before them
 abbrev pub RecordsJudged : (record_size : ℕ) → List Extent → Option (LayoutFaultKind × ℕ) → Type 0
-RecordsJudged record_size es None = AllByRecursion (InWindow record_size es) es × AllByRecursion (BeforeRecords es) es
-RecordsJudged record_size es (Some (RecordWindow, n)) = FailsFirst (InWindow record_size es) es n
+RecordsJudged record_size es None = AllByRecursion (InRecordWindow record_size es) es × AllByRecursion (NotFixedAfterRecords es) es
+RecordsJudged record_size es (Some (RecordWindow, n)) = FailsFirst (InRecordWindow record_size es) es n
 RecordsJudged record_size es (Some (FixedAfterRecords, n)) =
-    AllByRecursion (InWindow record_size es) es × FailsFirst (BeforeRecords es) es n
+    AllByRecursion (InRecordWindow record_size es) es × FailsFirst (NotFixedAfterRecords es) es n
 RecordsJudged record_size es (Some (_, n)) = ⊥
 
 abbrev pub Judged : (header length record_size records : ℕ) → List Extent → Option (LayoutFaultKind × ℕ) → Type 0
 Judged header length record_size records es None = Rules header length record_size records es
 Judged header length record_size records es (Some (kind, n)) = RuleFails header length record_size records es kind n
-
--- ---- what a search for two that share a byte found
-
-abbrev pub of_kind : Bool → List Extent → List Extent
-of_kind true es = records_of es
-of_kind false es = fixed_of es
-
-abbrev pub Shared : List Extent → Option ℕ → Type 0
-Shared es None = AllApart es
-Shared es (Some n) = FirstShared es n
-
-abbrev pub Overlaps : List Extent → Option ℕ → Type 0
-Overlaps es None = AllApart (fixed_of es) × AllApart (records_of es)
-Overlaps es (Some n) = FirstOverlap es n

@@ -70,9 +70,9 @@ streamed record_size length (e ∷ es) =
     let last = greatest_end (e ∷ es) in
     if ltb length last then 0 else 1 + (length - last) / record_size
 
-abbrev pub counted : (record_size length : ℕ) → List Extent → Count → ℕ
-counted record_size length es (Known n) = n
-counted record_size length es Streaming = streamed record_size length (records_of es)
+abbrev pub number_of_records : (record_size length : ℕ) → List Extent → Count → ℕ
+number_of_records record_size length es (Known n) = n
+number_of_records record_size length es Streaming = streamed record_size length (records_of es)
 
 abbrev pub record_count : Schema → List Place → (length : ℕ) → ℕ
-record_count s places length = counted (record_size_of s) length (extents_of s places) s.count
+record_count s places length = number_of_records (record_size_of s) length (extents_of s places) s.count

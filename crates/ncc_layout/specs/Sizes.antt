@@ -67,19 +67,19 @@ abbrev pub room : ℕ
 room = 2 ^ 63 - 4
 
 -- TooLarge: no padded size, nor the sum of those of the record variables, is more than the greatest size
-pub record Fit (dims : List Dim) (vars : List Var) : Type 0 where
+pub record NoneTooLarge (dims : List Dim) (vars : List Var) : Type 0 where
   pub each : AllByRecursion (λ x. rounded dims x ≤ room) vars
   pub together : record_sum dims vars ≤ room
 
 -- the first variables fit, and no longer with this one
 pub record FirstTooLarge (s : Schema) (number : ℕ) : Type 0 where
   pub there : number < length s.vars
-  pub before : Fit s.dims (take number s.vars)
-  pub here : Fit s.dims (take (number + 1) s.vars) → ⊥
+  pub before : NoneTooLarge s.dims (take number s.vars)
+  pub here : NoneTooLarge s.dims (take (number + 1) s.vars) → ⊥
 
 -- all sizes of a schema
 pub record AreSizes (s : Schema) (z : Sizes) : Type 0 where
-  pub fit : Fit s.dims s.vars
+  pub none_too_large : NoneTooLarge s.dims s.vars
   pub slabs : z.slabs ≡ map (slab s.dims) s.vars
   pub rounded : z.rounded ≡ map (rounded s.dims) s.vars
   pub record_size : z.record_size ≡ record_size_of s
@@ -103,10 +103,10 @@ pub record Sums (dims : List Dim) (vars : List Var) (t : Totals) : Type 0 where
 
 -- what becomes of sums over the variables before, with this one
 abbrev pub Adds : List Dim → List Var → Var → Option (ℕ × Totals) → Type 0
-Adds dims before x None = Fit dims (before ++ x ∷ []) → ⊥
+Adds dims before x None = NoneTooLarge dims (before ++ x ∷ []) → ⊥
 Adds dims before x (Some (n, t)) =
     (n ≡ slab dims x) × (n ≤ room) × (t.sum ≤ room)
-    × Sums dims (before ++ x ∷ []) t × Fit dims (before ++ x ∷ [])
+    × Sums dims (before ++ x ∷ []) t × NoneTooLarge dims (before ++ x ∷ [])
 
 -- a size that is not too large
 abbrev pub in_room : ℕ → Option ℕ

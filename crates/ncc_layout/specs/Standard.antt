@@ -9,7 +9,7 @@ use Rattle.ncc_schema.specs.declared.schema.Var.{Var}
 use Rattle.ncc_schema.specs.declared.schema.Schema.{Schema}
 use Rattle.ncc_schema.specs.Schema.{Place, streaming_mark, offset_limit, is_record_var}
 use Rattle.ncc_schema.specs.Names.{begin_at, header_length}
-use Rattle.ncc_layout.specs.Sizes.{up, rounded, record_sum, record_size_of, room, Fit}
+use Rattle.ncc_layout.specs.Sizes.{up, rounded, record_sum, record_size_of, room, NoneTooLarge}
 use Rattle.ncc_layout.specs.declared.extent.Extent.{Extent}
 use Rattle.ncc_layout.specs.Extents.{fixed_of, records_of}
 
@@ -76,7 +76,7 @@ file_length s records = header_length s + fixed_sum s.dims s.vars + records * re
 
 -- the sizes are such that the version can tell them, and a file can have them
 pub record FitsVersion (s : Schema) (records : ℕ) : Type 0 where
-  pub fit : Fit s.dims s.vars
+  pub none_too_large : NoneTooLarge s.dims s.vars
   pub words : AllByRecursion (λ x. rounded s.dims x ≤ size_limit s.version) s.vars
   pub file : file_length s records < 2 ^ 63
 

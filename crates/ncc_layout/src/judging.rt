@@ -6,9 +6,12 @@ ghost use Rattle.ncc_layout.specs.Bounds.{HasBytes, AreNumbered, RecordsJudged, 
 
 use crate::extent::Extent;
 use crate::fault::LayoutFaultKind;
-use crate::overlap::overlap;
 use crate::records::first_begin;
-use crate::rules::{in_header, out_of_window, past_records, truncated};
+use crate::rules::fixed_after_records::fixed_after_records;
+use crate::rules::in_header::in_header;
+use crate::rules::overlap::overlap;
+use crate::rules::record_window::record_window;
+use crate::rules::truncated::truncated;
 use std::alloc::{AllocError, Global};
 
 /// The numbers of a file by which its extents are judged.
@@ -26,10 +29,10 @@ fn records_fault(extents: &[Extent], record_size: u64) -> Option<(LayoutFaultKin
     ensures { RecordsJudged record_size extents.now result }
 {
     let begin = first_begin(extents)? as u128;
-    if let Some(variable) = out_of_window(extents, begin + record_size as u128) {
+    if let Some(variable) = record_window(extents, begin + record_size as u128) {
         return Some((LayoutFaultKind::RecordWindow, variable));
     }
-    let variable = past_records(extents, begin)?;
+    let variable = fixed_after_records(extents, begin)?;
     Some((LayoutFaultKind::FixedAfterRecords, variable))
 }
 

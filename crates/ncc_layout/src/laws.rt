@@ -13,8 +13,10 @@ ghost use Rattle.ncc_layout.specs.declared.placed_var.PlacedVar.{PlacedVar};
 ghost use Rattle.ncc_layout.specs.Sizes.{product, record_size_of};
 ghost use Rattle.ncc_layout.specs.Extents.{extents_of, records_of, LeastBegin};
 ghost use Rattle.ncc_layout.specs.declared.placed_file.Placed.{Placed};
-ghost use Rattle.ncc_layout.specs.Rules.{InWindow, InRecord, IsPlaced};
-ghost use Rattle.ncc_layout.specs.Faults.{FirstShared, InOrder, FirstInside, FirstFault};
+ghost use Rattle.ncc_layout.specs.Rules.RecordWindow.{InRecordWindow, InRecord};
+ghost use Rattle.ncc_layout.specs.Rules.{IsPlaced};
+ghost use Rattle.ncc_layout.specs.Rules.Overlap.{FirstShared, InOrder, FirstInside};
+ghost use Rattle.ncc_layout.specs.Faults.{FirstFault};
 ghost use Rattle.ncc_layout.specs.Elements.{row_major, placed_vars, var_at, place_of, next_index, Inside, HasShape, LiesInSlab, Own};
 ghost use Rattle.ncc_layout.specs.Standard.{standard_places, file_length, FitsVersion, ArePacked, AreInTurn, AreAligned};
 ghost use Rattle.ncc_layout.specs.Placed.{header_length_of, file_length_of, record_size_of_file, vars_of, KeepsRules, Holds, HasRoom, HasOneMore};
@@ -38,7 +40,7 @@ pub fn element_stays_in_its_slab()
 /// A slab stays in its record: between where that record and the next one begin.
 pub fn slab_stays_in_its_record()
     ensures { (record_size : ℕ) (es : List Extent) (begin number : ℕ) (e : Extent)
-        → AllByRecursion (InWindow record_size es) es → LeastBegin (records_of es) (Some begin)
+        → AllByRecursion (InRecordWindow record_size es) es → LeastBegin (records_of es) (Some begin)
         → Contains (records_of es) e → InRecord record_size begin number e }
 {}
 

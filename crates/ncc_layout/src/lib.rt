@@ -6,7 +6,6 @@ mod extent;
 mod fault;
 mod judging;
 pub mod laws;
-mod overlap;
 mod packing;
 mod placed_file;
 mod placed_var;

@@ -2,7 +2,7 @@
 
 ghost use Rattle.std.specs.Prelude.{◌≡◌, ◌<◌, map};
 ghost use Rattle.std.specs.List.{AllByRecursion};
-ghost use Rattle.ncc_layout.specs.Extents.{records_of, begin_sooner, counted};
+ghost use Rattle.ncc_layout.specs.Extents.{records_of, begin_sooner, number_of_records};
 ghost use Rattle.ncc_layout.specs.Standard.{next_count};
 ghost use Rattle.ncc_layout.specs.Bounds.{HasBytes, first_begin, last_end, end_later, records_by};
 
@@ -84,7 +84,7 @@ fn whole_records(end: u128, record_size: u64, length: u64) -> u64
 pub fn record_count(extents: &[Extent], count: Count, record_size: u64, length: u64) -> u64
     requires bytes { AllByRecursion HasBytes extents.now }
     requires stride { AllByRecursion (λ e. 0 < record_size) (records_of extents.now) }
-    ensures { result ≡ counted record_size length extents.now count }
+    ensures { result ≡ number_of_records record_size length extents.now count }
 {
     let last = match count {
         Count::Known(n) => return n,

@@ -3,7 +3,7 @@
 ghost use Rattle.std.specs.Prelude.{◌≡◌, ◌*◌, ◌<◌, ◌≤◌, List, [], map, IsOk};
 ghost use Rattle.std.specs.List.{AllByRecursion};
 ghost use Rattle.ncc_schema.specs.Schema.{IsFixed, LegalDims, Sound, is_record_var};
-ghost use Rattle.ncc_layout.specs.Sizes.{in_u64, in_room, room, length_of, product, inner, slab, with_slab, Sums, Adds, Fit, IsSizes};
+ghost use Rattle.ncc_layout.specs.Sizes.{in_u64, in_room, room, length_of, product, inner, slab, with_slab, Sums, Adds, NoneTooLarge, IsSizes};
 ghost use Rattle.ncc_schema.specs.declared.schema.Var.{Var};
 
 use crate::fault::SizeError;
@@ -98,7 +98,7 @@ fn with_slab(totals: Totals, slab: u64) -> Option<Totals>
 fn add_var(totals: Totals, dims: &[Dim], var: &Var) -> Option<(u64, Totals)>
     requires legal { LegalDims dims.now var.now.dims }
     requires room { totals.sum ≤ room }
-    ensures { (before : List Var) → Sums dims.now before totals → Fit dims.now before
+    ensures { (before : List Var) → Sums dims.now before totals → NoneTooLarge dims.now before
         → Adds dims.now before var.now result }
 {
     let slab = fitting_slab(dims, var)?;

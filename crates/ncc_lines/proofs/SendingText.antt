@@ -8,7 +8,7 @@ use Rattle.ncc_schema.specs.declared.schema.Var.{Var}
 use Rattle.ncc_schema.specs.declared.schema.VarPlace.{VarPlace}
 use Rattle.ncc_schema.specs.Device.{Puts}
 use Rattle.ncc_schema.proofs.Writing.{puts_both, puts_none}
-use Rattle.ncc_lines.specs.declared.halt.Halt.{Halt}
+use Rattle.ncc_lines.specs.declared.send_error.SendError.{SendError}
 use Rattle.ncc_lines.specs.declared.style.FloatStyle.{FloatStyle}
 use Rattle.ncc_lines.specs.Sends.{PutsFront, SentUpTo, Sends, SendsAll}
 use Rattle.ncc_lines.specs.Texts.{dim_line, dim_lines, begin_of, var_text, var_texts}
@@ -81,7 +81,7 @@ all_sent old now text page rest s none = subst (λ (z : List ℕ). SentUpTo old 
 -- ---- a text that did not go out whole
 
 -- what a failed call says of its text
-pub fails : (old new : Option (List ℕ)) (text page : List ℕ) (result : Result (Unit {0}) Halt) → IsErr result → PutsFront old new text → Sends old new text page result
+pub fails : (old new : Option (List ℕ)) (text page : List ℕ) (result : Result (Unit {0}) SendError) → IsErr result → PutsFront old new text → Sends old new text page result
 fails old new text page (Ok x) e front = absurd (cc)
 fails old new text page (Err h) e front = front
 
@@ -106,7 +106,7 @@ pub first_sent : (old new : Option (List ℕ)) (page last text a b : List ℕ) �
 first_sent old new page last text a b e s = piece_sent old old new (page ++ text) page text a b last (at_first old (page ++ text)) e s
 
 -- the last text was sent, or failed
-pub last_sends : (old now new : Option (List ℕ)) (text page rest last : List ℕ) (result : Result (Unit {0}) Halt) → SentUpTo old now text (page ++ rest)
+pub last_sends : (old now new : Option (List ℕ)) (text page rest last : List ℕ) (result : Result (Unit {0}) SendError) → SentUpTo old now text (page ++ rest)
     → Sends now new (page ++ rest) last result → Sends old new text last result
 last_sends old now new text page rest last (Ok x) s t = goes_on old now new text (page ++ rest) last s t
 last_sends old now new text page rest last (Err e) s w = front_of old new text w.1 (goes_on old now new text (page ++ rest) w.1 s (up_to now new (page ++ rest) w))
@@ -127,27 +127,27 @@ second_sent old mid new page now last text a b c e s t =
 pub third_fails : (old mid new : Option (List ℕ)) (page now last text a b c : List ℕ) → text ≡ a ++ (b ++ c) → SentUpTo old mid (page ++ a) now → SentUpTo mid new (now ++ b) last → PutsFront old new (page ++ text)
 third_fails old mid new page now last text a b c e s t = stays old new (page ++ text) (last ++ c) (second_sent old mid new page now last text a b c e s t)
 
-pub second_sends : (old mid new : Option (List ℕ)) (page now last text a b : List ℕ) (result : Result (Unit {0}) Halt) → text ≡ a ++ b → SentUpTo old mid (page ++ a) now
+pub second_sends : (old mid new : Option (List ℕ)) (page now last text a b : List ℕ) (result : Result (Unit {0}) SendError) → text ≡ a ++ b → SentUpTo old mid (page ++ a) now
     → Sends mid new (now ++ b) last result → Sends old new (page ++ text) last result
 second_sends old mid new page now last text a b result e s w =
     last_sends old mid new (page ++ text) now b last result (first_sent old mid page now text a b e s) w
 
-pub third_sends : (old mid now new : Option (List ℕ)) (page next over last text a b c : List ℕ) (result : Result (Unit {0}) Halt) → text ≡ a ++ (b ++ c) → SentUpTo old mid (page ++ a) next
+pub third_sends : (old mid now new : Option (List ℕ)) (page next over last text a b c : List ℕ) (result : Result (Unit {0}) SendError) → text ≡ a ++ (b ++ c) → SentUpTo old mid (page ++ a) next
     → SentUpTo mid now (next ++ b) over → Sends now new (over ++ c) last result → Sends old new (page ++ text) last result
 third_sends old mid now new page next over last text a b c result e s t w =
     last_sends old now new (page ++ text) over c last result (second_sent old mid now page next over text a b c e s t) w
 
 -- a page to which a piece was added
-pub turned : (old new : Option (List ℕ)) (page piece full last : List ℕ) (result : Result (Unit {0}) Halt) → full ≡ page ++ piece → Sends old new full last result → Sends old new (page ++ piece) last result
+pub turned : (old new : Option (List ℕ)) (page piece full last : List ℕ) (result : Result (Unit {0}) SendError) → full ≡ page ++ piece → Sends old new full last result → Sends old new (page ++ piece) last result
 turned old new page piece full last result e w = subst (λ (z : List ℕ). Sends old new z last result) e w
 
 -- ---- all of a text, by a page that was empty
 
-pub page_fails : (old new : Option (List ℕ)) (page text : List ℕ) (result : Result (Unit {0}) Halt) → page ≡ [] → IsErr result → PutsFront old new (page ++ text) → SendsAll old new text result
+pub page_fails : (old new : Option (List ℕ)) (page text : List ℕ) (result : Result (Unit {0}) SendError) → page ≡ [] → IsErr result → PutsFront old new (page ++ text) → SendsAll old new text result
 page_fails old new page text (Ok x) none e w = absurd (cc)
 page_fails old new page text (Err h) none e w = subst (λ (z : List ℕ). PutsFront old new (z ++ text)) none w
 
-pub page_sends : (old mid new : Option (List ℕ)) (page now last text : List ℕ) (result : Result (Unit {0}) Halt) → page ≡ [] → SentUpTo old mid (page ++ text) now
+pub page_sends : (old mid new : Option (List ℕ)) (page now last text : List ℕ) (result : Result (Unit {0}) SendError) → page ≡ [] → SentUpTo old mid (page ++ text) now
     → Sends mid new now last result → OnOk result (last ≡ []) → SendsAll old new text result
 page_sends old mid new page now last text (Ok x) none s t empty =
     let whole = goes_on old mid new (page ++ text) now last s t in

@@ -71,7 +71,7 @@ fn put_four(room: &mut [u8], at: usize, four: &[u8; 4])
 }
 
 /// Lays a few bytes out from `start` on, as they are printed, and tells where they end.
-fn lay_out(room: &mut [u8], start: usize, bytes: &[u8]) -> usize
+fn escape_into(room: &mut [u8], start: usize, bytes: &[u8]) -> usize
     requires { start + 4 * length bytes.now ≤ length room.old }
     ensures len { length room.new ≡ length room.old }
     ensures within { result ≤ length room.new }
@@ -102,7 +102,7 @@ pub fn push_few(out: &mut Vec<u8>, bytes: &[u8]) -> bool
 {
     let start = out.len();
     out.extend_from_slice(&[0; ROOM]).unwrap();
-    let end = lay_out(out.as_mut_slice(), start, bytes);
+    let end = escape_into(out.as_mut_slice(), start, bytes);
     out.truncate(end);
     end == start + bytes.len()
 }

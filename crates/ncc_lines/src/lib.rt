@@ -3,7 +3,6 @@
 
 mod escape;
 mod escapes;
-mod halt;
 mod heads;
 mod hex;
 mod page;
@@ -11,6 +10,7 @@ mod progress;
 mod putting;
 mod refusals;
 mod sections;
+mod send_error;
 mod sending;
 mod style;
 mod texts;
@@ -18,13 +18,13 @@ mod values;
 mod verdict;
 
 pub use escape::{digit, push_name, push_text};
-pub use halt::Halt;
 pub use heads::dim_name;
 pub use hex::byte_digits;
 pub use page::send_page;
 pub use progress::{Progress, Unshown};
 pub use putting::put_numbered;
 pub use refusals::{send_append_refusal, send_records};
+pub use send_error::SendError;
 pub use sending::{send_fault, send_file_fault, send_header, send_report};
 pub use style::FloatStyle;
 pub use texts::{fault_name, push_at, push_decimal};

@@ -5,7 +5,7 @@ ghost use Rattle.ncc_lines.specs.Words.{name_text};
 ghost use Rattle.ncc_lines.specs.Sends.{Sends, Blames};
 
 use crate::escape::push_name;
-use crate::halt::Halt;
+use crate::send_error::SendError;
 use ncc_header::{Sink, write_all};
 
 /// With so many bytes a page is sent. Between two looks at it at most 5,000 bytes are added, a piece of a
@@ -16,7 +16,7 @@ const FULL: usize = 60_000;
 const PIECE: usize = 1024;
 
 /// Sends what the page holds. After an `Err` a front of it is sent.
-pub fn send_page<W: Sink>(page: &mut Vec<u8>, sink: &mut W) -> Result<(), Halt>
+pub fn send_page<W: Sink>(page: &mut Vec<u8>, sink: &mut W) -> Result<(), SendError>
     ensures sent { Sends (W.put sink.old) (W.put sink.new) page.old.items page.new.items result }
     ensures empty { OnOk result (page.new.items ≡ []) }
     ensures count { Blames (W.failures sink.old) (W.failures sink.new) result }
@@ -27,7 +27,7 @@ pub fn send_page<W: Sink>(page: &mut Vec<u8>, sink: &mut W) -> Result<(), Halt>
 }
 
 /// Sends what the page holds if it is full; then it isn't.
-pub fn turn_page<W: Sink>(page: &mut Vec<u8>, sink: &mut W) -> Result<(), Halt>
+pub fn turn_page<W: Sink>(page: &mut Vec<u8>, sink: &mut W) -> Result<(), SendError>
     ensures short { OnOk result (length page.new.items < 60000) }
     ensures sent { Sends (W.put sink.old) (W.put sink.new) page.old.items page.new.items result }
     ensures count { Blames (W.failures sink.old) (W.failures sink.new) result }
@@ -39,7 +39,7 @@ pub fn turn_page<W: Sink>(page: &mut Vec<u8>, sink: &mut W) -> Result<(), Halt>
 }
 
 /// Sends a short text.
-pub fn send<W: Sink>(text: &[u8], page: &mut Vec<u8>, sink: &mut W) -> Result<(), Halt>
+pub fn send<W: Sink>(text: &[u8], page: &mut Vec<u8>, sink: &mut W) -> Result<(), SendError>
     ensures sent { Sends (W.put sink.old) (W.put sink.new) (page.old.items ++ text.now) page.new.items result }
     ensures count { Blames (W.failures sink.old) (W.failures sink.new) result }
 {
@@ -48,7 +48,7 @@ pub fn send<W: Sink>(text: &[u8], page: &mut Vec<u8>, sink: &mut W) -> Result<()
 }
 
 /// Sends a short name.
-fn send_short<W: Sink>(name: &[u8], page: &mut Vec<u8>, sink: &mut W) -> Result<(), Halt>
+fn send_short<W: Sink>(name: &[u8], page: &mut Vec<u8>, sink: &mut W) -> Result<(), SendError>
     ensures sent { Sends (W.put sink.old) (W.put sink.new)
         (page.old.items ++ name_text name.now) page.new.items result }
     ensures count { Blames (W.failures sink.old) (W.failures sink.new) result }
@@ -58,7 +58,7 @@ fn send_short<W: Sink>(name: &[u8], page: &mut Vec<u8>, sink: &mut W) -> Result<
 }
 
 /// Sends a name, piece by piece.
-pub fn send_name<W: Sink>(name: &[u8], page: &mut Vec<u8>, sink: &mut W) -> Result<(), Halt>
+pub fn send_name<W: Sink>(name: &[u8], page: &mut Vec<u8>, sink: &mut W) -> Result<(), SendError>
     ensures sent { Sends (W.put sink.old) (W.put sink.new)
         (page.old.items ++ name_text name.now) page.new.items result }
     ensures count { Blames (W.failures sink.old) (W.failures sink.new) result }

@@ -6,10 +6,10 @@ ghost use Rattle.ncc_schema.specs.Device.{WritesAll};
 ghost use Rattle.ncc_lines.specs.Texts.{at_line};
 
 use itoa::Buffer;
-use ncc_header::{Failed, Sink, write_all};
+use ncc_header::{Device, Sink, write_all};
 
 /// Puts out a number and a line feed.
-fn put_number<W: Sink>(number: u64, sink: &mut W) -> Result<(), Failed>
+fn put_number<W: Sink>(number: u64, sink: &mut W) -> Result<(), Device>
     ensures bytes { WritesAll (W.put sink.old) (W.put sink.new) result (decimal number ++ codes "\n") }
     ensures count { Counts (W.failures sink.old) (W.failures sink.new) result }
 {
@@ -19,7 +19,7 @@ fn put_number<W: Sink>(number: u64, sink: &mut W) -> Result<(), Failed>
 }
 
 /// Puts out a word, a number and a line feed.
-pub fn put_numbered<W: Sink>(word: &[u8], number: u64, sink: &mut W) -> Result<(), Failed>
+pub fn put_numbered<W: Sink>(word: &[u8], number: u64, sink: &mut W) -> Result<(), Device>
     ensures bytes { WritesAll (W.put sink.old) (W.put sink.new) result (word.now ++ (decimal number ++ codes "\n")) }
     ensures count { Counts (W.failures sink.old) (W.failures sink.new) result }
 {
@@ -28,7 +28,7 @@ pub fn put_numbered<W: Sink>(word: &[u8], number: u64, sink: &mut W) -> Result<(
 }
 
 /// Puts out a word and the offset at which it is.
-fn put_found<W: Sink>(word: &str, offset: u64, sink: &mut W) -> Result<(), Failed>
+fn put_found<W: Sink>(word: &str, offset: u64, sink: &mut W) -> Result<(), Device>
     ensures bytes { WritesAll (W.put sink.old) (W.put sink.new) result
         (word.now ++ (codes " at " ++ (decimal offset ++ codes "\n"))) }
     ensures count { Counts (W.failures sink.old) (W.failures sink.new) result }
@@ -38,7 +38,7 @@ fn put_found<W: Sink>(word: &str, offset: u64, sink: &mut W) -> Result<(), Faile
 }
 
 /// Puts out the line of what is at an offset: its head and the word that names it.
-pub fn put_at<W: Sink>(head: &[u8], word: &str, offset: u64, sink: &mut W) -> Result<(), Failed>
+pub fn put_at<W: Sink>(head: &[u8], word: &str, offset: u64, sink: &mut W) -> Result<(), Device>
     ensures bytes { WritesAll (W.put sink.old) (W.put sink.new) result (at_line head.now word.now offset) }
     ensures count { Counts (W.failures sink.old) (W.failures sink.new) result }
 {

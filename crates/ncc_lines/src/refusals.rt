@@ -9,10 +9,10 @@ ghost use Rattle.ncc_lines.specs.Sends.{SendsAll, Blames};
 ghost use Rattle.ncc_lines.specs.Texts.{records_line};
 ghost use Rattle.ncc_schema.specs.declared.schema.Count.TheVariants.{Known};
 
-use crate::halt::Halt;
 use crate::putting::put_numbered;
+use crate::send_error::SendError;
 use ncc_check::AppendError;
-use ncc_header::{Failed, Sink, write_all};
+use ncc_header::{Device, Sink, write_all};
 
 /// The line of a refusal; of `WrongValues` what stands before its number.
 fn line_of(error: AppendError) -> &'static [u8]
@@ -31,7 +31,7 @@ fn line_of(error: AppendError) -> &'static [u8]
 }
 
 /// Puts out the line of a refusal.
-fn put_append_line<W: Sink>(error: AppendError, sink: &mut W) -> Result<(), Failed>
+fn put_append_line<W: Sink>(error: AppendError, sink: &mut W) -> Result<(), Device>
     ensures bytes { WritesAll (W.put sink.old) (W.put sink.new) result (append_line error) }
     ensures count { Counts (W.failures sink.old) (W.failures sink.new) result }
 {
@@ -42,20 +42,20 @@ fn put_append_line<W: Sink>(error: AppendError, sink: &mut W) -> Result<(), Fail
 }
 
 /// Sends the line of a record that isn't added, and takes no memory. After an `Err` a front of it is sent.
-pub fn send_append_refusal<W: Sink>(error: AppendError, sink: &mut W) -> Result<(), Halt>
+pub fn send_append_refusal<W: Sink>(error: AppendError, sink: &mut W) -> Result<(), SendError>
     ensures sent { SendsAll (W.put sink.old) (W.put sink.new) (append_line error) result }
     ensures count { Blames (W.failures sink.old) (W.failures sink.new) result }
-    ensures never { result ≢ Err Halt.Memory }
+    ensures never { result ≢ Err SendError.Memory }
 {
     put_append_line(error, sink)?;
     Ok(())
 }
 
 /// Sends the line of how many records there are, and takes no memory. After an `Err` a front of it is sent.
-pub fn send_records<W: Sink>(records: u64, sink: &mut W) -> Result<(), Halt>
+pub fn send_records<W: Sink>(records: u64, sink: &mut W) -> Result<(), SendError>
     ensures sent { SendsAll (W.put sink.old) (W.put sink.new) (records_line (Known records)) result }
     ensures count { Blames (W.failures sink.old) (W.failures sink.new) result }
-    ensures never { result ≢ Err Halt.Memory }
+    ensures never { result ≢ Err SendError.Memory }
 {
     put_numbered(b"records ", records, sink)?;
     Ok(())

@@ -5,18 +5,23 @@ ghost use Rattle.std.specs.List.{flat_map};
 ghost use Rattle.ncc_lines.specs.Texts.{head_lines, dim_line, dim_lines, dim_end, attr_type, attr_head, attr_line, attr_lines, dim_word, var_type, var_head, var_line, var_text, var_texts, schema_lines, list_text};
 ghost use Rattle.ncc_lines.specs.Sends.{Sends, Blames};
 
-use crate::halt::Halt;
 use crate::heads::{
     dim_name, offset_of, push_attr_start, push_attr_type, push_var_start, push_var_type,
 };
 use crate::page::{send, send_name, turn_page};
+use crate::send_error::SendError;
 use crate::style::FloatStyle;
 use crate::texts::{push_dim_end, push_dim_start, push_head};
 use crate::values::sending::send_values;
 use ncc_header::{Attr, Dim, Header, Schema, Sink, Var, VarPlace};
 
 /// Sends the line of a dimension.
-fn send_dim<W: Sink>(number: usize, dim: &Dim, page: &mut Vec<u8>, sink: &mut W) -> Result<(), Halt>
+fn send_dim<W: Sink>(
+    number: usize,
+    dim: &Dim,
+    page: &mut Vec<u8>,
+    sink: &mut W,
+) -> Result<(), SendError>
     ensures sent { Sends (W.put sink.old) (W.put sink.new)
         (page.old.items ++ dim_line number dim.now) page.new.items result }
     ensures count { Blames (W.failures sink.old) (W.failures sink.new) result }
@@ -28,7 +33,7 @@ fn send_dim<W: Sink>(number: usize, dim: &Dim, page: &mut Vec<u8>, sink: &mut W)
 }
 
 /// Sends a line for each dimension.
-fn send_dims<W: Sink>(dims: &[Dim], page: &mut Vec<u8>, sink: &mut W) -> Result<(), Halt>
+fn send_dims<W: Sink>(dims: &[Dim], page: &mut Vec<u8>, sink: &mut W) -> Result<(), SendError>
     ensures sent { Sends (W.put sink.old) (W.put sink.new)
         (page.old.items ++ dim_lines 0 dims.now) page.new.items result }
     ensures count { Blames (W.failures sink.old) (W.failures sink.new) result }
@@ -45,7 +50,7 @@ fn send_attr_head<W: Sink>(
     attr: &Attr,
     page: &mut Vec<u8>,
     sink: &mut W,
-) -> Result<(), Halt>
+) -> Result<(), SendError>
     ensures sent { Sends (W.put sink.old) (W.put sink.new)
         (page.old.items ++ attr_head owner attr.now) page.new.items result }
     ensures count { Blames (W.failures sink.old) (W.failures sink.new) result }
@@ -63,7 +68,7 @@ fn send_attr<W: Sink>(
     style: FloatStyle,
     page: &mut Vec<u8>,
     sink: &mut W,
-) -> Result<(), Halt>
+) -> Result<(), SendError>
     ensures sent { Sends (W.put sink.old) (W.put sink.new)
         (page.old.items ++ attr_line style owner attr.now) page.new.items result }
     ensures count { Blames (W.failures sink.old) (W.failures sink.new) result }
@@ -80,7 +85,7 @@ fn send_attrs<W: Sink>(
     style: FloatStyle,
     page: &mut Vec<u8>,
     sink: &mut W,
-) -> Result<(), Halt>
+) -> Result<(), SendError>
     ensures sent { Sends (W.put sink.old) (W.put sink.new)
         (page.old.items ++ attr_lines style owner attrs.now) page.new.items result }
     ensures count { Blames (W.failures sink.old) (W.failures sink.new) result }
@@ -97,7 +102,7 @@ fn send_dim_word<W: Sink>(
     number: usize,
     page: &mut Vec<u8>,
     sink: &mut W,
-) -> Result<(), Halt>
+) -> Result<(), SendError>
     ensures sent { Sends (W.put sink.old) (W.put sink.new)
         (page.old.items ++ dim_word dims.now number) page.new.items result }
     ensures count { Blames (W.failures sink.old) (W.failures sink.new) result }
@@ -112,7 +117,7 @@ fn send_dim_words<W: Sink>(
     numbers: &[usize],
     page: &mut Vec<u8>,
     sink: &mut W,
-) -> Result<(), Halt>
+) -> Result<(), SendError>
     ensures sent { Sends (W.put sink.old) (W.put sink.new)
         (page.old.items ++ flat_map (dim_word dims.now) numbers.now) page.new.items result }
     ensures count { Blames (W.failures sink.old) (W.failures sink.new) result }
@@ -131,7 +136,7 @@ fn send_var_head<W: Sink>(
     var: &Var,
     page: &mut Vec<u8>,
     sink: &mut W,
-) -> Result<(), Halt>
+) -> Result<(), SendError>
     ensures sent { Sends (W.put sink.old) (W.put sink.new)
         (page.old.items ++ var_head dims.now number begin var.now) page.new.items result }
     ensures count { Blames (W.failures sink.old) (W.failures sink.new) result }
@@ -150,7 +155,7 @@ fn send_var_line<W: Sink>(
     var: &Var,
     page: &mut Vec<u8>,
     sink: &mut W,
-) -> Result<(), Halt>
+) -> Result<(), SendError>
     ensures sent { Sends (W.put sink.old) (W.put sink.new)
         (page.old.items ++ var_line dims.now number begin var.now) page.new.items result }
     ensures count { Blames (W.failures sink.old) (W.failures sink.new) result }
@@ -169,7 +174,7 @@ fn send_var<W: Sink>(
     style: FloatStyle,
     page: &mut Vec<u8>,
     sink: &mut W,
-) -> Result<(), Halt>
+) -> Result<(), SendError>
     ensures sent { Sends (W.put sink.old) (W.put sink.new)
         (page.old.items ++ var_text style dims.now number begin var.now) page.new.items result }
     ensures count { Blames (W.failures sink.old) (W.failures sink.new) result }
@@ -186,7 +191,7 @@ fn send_vars<W: Sink>(
     style: FloatStyle,
     page: &mut Vec<u8>,
     sink: &mut W,
-) -> Result<(), Halt>
+) -> Result<(), SendError>
     ensures sent { Sends (W.put sink.old) (W.put sink.new)
         (page.old.items ++ var_texts style dims.now places.now 0 vars.now) page.new.items result }
     ensures count { Blames (W.failures sink.old) (W.failures sink.new) result }
@@ -211,7 +216,7 @@ fn send_schema<W: Sink>(
     style: FloatStyle,
     page: &mut Vec<u8>,
     sink: &mut W,
-) -> Result<(), Halt>
+) -> Result<(), SendError>
     ensures sent { Sends (W.put sink.old) (W.put sink.new)
         (page.old.items ++ schema_lines style schema.now) page.new.items result }
     ensures count { Blames (W.failures sink.old) (W.failures sink.new) result }
@@ -227,7 +232,7 @@ pub fn send_list<W: Sink>(
     style: FloatStyle,
     page: &mut Vec<u8>,
     sink: &mut W,
-) -> Result<(), Halt>
+) -> Result<(), SendError>
     ensures sent { Sends (W.put sink.old) (W.put sink.new)
         (page.old.items ++ list_text style header.now) page.new.items result }
     ensures count { Blames (W.failures sink.old) (W.failures sink.new) result }

@@ -7,7 +7,7 @@ ghost use Rattle.ncc_lines.specs.Texts.{version_text, format_line, records_line,
 
 use crate::putting::put_at;
 use itoa::Buffer;
-use ncc_header::{Count, Failed, Fault, FaultKind, Schema, Sink, Version};
+use ncc_header::{Count, Device, Fault, FaultKind, Schema, Sink, Version};
 use std::alloc::AllocError;
 
 pub fn push_decimal(out: &mut Vec<u8>, n: u64) -> Result<(), AllocError>
@@ -132,7 +132,7 @@ pub fn push_at(out: &mut Vec<u8>, head: &[u8], word: &str, offset: u64) -> Resul
 }
 
 /// Puts out the line of a fault.
-pub fn put_fault<W: Sink>(fault: Fault, sink: &mut W) -> Result<(), Failed>
+pub fn put_fault<W: Sink>(fault: Fault, sink: &mut W) -> Result<(), Device>
     ensures bytes { WritesAll (W.put sink.old) (W.put sink.new) result (fault_line fault) }
     ensures count { Counts (W.failures sink.old) (W.failures sink.new) result }
 {

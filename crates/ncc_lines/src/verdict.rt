@@ -7,12 +7,12 @@ ghost use Rattle.ncc_schema.specs.Device.{WritesAll};
 ghost use Rattle.ncc_lines.specs.Verdicts.{ok_line, note_word, note_line, layout_word, report_text, file_fault_line};
 ghost use Rattle.ncc_lines.specs.Sends.{Sends, Blames};
 
-use crate::halt::Halt;
 use crate::page::turn_page;
 use crate::putting::put_at;
+use crate::send_error::SendError;
 use crate::texts::{push_at, push_decimal, put_fault, version_word};
 use ncc_check::{FileFault, Note, NoteKind, Report};
-use ncc_header::{Failed, Sink};
+use ncc_header::{Device, Sink};
 use ncc_layout::LayoutFaultKind;
 use std::alloc::AllocError;
 
@@ -32,7 +32,7 @@ pub fn push_ok(out: &mut Vec<u8>, report: &Report) -> Result<(), AllocError>
 }
 
 /// Sends the first line about a file that passes.
-fn send_ok<W: Sink>(report: &Report, page: &mut Vec<u8>, sink: &mut W) -> Result<(), Halt>
+fn send_ok<W: Sink>(report: &Report, page: &mut Vec<u8>, sink: &mut W) -> Result<(), SendError>
     ensures sent { Sends (W.put sink.old) (W.put sink.new)
         (page.old.items ++ ok_line report.now) page.new.items result }
     ensures count { Blames (W.failures sink.old) (W.failures sink.new) result }
@@ -72,7 +72,7 @@ pub fn layout_name(kind: LayoutFaultKind) -> &'static str
 }
 
 /// Sends the line of a note.
-fn send_note<W: Sink>(note: &Note, page: &mut Vec<u8>, sink: &mut W) -> Result<(), Halt>
+fn send_note<W: Sink>(note: &Note, page: &mut Vec<u8>, sink: &mut W) -> Result<(), SendError>
     ensures sent { Sends (W.put sink.old) (W.put sink.new)
         (page.old.items ++ note_line note.now) page.new.items result }
     ensures count { Blames (W.failures sink.old) (W.failures sink.new) result }
@@ -82,7 +82,7 @@ fn send_note<W: Sink>(note: &Note, page: &mut Vec<u8>, sink: &mut W) -> Result<(
 }
 
 /// Sends a line for each note.
-fn send_notes<W: Sink>(notes: &[Note], page: &mut Vec<u8>, sink: &mut W) -> Result<(), Halt>
+fn send_notes<W: Sink>(notes: &[Note], page: &mut Vec<u8>, sink: &mut W) -> Result<(), SendError>
     ensures sent { Sends (W.put sink.old) (W.put sink.new)
         (page.old.items ++ flat_map note_line notes.now) page.new.items result }
     ensures count { Blames (W.failures sink.old) (W.failures sink.new) result }
@@ -94,7 +94,11 @@ fn send_notes<W: Sink>(notes: &[Note], page: &mut Vec<u8>, sink: &mut W) -> Resu
 }
 
 /// Sends all lines about a file that passes; the last of them are left on the page.
-pub fn send_verdict<W: Sink>(report: &Report, page: &mut Vec<u8>, sink: &mut W) -> Result<(), Halt>
+pub fn send_verdict<W: Sink>(
+    report: &Report,
+    page: &mut Vec<u8>,
+    sink: &mut W,
+) -> Result<(), SendError>
     ensures sent { Sends (W.put sink.old) (W.put sink.new)
         (page.old.items ++ report_text report.now) page.new.items result }
     ensures count { Blames (W.failures sink.old) (W.failures sink.new) result }
@@ -104,7 +108,7 @@ pub fn send_verdict<W: Sink>(report: &Report, page: &mut Vec<u8>, sink: &mut W) 
 }
 
 /// Puts out the line of a file's fault.
-pub fn put_file_fault<W: Sink>(fault: FileFault, sink: &mut W) -> Result<(), Failed>
+pub fn put_file_fault<W: Sink>(fault: FileFault, sink: &mut W) -> Result<(), Device>
     ensures bytes { WritesAll (W.put sink.old) (W.put sink.new) result (file_fault_line fault) }
     ensures count { Counts (W.failures sink.old) (W.failures sink.new) result }
 {

@@ -12,7 +12,7 @@ use Rattle.ncc_check.specs.declared.fault.FileFault.TheVariants as of
 use Rattle.ncc_check.specs.declared.fault.Refusal.TheVariants as refusals
 use Rattle.ncc_check.specs.FromStore.{ReadsHeader}
 use Rattle.ncc_lines.specs.Sends.{SendsAll}
-use Rattle.ncc_lines.specs.declared.halt.Halt.{Halt}
+use Rattle.ncc_lines.specs.declared.send_error.SendError.{SendError}
 use Rattle.ncc_lines.specs.declared.style.FloatStyle.{FloatStyle}
 use Rattle.ncc_answers.specs.declared.answer.Answer.{Answer}
 use Rattle.ncc_answers.specs.declared.answer.Answer.TheVariants.{Passed, Refused, Device, Memory}
@@ -49,29 +49,29 @@ module _ (laws : Laws) (style : FloatStyle) (limit : ℕ) where
   abbrev GoneOf : (left old new : Option (List ℕ)) → Answer → Type 0
   GoneOf left old new answer = IfSome left (λ input. Gone (IsListedText input limit style) old new answer)
 
-  header_gone : (left old new : Option (List ℕ)) (h : Header) (result : Result (Unit {0}) Halt) → IfSome left (λ input. Begins input limit h)
+  header_gone : (left old new : Option (List ℕ)) (h : Header) (result : Result (Unit {0}) SendError) → IfSome left (λ input. Begins input limit h)
       → SendsAll old new (header_text style h) result → GoneOf left old new (answer_of result Passed)
   header_gone None old new h result begins all = tt
   header_gone (Some input) old new h result begins all =
       sent (IsListedText input limit style) (one_text input) old new (header_text style h) Passed result (h, begins, refl) (h, begins, refl) all
 
-  fault_gone : (left old new : Option (List ℕ)) (f : Fault) (result : Result (Unit {0}) Halt) → IfSome left (λ input. Stops input limit f)
+  fault_gone : (left old new : Option (List ℕ)) (f : Fault) (result : Result (Unit {0}) SendError) → IfSome left (λ input. Stops input limit f)
       → SendsAll old new (fault_text (of.Header f)) result → GoneOf left old new (answer_of result Refused)
   fault_gone None old new f result stops all = tt
   fault_gone (Some input) old new f result stops all =
       sent (IsListedText input limit style) (one_text input) old new (fault_text (of.Header f)) Refused result (f, stops, refl) (f, stops, refl) all
 
-  pub listed : (left old new : Option (List ℕ)) (h : Header) (result : Result (Unit {0}) Halt) (answer : Answer) → IfSome left (λ input. Begins input limit h)
+  pub listed : (left old new : Option (List ℕ)) (h : Header) (result : Result (Unit {0}) SendError) (answer : Answer) → IfSome left (λ input. Begins input limit h)
       → SendsAll old new (header_text style h) result → answer ≡ answer_of result Passed → GoneOf left old new answer
   listed left old new h result answer begins all is = subst (GoneOf left old new) (sym is) (header_gone left old new h result begins all)
 
-  pub refused : (left old new : Option (List ℕ)) (f : Fault) (error : HeaderError) (result : Result (Unit {0}) Halt) (answer : Answer) → error ≡ errors.Fault f
+  pub refused : (left old new : Option (List ℕ)) (f : Fault) (error : HeaderError) (result : Result (Unit {0}) SendError) (answer : Answer) → error ≡ errors.Fault f
       → IfSome left (λ input. AnswersOf input limit (Err error)) → SendsAll old new (fault_text (of.Header f)) result → answer ≡ answer_of result Refused → GoneOf left old new answer
   refused left old new f error result answer same stops all is =
       subst (GoneOf left old new) (sym is)
       (fault_gone left old new f result (subst (λ (e : HeaderError). IfSome left (λ input. AnswersOf input limit (Err e))) same stops) all)
 
-  pub refused_store : (bytes : List ℕ) (old new : Option (List ℕ)) (f : FileFault) (result : Result (Unit {0}) Halt) (answer : Answer) → ReadsHeader bytes limit (Err (refusals.Fault f))
+  pub refused_store : (bytes : List ℕ) (old new : Option (List ℕ)) (f : FileFault) (result : Result (Unit {0}) SendError) (answer : Answer) → ReadsHeader bytes limit (Err (refusals.Fault f))
       → SendsAll old new (fault_text f) result → answer ≡ answer_of result Refused → Gone (IsListedText bytes limit style) old new answer
   refused_store bytes old new (of.Header f) result answer stops all is = subst (Gone (IsListedText bytes limit style) old new) (sym is) (fault_gone (Some bytes) old new f result stops all)
   refused_store bytes old new (of.Layout f) result answer stops all is = absurd stops

@@ -14,10 +14,10 @@ ghost use Rattle.ncc_listed.specs.Listed.{ListsMembers};
 ghost use Rattle.ncc_listed.specs.Members.{list_members};
 
 use crate::telling::header_told;
-use ncc_answers::{Answer, answered};
+use ncc_answers::{Answer, answer_of_sent};
 use ncc_check::{FileFault, Refusal, header_in};
 use ncc_header::{Header, HeaderError, Sink, Source, laws, read_header};
-use ncc_lines::{FloatStyle, Halt};
+use ncc_lines::{FloatStyle, SendError};
 use ncc_places::{fault_object, send_text};
 use ncc_store::Store;
 use std::alloc::Global;
@@ -28,20 +28,20 @@ fn send_members<W: Sink>(
     header: &Header,
     style: FloatStyle,
     sink: &mut W,
-) -> Result<(), Halt>
+) -> Result<(), SendError>
     ensures sent { SendsAll (W.put sink.old) (W.put sink.new) (print (list_members style header.now)) result }
     ensures count { Blames (W.failures sink.old) (W.failures sink.new) result }
-    ensures none { result ≡ Err Halt.Memory → sink.new ≡ sink.old }
+    ensures none { result ≡ Err SendError.Memory → sink.new ≡ sink.old }
 {
     let text = header_told(alloc, header, style)?;
     send_text(&text, sink)
 }
 
 /// Sends the members of a fault in the same way.
-fn send_fault<W: Sink>(alloc: Global, fault: FileFault, sink: &mut W) -> Result<(), Halt>
+fn send_fault<W: Sink>(alloc: Global, fault: FileFault, sink: &mut W) -> Result<(), SendError>
     ensures sent { SendsAll (W.put sink.old) (W.put sink.new) (print (file_fault_members fault)) result }
     ensures count { Blames (W.failures sink.old) (W.failures sink.new) result }
-    ensures none { result ≡ Err Halt.Memory → sink.new ≡ sink.old }
+    ensures none { result ≡ Err SendError.Memory → sink.new ≡ sink.old }
 {
     let text = fault_object(alloc, fault)?;
     send_text(&text, sink)
@@ -69,8 +69,8 @@ pub fn members_engine<R: Source, W: Sink>(
 {
     laws::header_or_stop();
     match read_header(alloc, source, limit) {
-        Ok(header) => answered(send_members(alloc, &header, style, sink), Answer::Passed),
-        Err(HeaderError::Fault(fault)) => answered(
+        Ok(header) => answer_of_sent(send_members(alloc, &header, style, sink), Answer::Passed),
+        Err(HeaderError::Fault(fault)) => answer_of_sent(
             send_fault(alloc, FileFault::Header(fault), sink),
             Answer::Refused,
         ),
@@ -97,8 +97,11 @@ pub fn members_store_engine<S: Store, W: Sink>(
 {
     laws::header_or_stop();
     match header_in(alloc, store, limit) {
-        Ok(header) => answered(send_members(alloc, &header, style, sink), Answer::Passed),
-        Err(Refusal::Fault(fault)) => answered(send_fault(alloc, fault, sink), Answer::Refused),
+        Ok(header) => answer_of_sent(send_members(alloc, &header, style, sink), Answer::Passed),
+        Err(Refusal::Fault(fault)) => answer_of_sent(
+            send_fault(alloc, fault, sink),
+            Answer::Refused,
+        ),
         Err(Refusal::Device) => Answer::Device,
         Err(Refusal::Memory) => Answer::Memory,
     }

@@ -10,7 +10,7 @@ use Rattle.ncc_check.specs.FromStore.{SettledBy}
 use Rattle.ncc_build.specs.declared.fault.WriteFault.{WriteFault}
 use Rattle.ncc_convert.specs.Lines.{converted_line, plan_line}
 use Rattle.ncc_engines.specs.Converting.{IsRefusalLine, HasConvertedFront, HasRefusalFront}
-use Rattle.ncc_engines.specs.Planning.{IsAgainst, HaltsLine}
+use Rattle.ncc_engines.specs.Planning.{IsAgainst, SendErrorLine}
 use Rattle.ncc_answers.specs.declared.answer.Answer.{Answer}
 use Rattle.ncc_answers.specs.declared.answer.Answer.TheVariants.{Passed, Refused, Device, Memory}
 use Rattle.ncc_making.specs.Making.{FewCalls}
@@ -75,7 +75,7 @@ module _ {W : Type 0} (g : SinkGhosts W) (sink sent : W) where
         × Puts (g.put sink) (g.put sent) (plan_line f)
     pub order : (f : WriteFault) → IsAgainst v s records f → answer ≡ Device → Rose (g.failures sink) (g.failures sent)
     pub memory : answer ≡ Memory → sent ≡ sink
-    pub halted : answer ≡ Device → (g.put sent ≡ g.put sink) ⊎ HaltsLine v s records (g.put sink) (g.put sent)
+    pub halted : answer ≡ Device → (g.put sent ≡ g.put sink) ⊎ SendErrorLine v s records (g.put sink) (g.put sent)
     pub printed : answer ≡ Device → (g.put sent ≡ g.put sink) ⊎ Rose (g.failures sink) (g.failures sent)
 
   -- of the bytes of a store, where it tells them

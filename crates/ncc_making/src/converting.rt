@@ -27,7 +27,7 @@ use ncc_check::laws::passing_has_no_fault;
 use ncc_check::{NcFile, Refusal, open};
 use ncc_convert::laws::open_file_holds_a_dataset;
 use ncc_convert::send_converted;
-use ncc_engines::{Answer, answered, convert_engine, plan};
+use ncc_engines::{Answer, answer_of_sent, convert_engine, plan};
 use ncc_header::Sink;
 use ncc_lines::{Progress, send_file_fault};
 use ncc_store::{Device, Store};
@@ -125,13 +125,13 @@ fn convert_file<S: Store, T: Target, W: Sink, P: Progress>(
     let answer = convert_into(alloc, file, built, target, progress);
     progress.end();
     match answer {
-        Answer::Passed => answered(send_converted(version, sink), Answer::Passed),
+        Answer::Passed => answer_of_sent(send_converted(version, sink), Answer::Passed),
         answer => answer,
     }
 }
 
 /// The line of a file that can't be opened, and what that comes to.
-fn refused<W: Sink>(refusal: Refusal, sink: &mut W) -> Answer
+fn print_refusal<W: Sink>(refusal: Refusal, sink: &mut W) -> Answer
     ensures passed { result ≢ Answer.Passed }
     ensures quiet { result ≢ Answer.Device → W.failures sink.new ≡ W.failures sink.old }
     ensures device { result ≡ Answer.Device
@@ -147,7 +147,7 @@ fn refused<W: Sink>(refusal: Refusal, sink: &mut W) -> Answer
         → Rose (W.failures sink.old) (W.failures sink.new) }
 {
     match refusal {
-        Refusal::Fault(fault) => answered(send_file_fault(fault, sink), Answer::Refused),
+        Refusal::Fault(fault) => answer_of_sent(send_file_fault(fault, sink), Answer::Refused),
         Refusal::Device => Answer::Device,
         Refusal::Memory => Answer::Memory,
     }
@@ -198,7 +198,7 @@ pub fn convert_store<S: Store + Drop, T: Target, W: Sink, P: Progress>(
             (file.into_store(), answer)
         }
         Err((store, refusal)) => {
-            let answer = refused(refusal, sink);
+            let answer = print_refusal(refusal, sink);
             (store, answer)
         }
     }

@@ -20,15 +20,15 @@ use Rattle.ncc_schema.specs.Header.{nc_dimension, canon_attr, canon_dim, canon_d
 use Rattle.ncc_schema.specs.Names.{canon_unplaced, header_length, list_size, no_place}
 use Rattle.ncc_schema.specs.Schema.{Place}
 use Rattle.ncc_schema.proofs.Sizes.{length-canon_attr, length-canon_dim, length-canon_dimids, length-canon_var}
-use Rattle.ncc_header.specs.declared.built.Built.{Built}
-use Rattle.ncc_header.specs.declared.built.Lists.{Lists}
-use Rattle.ncc_header.specs.declared.built.Named.{Named}
-use Rattle.ncc_header.specs.declared.built.Named.TheVariants as named
-use Rattle.ncc_header.specs.declared.built.Next.{Next}
-use Rattle.ncc_header.specs.declared.built.Next.TheVariants as nexts
-use Rattle.ncc_header.specs.declared.built.Owner.{Owner}
-use Rattle.ncc_header.specs.declared.built.Owner.TheVariants as owners
-use Rattle.ncc_header.specs.declared.built.Parts.{Parts}
+use Rattle.ncc_header.specs.declared.partial.Partial.{Partial}
+use Rattle.ncc_header.specs.declared.partial.Lists.{Lists}
+use Rattle.ncc_header.specs.declared.partial.Named.{Named}
+use Rattle.ncc_header.specs.declared.partial.Named.TheVariants as named
+use Rattle.ncc_header.specs.declared.partial.Next.{Next}
+use Rattle.ncc_header.specs.declared.partial.Next.TheVariants as nexts
+use Rattle.ncc_header.specs.declared.partial.Owner.{Owner}
+use Rattle.ncc_header.specs.declared.partial.Owner.TheVariants as owners
+use Rattle.ncc_header.specs.declared.partial.Parts.{Parts}
 use Rattle.ncc_header.specs.Fields.{attr, attrs, dim, dimid, list, list_nelems, name, var, version}
 use Rattle.ncc_header.specs.Grammar.{Grammar, ◌>>=◌, repeat}
 use Rattle.ncc_header.specs.Left.{Given, ended, from_attr_count, from_attr_padding, from_attr_type, from_begin, from_count, from_dims_of_var, from_dimids, from_length, from_rank, from_type, from_values, from_version, from_vsize, in_attr, in_dim, in_var, left_of, schema_of, var_list, var_of, with_attrs, with_dims, with_name}
@@ -302,7 +302,7 @@ in_magic n reach few is =
 -- ---- wherever a decoder stands
 
 -- The next field, of this size, is in this part, so many bytes behind its first one.
-pub record Located (next : Next) (b : Built) (size : ℕ) : Type 0 where
+pub record Located (next : Next) (b : Partial) (size : ℕ) : Type 0 where
   pub part : Part
   pub told : next_part next b.lists ≡ Some part
   pub into : ℕ
@@ -340,14 +340,14 @@ in_ids v text ids n m reach y few begun q =
     omega (arith, length-append (big_endian w (length more)) (flat_map (big_endian w) more), length-big_endian w (length more), length-canon_dimids v more ∙ one_more v (length more)) in
     (omega (arith, q.1.2, begun, length-canon_var v y.0 no_place, named, counted, later), omega (arith, few, begun, named, counted))
 
-pub located : (next : Next) (b : Built) (size : ℕ) → size_of (left_of next b) ≡ Some size → Located next b size
+pub located : (next : Next) (b : Partial) (size : ℕ) → size_of (left_of next b) ≡ Some size → Located next b size
 located nexts.Magic b size e =
     let is : 3 ≡ size = cc in
     record { part = parts.Magic; told = refl; into = 0; runs = λ letters f. in_magic (0 + 3) (0 + size) (omega (arith, is)) (omega arith) }
 located nexts.VersionByte b size e =
     let is : 1 ≡ size = cc in
     record { part = parts.Magic; told = refl; into = 3; runs = in_magic 3 (3 + size) (omega (arith, is)) refl }
-located nexts.RecordCount b size e =
+located nexts.NumRecs b size e =
     let v = b.lists.parts.version in
     let is : count_width_of v ≡ size = cc in
     record {
@@ -521,7 +521,7 @@ located nexts.VarType b size e =
       runs = in_this_place l g 0 (0 + size) (omega (arith, is))
           (weaken g 0 (IsVar v l.var.name l.var.dims.items l.attrs.items 0) (TheseFields v) (λ y m q. omega (arith, q.3)) (in_type v l.var.name l.var.dims.items l.attrs.items 0));
     }
-located (nexts.VarSize t) b size e =
+located (nexts.Vsize t) b size e =
     let l = b.lists in
     let v = l.parts.version in
     let is : count_width_of v ≡ size = cc in

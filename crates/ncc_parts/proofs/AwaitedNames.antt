@@ -10,14 +10,14 @@ use Rattle.ncc_schema.specs.declared.schema.Var.{Var}
 use Rattle.ncc_schema.specs.Header.{canon_attr, canon_dim}
 use Rattle.ncc_schema.specs.Names.{first_attr, first_attrs, first_dim, first_var, list_size, name_of}
 use Rattle.ncc_schema.specs.Schema.{Place}
-use Rattle.ncc_header.specs.declared.built.Built.{Built}
-use Rattle.ncc_header.specs.declared.built.Lists.{Lists}
-use Rattle.ncc_header.specs.declared.built.Named.{Named}
-use Rattle.ncc_header.specs.declared.built.Named.TheVariants as named
-use Rattle.ncc_header.specs.declared.built.Next.{Next}
-use Rattle.ncc_header.specs.declared.built.Next.TheVariants as nexts
-use Rattle.ncc_header.specs.declared.built.Owner.{Owner}
-use Rattle.ncc_header.specs.declared.built.Owner.TheVariants as owners
+use Rattle.ncc_header.specs.declared.partial.Partial.{Partial}
+use Rattle.ncc_header.specs.declared.partial.Lists.{Lists}
+use Rattle.ncc_header.specs.declared.partial.Named.{Named}
+use Rattle.ncc_header.specs.declared.partial.Named.TheVariants as named
+use Rattle.ncc_header.specs.declared.partial.Next.{Next}
+use Rattle.ncc_header.specs.declared.partial.Next.TheVariants as nexts
+use Rattle.ncc_header.specs.declared.partial.Owner.{Owner}
+use Rattle.ncc_header.specs.declared.partial.Owner.TheVariants as owners
 use Rattle.ncc_header.specs.Fields.{attr, attrs, dim, dimid, list_nelems, name}
 use Rattle.ncc_header.specs.Grammar.{Grammar, done, field, ◌>>=◌, repeat}
 use Rattle.ncc_header.specs.Left.{from_attr_count, from_attr_padding, from_attr_type, from_begin, from_dims_of_var, from_dimids, from_length, from_rank, from_type, from_values, from_vsize, in_attr, in_dim, in_var, left_of, var_list, var_of, with_attrs, with_dims, with_name}
@@ -134,10 +134,10 @@ named_around named.Var l text n = weaken (with_name named.Var l text) n Any (λ 
 
 -- ---- wherever a decoder stands
 
-pub names_known : (next : Next) (b : Built) (n : ℕ) → Runs (left_of next b) n (λ x m. AreNamesOf x.0 (next_names next b))
+pub names_known : (next : Next) (b : Partial) (n : ℕ) → Runs (left_of next b) n (λ x m. AreNamesOf x.0 (next_names next b))
 names_known nexts.Magic b n = anything (left_of nexts.Magic b) n
 names_known nexts.VersionByte b n = anything (left_of nexts.VersionByte b) n
-names_known nexts.RecordCount b n = anything (left_of nexts.RecordCount b) n
+names_known nexts.NumRecs b n = anything (left_of nexts.NumRecs b) n
 names_known nexts.DimsTag b n = anything (left_of nexts.DimsTag b) n
 names_known (nexts.DimsCount t) b n = anything (left_of (nexts.DimsCount t) b) n
 names_known (nexts.NameLength x) b n =
@@ -168,6 +168,6 @@ names_known (nexts.DimId k) b n =
     var_named l ((item ids >>= λ i. repeat item (ids ++ i ∷ []) k) >>= λ dims. from_dims_of_var v l.var.name dims) n
     (weaken (from_dimids l.parts l.var.name ids (suc k)) n (HasFirstDims v l.var.name ids n) (VarNamed l.var.name) (λ y m q. q.0) (in_dimids l.parts l.var.name ids (suc k) n))
 names_known nexts.VarType b n = var_named b.lists (from_type b.lists.parts.version b.lists.var.name b.lists.var.dims.items b.lists.attrs.items) n (named_type b.lists b.lists.attrs.items n)
-names_known (nexts.VarSize t) b n = var_named b.lists (from_vsize b.lists.parts.version (var_of b.lists t)) n (λ c f d g. refl)
+names_known (nexts.Vsize t) b n = var_named b.lists (from_vsize b.lists.parts.version (var_of b.lists t)) n (λ c f d g. refl)
 names_known (nexts.VarBegin t size) b n = var_named b.lists (from_begin b.lists.parts.version (var_of b.lists t) size) n (λ d g. refl)
 names_known nexts.Whole b n = tt

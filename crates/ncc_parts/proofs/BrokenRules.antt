@@ -15,16 +15,17 @@ use Rattle.ncc_schema.specs.Schema.{Legal, LegalDims, LegalVar, places_of}
 use Rattle.ncc_layout.specs.declared.extent.Extent.{Extent}
 use Rattle.ncc_layout.specs.declared.fault.LayoutFaultKind.{LayoutFaultKind}
 use Rattle.ncc_layout.specs.declared.fault.LayoutFaultKind.TheVariants as kinds
-use Rattle.ncc_layout.specs.Extents.{counted, end, least_begin, records_of}
-use Rattle.ncc_layout.specs.Faults.{Before}
-use Rattle.ncc_layout.specs.Rules.{ByKind, EndsBy, LastWithin}
+use Rattle.ncc_layout.specs.Extents.{number_of_records, end, least_begin, records_of}
+use Rattle.ncc_layout.specs.Rules.Overlap.{Before}
+use Rattle.ncc_layout.specs.Rules.ByKind.{ByKind, EndsBy}
+use Rattle.ncc_layout.specs.Rules.Truncated.{LastNotTruncated}
 use Rattle.ncc_layout.specs.Sizes.{record_size_of}
 use Rattle.ncc_layout.proofs.Positive.{slab_positive}
 use Rattle.ncc_check.specs.Notes.{extents_in}
 use Rattle.ncc_parts.specs.declared.broken.Broken.{Broken}
 use Rattle.ncc_parts.specs.declared.broken.Broken.TheVariants.{InHeader, Overlap, RecordWindow, FixedAfterRecords, Truncated}
 use Rattle.ncc_parts.proofs.ExtentsAt.{extents-at, short}
-use Rattle.ncc_parts.specs.Breaking.{Breaks, Keeps, broken_by, broken_if, extent_at, first_overlap, in_last_record, kind_of, last_end, no_extent, overlaps, past_file, past_records, past_window}
+use Rattle.ncc_parts.specs.Breaking.{Breaks, Keeps, broken_by, broken_if, extent_at, first_overlap, in_last_record, kind_of, last_end, no_extent, overlaps, truncated_by, fixed_after_records_by, record_window_by}
 
 -- ---- what the tests tell
 
@@ -121,7 +122,7 @@ module _ (h : Header) (file n : ℕ) where
         fails = λ keeps. omega (arith, less, keeps);
       }
 
-  window_told : (b : Broken) (least : Option ℕ) → least_begin (records_of (extents_in h)) ≡ least → past_window (record_size_of h.schema) (extent_at h n) least ≡ Some b → Told h file kinds.RecordWindow n b
+  window_told : (b : Broken) (least : Option ℕ) → least_begin (records_of (extents_in h)) ≡ least → record_window_by (record_size_of h.schema) (extent_at h n) least ≡ Some b → Told h file kinds.RecordWindow n b
   window_told b None is e = absurd cc
   window_told b (Some begin) is e =
       let x = extent_at h n in
@@ -136,7 +137,7 @@ module _ (h : Header) (file n : ℕ) where
         fails = no_window x.is_record (EndsBy size (records_of (extents_in h)) x) two.left (λ all. omega (arith, less, within_least size (records_of (extents_in h)) x begin is all));
       }
 
-  records_told : (b : Broken) (least : Option ℕ) → least_begin (records_of (extents_in h)) ≡ least → past_records (extent_at h n) least ≡ Some b → Told h file kinds.FixedAfterRecords n b
+  records_told : (b : Broken) (least : Option ℕ) → least_begin (records_of (extents_in h)) ≡ least → fixed_after_records_by (extent_at h n) least ≡ Some b → Told h file kinds.FixedAfterRecords n b
   records_told b None is e = absurd cc
   records_told b (Some begin) is e =
       let x = extent_at h n in
@@ -152,13 +153,13 @@ module _ (h : Header) (file n : ℕ) where
 
   -- the last record is in no file that ends before it
   past_told : (size : ℕ) (count : Count) (es : List Extent) (e : Extent) (t : Bool) (past : ℕ) → (if t then in_last_record size count (end e) else Some (end e)) ≡ Some past → file < past
-      → ByKind t (LastWithin file size (counted size file es count) e) (end e ≤ file) → ⊥
+      → ByKind t (LastNotTruncated file size (number_of_records size file es count) e) (end e ≤ file) → ⊥
   past_told size count es e false past is less keeps = let same : end e ≡ past = cc in omega (arith, same, less, keeps)
   past_told size (Known zero) es e true past is less keeps = absurd cc
   past_told size (Known (suc k)) es e true past is less keeps = let same : end e + k * size ≡ past = cc in omega (arith, same, less, keeps)
   past_told size Streaming es e true past is less keeps = absurd cc
 
-  file_told : (b : Broken) (last : Option ℕ) → last_end (record_size_of h.schema) h.schema.count (extent_at h n) ≡ last → past_file file last ≡ Some b → Told h file kinds.Truncated n b
+  file_told : (b : Broken) (last : Option ℕ) → last_end (record_size_of h.schema) h.schema.count (extent_at h n) ≡ last → truncated_by file last ≡ Some b → Told h file kinds.Truncated n b
   file_told b None is e = absurd cc
   file_told b (Some past) is e =
       let i = from_if (ltb file past) (Truncated past file) b e in

@@ -12,9 +12,15 @@ use Rattle.ncc_schema.specs.Schema.{places_of}
 use Rattle.ncc_layout.specs.declared.extent.Extent.{Extent}
 use Rattle.ncc_layout.specs.declared.fault.LayoutFaultKind.{LayoutFaultKind}
 use Rattle.ncc_layout.specs.declared.fault.LayoutFaultKind.TheVariants as kinds
-use Rattle.ncc_layout.specs.Extents.{counted, end, greatest_end, least_begin, record_count, records_of, streamed, LeastBegin}
-use Rattle.ncc_layout.specs.Faults.{Before, FailsFirst, FirstFault, FirstOverlap}
-use Rattle.ncc_layout.specs.Rules.{Apart, BeforeRecords, ByKind, EndsBy, InWindow, LastWithin, PastHeader, Within}
+use Rattle.ncc_layout.specs.Extents.{number_of_records, end, greatest_end, least_begin, record_count, records_of, streamed, LeastBegin}
+use Rattle.ncc_layout.specs.Rules.Overlap.{Before, FirstOverlap}
+use Rattle.ncc_layout.specs.Faults.{FailsFirst, FirstFault}
+use Rattle.ncc_layout.specs.Rules.Overlap.{Apart}
+use Rattle.ncc_layout.specs.Rules.FixedAfterRecords.{NotFixedAfterRecords}
+use Rattle.ncc_layout.specs.Rules.ByKind.{ByKind, EndsBy}
+use Rattle.ncc_layout.specs.Rules.RecordWindow.{InRecordWindow}
+use Rattle.ncc_layout.specs.Rules.Truncated.{LastNotTruncated, NotTruncated}
+use Rattle.ncc_layout.specs.Rules.InHeader.{NotInHeader}
 use Rattle.ncc_layout.specs.Sizes.{record_size_of}
 use Rattle.std.proofs.lemmas.List.{get_or_default}
 use Rattle.ncc_values.specs.declared.xtype.XType.TheVariants.{Byte}
@@ -23,7 +29,7 @@ use Rattle.ncc_layout.proofs.LeastBegins.{first_begin_is, is_least}
 use Rattle.ncc_check.specs.Notes.{extents_in}
 use Rattle.ncc_parts.specs.declared.broken.Broken.{Broken}
 use Rattle.ncc_parts.specs.declared.broken.Broken.TheVariants.{InHeader, Overlap, RecordWindow, FixedAfterRecords, Truncated}
-use Rattle.ncc_parts.specs.Breaking.{broken_by, broken_if, extent_at, first_overlap, in_last_record, no_extent, overlaps, past_file, past_records, past_window}
+use Rattle.ncc_parts.specs.Breaking.{broken_by, broken_if, extent_at, first_overlap, in_last_record, no_extent, overlaps, truncated_by, fixed_after_records_by, record_window_by}
 
 -- ---- one rule that fails
 
@@ -53,11 +59,11 @@ ends_by further b (r ∷ rs) e all le = (omega (arith, all.0, le), ends_by furth
 least : (rs : List Extent) (found : Option ℕ) → found ≡ least_begin rs → LeastBegin rs found
 least rs found is = is_least rs found (is ∙ sym (first_begin_is rs))
 
-window_told : (size : ℕ) (rs : List Extent) (e : Extent) (found : Option ℕ) → found ≡ least_begin rs → e.is_record ≡ true → (EndsBy size rs e → ⊥) → IsSome (past_window size e found)
+window_told : (size : ℕ) (rs : List Extent) (e : Extent) (found : Option ℕ) → found ≡ least_begin rs → e.is_record ≡ true → (EndsBy size rs e → ⊥) → IsSome (record_window_by size e found)
 window_told size rs e None is kind fails = absurd (fails (subst (λ xs. EndsBy size xs e) (sym (least rs None is)) tt))
 window_told size rs e (Some b) is kind fails = by_order (cases_lt (b + size) (end e))
   where
-    by_order : (b + size < end e) ⊎ (end e ≤ b + size) → IsSome (past_window size e (Some b))
+    by_order : (b + size < end e) ⊎ (end e ≤ b + size) → IsSome (record_window_by size e (Some b))
     by_order (inl less) = some_if (e.is_record && ltb (b + size) (end e)) (RecordWindow (end e) (b + size)) (both e.is_record (ltb (b + size) (end e)) kind (lt-ltb _ _ less))
     by_order (inr le) = absurd (fails (ends_by size b rs e (least rs (Some b) is).0 le))
 
@@ -65,11 +71,11 @@ is_not : (t : Bool) → t ≡ false → not t ≡ true
 is_not true e = absurd cc
 is_not false e = refl
 
-records_told : (rs : List Extent) (e : Extent) (found : Option ℕ) → found ≡ least_begin rs → e.is_record ≡ false → (EndsBy 0 rs e → ⊥) → IsSome (past_records e found)
+records_told : (rs : List Extent) (e : Extent) (found : Option ℕ) → found ≡ least_begin rs → e.is_record ≡ false → (EndsBy 0 rs e → ⊥) → IsSome (fixed_after_records_by e found)
 records_told rs e None is kind fails = absurd (fails (subst (λ xs. EndsBy 0 xs e) (sym (least rs None is)) tt))
 records_told rs e (Some b) is kind fails = by_order (cases_lt b (end e))
   where
-    by_order : (b < end e) ⊎ (end e ≤ b) → IsSome (past_records e (Some b))
+    by_order : (b < end e) ⊎ (end e ≤ b) → IsSome (fixed_after_records_by e (Some b))
     by_order (inl less) = some_if (not e.is_record && ltb b (end e)) (FixedAfterRecords (end e) b) (both (not e.is_record) (ltb b (end e)) (is_not e.is_record kind) (lt-ltb _ _ less))
     by_order (inr le) = absurd (fails (ends_by 0 b rs e (least rs (Some b) is).0 (omega (arith, le))))
 
@@ -84,7 +90,7 @@ ends_in (e ∷ es) (suc n) d lt kind = by_kind e.is_record refl (ends_in es n d 
     by_kind true is le = omega (arith, le, ap (λ b. greatest_end (if b then e ∷ records_of es else records_of es)) is)
     by_kind false is le = omega (arith, le, ap (λ b. greatest_end (if b then e ∷ records_of es else records_of es)) is)
 
-streamed_within : (size file : ℕ) (rs : List Extent) (e : Extent) → end e ≤ greatest_end rs → LastWithin file size (streamed size file rs) e
+streamed_within : (size file : ℕ) (rs : List Extent) (e : Extent) → end e ≤ greatest_end rs → LastNotTruncated file size (streamed size file rs) e
 streamed_within size file [] e le = tt
 streamed_within size file (r ∷ rs) e le = by_order (cases_lt file (greatest_end (r ∷ rs)))
   where
@@ -94,15 +100,15 @@ streamed_within size file (r ∷ rs) e le = by_order (cases_lt file (greatest_en
     more : ℕ
     more = (file - last) / size
 
-    by_order : (file < last) ⊎ (last ≤ file) → LastWithin file size (streamed size file (r ∷ rs)) e
-    by_order (inl less) = subst (λ b. LastWithin file size (if b then 0 else 1 + more) e) (sym (lt-ltb file last less)) tt
+    by_order : (file < last) ⊎ (last ≤ file) → LastNotTruncated file size (streamed size file (r ∷ rs)) e
+    by_order (inl less) = subst (λ b. LastNotTruncated file size (if b then 0 else 1 + more) e) (sym (lt-ltb file last less)) tt
     by_order (inr fits) =
-        let here : LastWithin file size (suc more) e = omega (arith, le, fits, div-mul-le_self (file - last) size) in
+        let here : LastNotTruncated file size (suc more) e = omega (arith, le, fits, div-mul-le_self (file - last) size) in
         let one : suc more ≡ 1 + more = omega arith in
-        subst (λ b. LastWithin file size (if b then 0 else 1 + more) e) (sym (le-ltb file last fits)) (subst (λ n. LastWithin file size n e) one here)
+        subst (λ b. LastNotTruncated file size (if b then 0 else 1 + more) e) (sym (le-ltb file last fits)) (subst (λ n. LastNotTruncated file size n e) one here)
 
 file_told : (size file : ℕ) (count : Count) (es : List Extent) (e : Extent) (b : Bool) → b ≡ e.is_record → (e.is_record ≡ true → end e ≤ greatest_end (records_of es))
-    → (ByKind b (LastWithin file size (counted size file es count) e) (end e ≤ file) → ⊥) → IsSome (past_file file (if b then in_last_record size count (end e) else Some (end e)))
+    → (ByKind b (LastNotTruncated file size (number_of_records size file es count) e) (end e ≤ file) → ⊥) → IsSome (truncated_by file (if b then in_last_record size count (end e) else Some (end e)))
 file_told size file count es e false is inside fails = some_if (ltb file (end e)) (Truncated (end e) file) (lt-ltb _ _ (omega (arith, fails)))
 file_told size file (Known zero) es e true is inside fails = absurd (fails tt)
 file_told size file (Known (suc n)) es e true is inside fails = some_if (ltb file (end e + n * size)) (Truncated (end e + n * size) file) (lt-ltb _ _ (omega (arith, fails)))
@@ -153,28 +159,28 @@ found e k (x ∷ es) (suc i) d lt told = by_test (overlaps x e) (found e (suc k)
 -- ---- a fault
 
 module _ (h : Header) (file : ℕ) where
-  in_header_told : (n : ℕ) → FailsFirst (PastHeader h.length) (extents_in h) n → IsSome (broken_by h file kinds.InHeader n)
+  in_header_told : (n : ℕ) → FailsFirst (NotInHeader h.length) (extents_in h) n → IsSome (broken_by h file kinds.InHeader n)
   in_header_told n f =
-      let r = at (PastHeader h.length) (extents_in h) n no_extent f in
+      let r = at (NotInHeader h.length) (extents_in h) n no_extent f in
       some_if (ltb (extent_at h n).begin h.length) (InHeader (extent_at h n).begin h.length) (lt-ltb _ _ (let fails : (h.length ≤ (extent_at h n).begin) → ⊥ = r.fails in omega (arith, fails)))
 
-  record_window_told : (n : ℕ) → FailsFirst (InWindow (record_size_of h.schema) (extents_in h)) (extents_in h) n → IsSome (broken_by h file kinds.RecordWindow n)
-  record_window_told n f = by_kind (extent_at h n).is_record refl (at (InWindow (record_size_of h.schema) (extents_in h)) (extents_in h) n no_extent f).fails
+  record_window_told : (n : ℕ) → FailsFirst (InRecordWindow (record_size_of h.schema) (extents_in h)) (extents_in h) n → IsSome (broken_by h file kinds.RecordWindow n)
+  record_window_told n f = by_kind (extent_at h n).is_record refl (at (InRecordWindow (record_size_of h.schema) (extents_in h)) (extents_in h) n no_extent f).fails
     where
       by_kind : (b : Bool) → b ≡ (extent_at h n).is_record → (ByKind b (EndsBy (record_size_of h.schema) (records_of (extents_in h)) (extent_at h n)) (Unit {0}) → ⊥) → IsSome (broken_by h file kinds.RecordWindow n)
       by_kind true is fails = window_told (record_size_of h.schema) (records_of (extents_in h)) (extent_at h n) (least_begin (records_of (extents_in h))) refl (sym is) fails
       by_kind false is fails = absurd (fails tt)
 
-  after_records_told : (n : ℕ) → FailsFirst (BeforeRecords (extents_in h)) (extents_in h) n → IsSome (broken_by h file kinds.FixedAfterRecords n)
-  after_records_told n f = by_kind (extent_at h n).is_record refl (at (BeforeRecords (extents_in h)) (extents_in h) n no_extent f).fails
+  fixed_after_records_told : (n : ℕ) → FailsFirst (NotFixedAfterRecords (extents_in h)) (extents_in h) n → IsSome (broken_by h file kinds.FixedAfterRecords n)
+  fixed_after_records_told n f = by_kind (extent_at h n).is_record refl (at (NotFixedAfterRecords (extents_in h)) (extents_in h) n no_extent f).fails
     where
       by_kind : (b : Bool) → b ≡ (extent_at h n).is_record → (ByKind b (Unit {0}) (EndsBy 0 (records_of (extents_in h)) (extent_at h n)) → ⊥) → IsSome (broken_by h file kinds.FixedAfterRecords n)
       by_kind true is fails = absurd (fails tt)
       by_kind false is fails = records_told (records_of (extents_in h)) (extent_at h n) (least_begin (records_of (extents_in h))) refl (sym is) fails
 
-  truncated_told : (n : ℕ) → FailsFirst (Within file (record_size_of h.schema) (record_count h.schema (places_of h.places) file)) (extents_in h) n → IsSome (broken_by h file kinds.Truncated n)
+  truncated_told : (n : ℕ) → FailsFirst (NotTruncated file (record_size_of h.schema) (record_count h.schema (places_of h.places) file)) (extents_in h) n → IsSome (broken_by h file kinds.Truncated n)
   truncated_told n f =
-      let r = at (Within file (record_size_of h.schema) (record_count h.schema (places_of h.places) file)) (extents_in h) n no_extent f in
+      let r = at (NotTruncated file (record_size_of h.schema) (record_count h.schema (places_of h.places) file)) (extents_in h) n no_extent f in
       file_told (record_size_of h.schema) file h.schema.count (extents_in h) (extent_at h n) (extent_at h n).is_record refl (ends_in (extents_in h) n no_extent r.there) r.fails
 
 -- ---- an overlap
@@ -236,5 +242,5 @@ fault_told h file kinds.TooLarge n placed f other = absurd (other refl)
 fault_told h file kinds.InHeader n placed f other = in_header_told h file n f.1
 fault_told h file kinds.Overlap n placed f other = overlap_told h file n (long h.schema.dims 0 h.schema.vars (places_of h.places) placed) placed f.1.1
 fault_told h file kinds.RecordWindow n placed f other = record_window_told h file n f.1.3
-fault_told h file kinds.FixedAfterRecords n placed f other = after_records_told h file n f.1.4
+fault_told h file kinds.FixedAfterRecords n placed f other = fixed_after_records_told h file n f.1.4
 fault_told h file kinds.Truncated n placed f other = truncated_told h file n f.1.5

@@ -15,7 +15,7 @@ use Rattle.ncc_schema.specs.declared.schema.Dim.{Dim}
 use Rattle.ncc_schema.specs.declared.schema.Schema.{Schema}
 use Rattle.ncc_schema.specs.declared.schema.Var.{Var}
 use Rattle.ncc_schema.specs.Schema.{Place}
-use Rattle.ncc_schema.specs.Header.{nc_dimension, nc_attribute, nc_variable, counted, canon_name, canon_head, canon_dim, canon_attr, canon_dimids}
+use Rattle.ncc_schema.specs.Header.{nc_dimension, nc_attribute, nc_variable, numrecs_word, canon_name, canon_head, canon_dim, canon_attr, canon_dimids}
 use Rattle.ncc_schema.specs.Names.{HasName, attr_in, attrs_in, before, canon_unplaced, first_attrs, list_size, name_at, no_place, var_at}
 use Rattle.ncc_schema.proofs.Sizes.{before-placed, length-canon_attr, length-canon_dim, length-canon_head, length-canon_list, length-canon_var}
 use Rattle.ncc_header.specs.declared.part.Part.{Part}
@@ -217,11 +217,11 @@ module _ (s : Schema) where
   pub to_dims : (o m : ℕ) → o ≡ 4 + count_width_of v + list_size v + m → part_at o (parts_of s) ≡ part_at m (dims_from v 0 s.dims ++ globals_part)
   to_dims o m is =
       let w = count_width_of v in
-      let number = big_endian w (counted v s.count) in
+      let number = big_endian w (numrecs_word v s.count) in
       let head = canon_head v nc_dimension (length s.dims) in
       let dims = dims_from v 0 s.dims ++ globals_part in
       past o (w + (list_size v + m)) parts.Magic (magic_bytes v) ((parts.NumRecs, number) ∷ (parts.DimList, head) ∷ dims) (omega (arith, is, length-big_endian 1 (byte_of v)))
-      ∙ past (w + (list_size v + m)) (list_size v + m) parts.NumRecs number ((parts.DimList, head) ∷ dims) (omega (arith, length-big_endian w (counted v s.count)))
+      ∙ past (w + (list_size v + m)) (list_size v + m) parts.NumRecs number ((parts.DimList, head) ∷ dims) (omega (arith, length-big_endian w (numrecs_word v s.count)))
       ∙ past (list_size v + m) m parts.DimList head dims (omega (arith, length-canon_head v nc_dimension (length s.dims)))
 
   pub to_globals : (o m : ℕ) → o ≡ 4 + count_width_of v + list_size v + (length (flat_map (canon_dim v) s.dims) + (list_size v + m)) → part_at o (parts_of s) ≡ part_at m (globals_from v 0 s.gatts ++ vars_part)
@@ -289,12 +289,12 @@ module _ (s : Schema) where
     pub dims_head : (m : ℕ) → 0 < m → m ≤ list_size v → part_at (name_at s places (of.Dim 0) - m) (parts_of s) ≡ Some parts.DimList
     dims_head m some few =
         let w = count_width_of v in
-        let number = big_endian w (counted v s.count) in
+        let number = big_endian w (numrecs_word v s.count) in
         let head = canon_head v nc_dimension (length s.dims) in
         let dims = dims_from v 0 s.dims ++ globals_part in
         let o = list_size v - m in
         past (name_at s places (of.Dim 0) - m) (w + o) parts.Magic (magic_bytes v) ((parts.NumRecs, number) ∷ (parts.DimList, head) ∷ dims) (omega (arith, some, few, length-big_endian 1 (byte_of v), nothing (canon_dim v) s.dims 0))
-        ∙ past (w + o) o parts.NumRecs number ((parts.DimList, head) ∷ dims) (omega (arith, length-big_endian w (counted v s.count)))
+        ∙ past (w + o) o parts.NumRecs number ((parts.DimList, head) ∷ dims) (omega (arith, length-big_endian w (numrecs_word v s.count)))
         ∙ here o parts.DimList head dims (omega (arith, some, few, length-canon_head v nc_dimension (length s.dims)))
 
     pub globals_head : (m : ℕ) → 0 < m → m ≤ list_size v → part_at (name_at s places (of.Global 0) - m) (parts_of s) ≡ Some parts.GlobalList
@@ -335,14 +335,14 @@ module _ (s : Schema) where
 
   pub magic : (o : ℕ) → o < 4 → part_at o (parts_of s) ≡ Some parts.Magic
   magic o few =
-      let number = big_endian (count_width_of v) (counted v s.count) in
+      let number = big_endian (count_width_of v) (numrecs_word v s.count) in
       let rest = (parts.NumRecs, number) ∷ (parts.DimList, canon_head v nc_dimension (length s.dims)) ∷ (dims_from v 0 s.dims ++ globals_part) in
       here o parts.Magic (magic_bytes v) rest (omega (arith, few, length-big_endian 1 (byte_of v)))
 
   pub numrecs : (o : ℕ) → o < count_width_of v → part_at (4 + o) (parts_of s) ≡ Some parts.NumRecs
   numrecs o few =
       let w = count_width_of v in
-      let number = big_endian w (counted v s.count) in
+      let number = big_endian w (numrecs_word v s.count) in
       let rest = (parts.DimList, canon_head v nc_dimension (length s.dims)) ∷ (dims_from v 0 s.dims ++ globals_part) in
       past (4 + o) o parts.Magic (magic_bytes v) ((parts.NumRecs, number) ∷ rest) (omega (arith, length-big_endian 1 (byte_of v)))
-      ∙ here o parts.NumRecs number rest (omega (arith, few, length-big_endian w (counted v s.count)))
+      ∙ here o parts.NumRecs number rest (omega (arith, few, length-big_endian w (numrecs_word v s.count)))

@@ -11,4 +11,4 @@ mod Remaining
 mod Awaited
 mod AwaitedNames
 mod NextPart
-mod ToldStanding
+mod ToldState

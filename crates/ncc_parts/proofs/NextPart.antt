@@ -11,7 +11,7 @@ use Rattle.ncc_header.specs.Fields.{header}
 use Rattle.ncc_header.specs.Grammar.{Grammar, done, field, reads, read}
 use Rattle.ncc_header.specs.Left.{Given}
 use Rattle.ncc_header.specs.Reading.{Course, held_of, next_of}
-use Rattle.ncc_header.specs.Standing.{HasTaken}
+use Rattle.ncc_header.specs.State.{HasTaken}
 use Rattle.ncc_header.specs.Steps.{size_of}
 use Rattle.ncc_header.proofs.GrammarLaws.{spelled-is_read}
 use Rattle.ncc_header.proofs.HeaderLaws.{fields_spell, length_is_canonical}
@@ -45,22 +45,22 @@ as_long h input limit b =
     ∙ sym (length-canon s (unplaced s.vars) (length-map s.vars (λ x. no_place)))
 
 pub in_next_part : (r : Reading) (taken more : List ℕ) (h : Header) → HasTaken r taken → Begins (taken ++ more) r.limit h → length taken < h.length
-    → part_at (length taken) (parts_of h.schema) ≡ next_part r.next r.built.lists
+    → part_at (length taken) (parts_of h.schema) ≡ next_part r.next r.partial.lists
 in_next_part r taken more h t b lt = by_size (size_of (next_of r)) refl
   where
-    by_size : (size : Option ℕ) → size_of (next_of r) ≡ size → part_at (length taken) (parts_of h.schema) ≡ next_part r.next r.built.lists
+    by_size : (size : Option ℕ) → size_of (next_of r) ≡ size → part_at (length taken) (parts_of h.schema) ≡ next_part r.next r.partial.lists
     by_size None e =
         let ended = ends_there (next_of r) r.limit r.at (held_of r ++ more) (h.schema, places_of h.places) (0 + length b.front) b.rest e (left_reads r taken more h t b) in
         absurd (omega (arith, ended, lt, b.long, t.long))
     by_size (Some n) e =
-        let l = located r.next r.built n e in
+        let l = located r.next r.partial n e in
         let w = of_read (next_of r) r.limit r.at l.into (held_of r ++ more) (h.schema, places_of h.places) (0 + length b.front) b.rest (InPart l.part (l.into + n)) l.runs (left_reads r taken more h t b) in
         let at : w.1.start + l.into ≡ r.at = omega (arith, w.0, w.1.total, as_long h (taken ++ more) r.limit b, b.long) in
         let place : length taken ≡ w.1.start + (l.into + length (held_of r)) = omega (arith, at, t.long) in
         ap (λ k. part_at k (parts_of h.schema)) place
-        ∙ w.1.is_in (l.into + length (held_of r)) (omega (arith, t.partial n e))
+        ∙ w.1.is_in (l.into + length (held_of r)) (omega (arith, t.still_short n e))
         ∙ sym l.told
 
-pub names_of_next : (r : Reading) (taken more : List ℕ) (h : Header) → HasTaken r taken → Begins (taken ++ more) r.limit h → AreNamesOf h.schema (next_names r.next r.built)
+pub names_of_next : (r : Reading) (taken more : List ℕ) (h : Header) → HasTaken r taken → Begins (taken ++ more) r.limit h → AreNamesOf h.schema (next_names r.next r.partial)
 names_of_next r taken more h t b =
-    (of_read (next_of r) r.limit r.at 0 (held_of r ++ more) (h.schema, places_of h.places) (0 + length b.front) b.rest (λ x m. AreNamesOf x.0 (next_names r.next r.built)) (names_known r.next r.built 0) (left_reads r taken more h t b)).1
+    (of_read (next_of r) r.limit r.at 0 (held_of r ++ more) (h.schema, places_of h.places) (0 + length b.front) b.rest (λ x m. AreNamesOf x.0 (next_names r.next r.partial)) (names_known r.next r.partial 0) (left_reads r taken more h t b)).1

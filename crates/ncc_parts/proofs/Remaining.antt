@@ -12,8 +12,8 @@ use Rattle.ncc_schema.specs.Header.{nc_variable, canon_attr, canon_var}
 use Rattle.ncc_schema.specs.Names.{canon_unplaced, list_size, no_place}
 use Rattle.ncc_schema.specs.Schema.{Place, places_of, place_of}
 use Rattle.ncc_schema.proofs.Sizes.{length-canon_var}
-use Rattle.ncc_header.specs.declared.built.Parts.{Parts}
-use Rattle.ncc_header.specs.declared.built.Vars.{Vars}
+use Rattle.ncc_header.specs.declared.partial.Parts.{Parts}
+use Rattle.ncc_header.specs.declared.partial.Vars.{Vars}
 use Rattle.ncc_header.specs.Fields.{attrs, list, var}
 use Rattle.ncc_header.specs.Grammar.{Grammar, done, ◌>>=◌, repeat}
 use Rattle.ncc_header.specs.Left.{Given, before_of, ended, in_var, schema_of, var_list, with_dims}

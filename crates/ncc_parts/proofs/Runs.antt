@@ -25,7 +25,7 @@ use Rattle.ncc_header.specs.declared.fault.FaultKind.{FaultKind}
 use Rattle.ncc_header.specs.declared.fault.FaultKind.TheVariants.{HeaderTooLong, EndsEarly}
 use Rattle.ncc_header.specs.declared.fault.Wrong.{Wrong}
 use Rattle.ncc_header.specs.Grammar.{Grammar, done, field, reads, stops, read, unless_wrong, ◌>>=◌, repeat}
-use Rattle.ncc_header.specs.declared.built.Parts.{Parts}
+use Rattle.ncc_header.specs.declared.partial.Parts.{Parts}
 use Rattle.ncc_header.specs.Left.{from_vsize, from_type, from_dims_of_var, from_dimids, from_rank}
 use Rattle.ncc_header.specs.Fields.{name, dim, dim_length, nc_type, nelems, values, padding, attr, attrs, list_head, list, dimid, dimids, var}
 

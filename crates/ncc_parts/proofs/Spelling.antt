@@ -12,7 +12,7 @@ use Rattle.ncc_schema.specs.declared.schema.Dim.{Dim}
 use Rattle.ncc_schema.specs.declared.schema.Schema.{Schema}
 use Rattle.ncc_schema.specs.declared.schema.Var.{Var}
 use Rattle.ncc_schema.specs.Schema.{Place}
-use Rattle.ncc_schema.specs.Header.{nc_dimension, nc_attribute, nc_variable, counted, canon_name, canon_head, canon_list, canon_dim, canon_attr, canon_dimids, canon_var, canon}
+use Rattle.ncc_schema.specs.Header.{nc_dimension, nc_attribute, nc_variable, numrecs_word, canon_name, canon_head, canon_list, canon_dim, canon_attr, canon_dimids, canon_var, canon}
 use Rattle.ncc_schema.specs.Names.{attrs_in, canon_unplaced, list_size, no_place, unplaced}
 use Rattle.ncc_schema.proofs.Sizes.{length-canon, length-canon_head, length-canon_list, length-canon_var}
 use Rattle.ncc_values.specs.BigEndian.{length-big_endian}
@@ -79,7 +79,7 @@ header_spells s =
     let v = s.version in
     let globals = (parts.VarList, canon_head v nc_variable (length s.vars)) ∷ vars_from v 0 s.vars in
     let dims = (parts.GlobalList, canon_head v nc_attribute (length s.gatts)) ∷ (globals_from v 0 s.gatts ++ globals) in
-    ap (λ xs. magic_bytes v ++ (big_endian (count_width_of v) (counted v s.count) ++ xs))
+    ap (λ xs. magic_bytes v ++ (big_endian (count_width_of v) (numrecs_word v s.count) ++ xs))
     (list_spells v nc_dimension (canon_dim v) s.dims parts.DimList (dims_from v 0 s.dims) dims (dims_spell v 0 s.dims)
     ∙ ap (λ xs. canon_list v nc_dimension (canon_dim v) s.dims ++ xs)
     (list_spells v nc_attribute (canon_attr v) s.gatts parts.GlobalList (globals_from v 0 s.gatts) globals (globals_spell v 0 s.gatts)
@@ -172,8 +172,8 @@ all_ends s =
     let vars = vars_from v 0 s.vars in
     let vars_part = (parts.VarList, canon_head v nc_variable (length s.vars)) ∷ vars in
     let globals_part = (parts.GlobalList, canon_head v nc_attribute (length s.gatts)) ∷ (globals ++ vars_part) in
-    let numbers = big_endian w (counted v s.count) in
-    let width = length-big_endian w (counted v s.count) in
+    let numbers = big_endian w (numrecs_word v s.count) in
+    let width = length-big_endian w (numrecs_word v s.count) in
     let e1 : 4 + length numbers ≡ 4 + w = omega (arith, width) in
     let e2 : 4 + length numbers + length (canon_head v nc_dimension (length s.dims)) ≡ dims_begin s = omega (arith, width, length-canon_head v nc_dimension (length s.dims)) in
     let e3 : dims_begin s + length (spelling dims) + length (canon_head v nc_attribute (length s.gatts)) ≡ globals_begin s =

@@ -11,7 +11,7 @@ use Rattle.ncc_schema.specs.declared.schema.Attr.{Attr}
 use Rattle.ncc_schema.specs.declared.schema.Dim.{Dim}
 use Rattle.ncc_schema.specs.declared.schema.Schema.{Schema}
 use Rattle.ncc_schema.specs.declared.schema.Var.{Var}
-use Rattle.ncc_schema.specs.Header.{nc_dimension, nc_attribute, nc_variable, counted, canon_name, canon_head, canon_dim, canon_attr, canon_dimids}
+use Rattle.ncc_schema.specs.Header.{nc_dimension, nc_attribute, nc_variable, numrecs_word, canon_name, canon_head, canon_dim, canon_attr, canon_dimids}
 use Rattle.ncc_schema.specs.Names.{attrs_in, before, canon_unplaced, gatts_at, header_length, list_size, name_at, no_place, unplaced, var_at, vars_at}
 use Rattle.ncc_schema.proofs.Sizes.{before-placed, length-canon, length-canon_head, length-canon_list, length-canon_var}
 use Rattle.ncc_header.specs.declared.part.Part.{Part}
@@ -83,13 +83,13 @@ module _ (s : Schema) where
   lists_part = (parts.DimList, canon_head s.version nc_dimension (length s.dims)) ∷ dims_part
 
   abbrev numrecs_part : List (Part × List ℕ)
-  numrecs_part = (parts.NumRecs, big_endian (count_width_of s.version) (counted s.version s.count)) ∷ lists_part
+  numrecs_part = (parts.NumRecs, big_endian (count_width_of s.version) (numrecs_word s.version s.count)) ∷ lists_part
 
   four_bytes : length (magic_bytes s.version) ≡ 4
   four_bytes = omega (arith, length-big_endian 1 (byte_of s.version))
 
-  numrecs_size : length (big_endian (count_width_of s.version) (counted s.version s.count)) ≡ count_width_of s.version
-  numrecs_size = length-big_endian (count_width_of s.version) (counted s.version s.count)
+  numrecs_size : length (big_endian (count_width_of s.version) (numrecs_word s.version s.count)) ≡ count_width_of s.version
+  numrecs_size = length-big_endian (count_width_of s.version) (numrecs_word s.version s.count)
 
   pub within_magic : (reach rest : ℕ) → reach ≤ 4 → rest ≡ header_length s → Within parts.Magic reach s rest
   within_magic reach rest few is = record {
@@ -104,7 +104,7 @@ module _ (s : Schema) where
     total = is;
     is_in = λ o lt.
         past (4 + o) o parts.Magic (magic_bytes s.version) numrecs_part (omega (arith, four_bytes))
-        ∙ here o parts.NumRecs (big_endian (count_width_of s.version) (counted s.version s.count)) lists_part (omega (arith, lt, few, numrecs_size));
+        ∙ here o parts.NumRecs (big_endian (count_width_of s.version) (numrecs_word s.version s.count)) lists_part (omega (arith, lt, few, numrecs_size));
   }
 
   pub within_dim_list : (reach rest : ℕ) → reach ≤ list_size s.version → 4 + count_width_of s.version + rest ≡ header_length s → Within parts.DimList reach s rest
@@ -115,7 +115,7 @@ module _ (s : Schema) where
         total = is;
         is_in = λ o lt.
             past (4 + w + o) (w + o) parts.Magic (magic_bytes s.version) numrecs_part (omega (arith, four_bytes))
-            ∙ past (w + o) o parts.NumRecs (big_endian w (counted s.version s.count)) lists_part (omega (arith, numrecs_size))
+            ∙ past (w + o) o parts.NumRecs (big_endian w (numrecs_word s.version s.count)) lists_part (omega (arith, numrecs_size))
             ∙ here o parts.DimList (canon_head s.version nc_dimension (length s.dims)) dims_part (omega (arith, lt, few, length-canon_head s.version nc_dimension (length s.dims)));
       }
 

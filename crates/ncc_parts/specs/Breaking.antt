@@ -8,8 +8,12 @@ use Rattle.ncc_layout.specs.declared.fault.LayoutFaultKind.{LayoutFaultKind}
 use Rattle.ncc_layout.specs.declared.fault.LayoutFaultKind.TheVariants as kinds
 use Rattle.ncc_schema.specs.Schema.{places_of}
 use Rattle.ncc_layout.specs.Extents.{end, least_begin, record_count, records_of}
-use Rattle.ncc_layout.specs.Rules.{Apart, BeforeRecords, InWindow, PastHeader, Within}
-use Rattle.ncc_layout.specs.Faults.{Before}
+use Rattle.ncc_layout.specs.Rules.Overlap.{Apart}
+use Rattle.ncc_layout.specs.Rules.FixedAfterRecords.{NotFixedAfterRecords}
+use Rattle.ncc_layout.specs.Rules.RecordWindow.{InRecordWindow}
+use Rattle.ncc_layout.specs.Rules.InHeader.{NotInHeader}
+use Rattle.ncc_layout.specs.Rules.Truncated.{NotTruncated}
+use Rattle.ncc_layout.specs.Rules.Overlap.{Before}
 use Rattle.ncc_layout.specs.Sizes.{record_size_of}
 use Rattle.ncc_check.specs.Notes.{extents_in}
 use Rattle.ncc_parts.specs.declared.broken.Broken.{Broken}
@@ -56,27 +60,27 @@ first_overlap e n (d ∷ es) = if overlaps d e then Some (Overlap e.begin n (end
 abbrev pub overlap : Header → (number : ℕ) → Option Broken
 overlap h n = first_overlap (extent_at h n) 0 (extents_in h)
 
-abbrev pub past_window : (record_size : ℕ) → Extent → (records : Option ℕ) → Option Broken
-past_window size e None = None
-past_window size e (Some b) = broken_if (e.is_record && ltb (b + size) (end e)) (RecordWindow (end e) (b + size))
+abbrev pub record_window_by : (record_size : ℕ) → Extent → (records : Option ℕ) → Option Broken
+record_window_by size e None = None
+record_window_by size e (Some b) = broken_if (e.is_record && ltb (b + size) (end e)) (RecordWindow (end e) (b + size))
 
 abbrev pub record_window : Header → (number : ℕ) → Option Broken
 record_window h n =
-    past_window (record_size_of h.schema) (extent_at h n) (least_begin (records_of (extents_in h)))
+    record_window_by (record_size_of h.schema) (extent_at h n) (least_begin (records_of (extents_in h)))
 
-abbrev pub past_records : Extent → (records : Option ℕ) → Option Broken
-past_records e None = None
-past_records e (Some b) = broken_if (not e.is_record && ltb b (end e)) (FixedAfterRecords (end e) b)
+abbrev pub fixed_after_records_by : Extent → (records : Option ℕ) → Option Broken
+fixed_after_records_by e None = None
+fixed_after_records_by e (Some b) = broken_if (not e.is_record && ltb b (end e)) (FixedAfterRecords (end e) b)
 
-abbrev pub after_records : Header → (number : ℕ) → Option Broken
-after_records h n = past_records (extent_at h n) (least_begin (records_of (extents_in h)))
+abbrev pub fixed_after_records : Header → (number : ℕ) → Option Broken
+fixed_after_records h n = fixed_after_records_by (extent_at h n) (least_begin (records_of (extents_in h)))
 
-abbrev pub past_file : (file : ℕ) → (last : Option ℕ) → Option Broken
-past_file file None = None
-past_file file (Some past) = broken_if (ltb file past) (Truncated past file)
+abbrev pub truncated_by : (file : ℕ) → (last : Option ℕ) → Option Broken
+truncated_by file None = None
+truncated_by file (Some past) = broken_if (ltb file past) (Truncated past file)
 
 abbrev pub truncated : Header → (file number : ℕ) → Option Broken
-truncated h file n = past_file file (last_end (record_size_of h.schema) h.schema.count (extent_at h n))
+truncated h file n = truncated_by file (last_end (record_size_of h.schema) h.schema.count (extent_at h n))
 
 -- the numbers by which a rule fails for a variable in a file of this length, where it does; a variable that is too large
 -- has none
@@ -85,7 +89,7 @@ broken_by h file kinds.TooLarge n = None
 broken_by h file kinds.InHeader n = in_header h n
 broken_by h file kinds.Overlap n = overlap h n
 broken_by h file kinds.RecordWindow n = record_window h n
-broken_by h file kinds.FixedAfterRecords n = after_records h n
+broken_by h file kinds.FixedAfterRecords n = fixed_after_records h n
 broken_by h file kinds.Truncated n = truncated h file n
 
 -- ---- what they say
@@ -101,13 +105,13 @@ kind_of (Truncated past file) = kinds.Truncated
 -- the layout rule of this kind, for a variable in a file of this length; a variable that is too large has none here
 abbrev pub Keeps : Header → (file : ℕ) → LayoutFaultKind → (number : ℕ) → Type 0
 Keeps h file kinds.TooLarge n = Unit {0}
-Keeps h file kinds.InHeader n = PastHeader h.length (extent_at h n)
+Keeps h file kinds.InHeader n = NotInHeader h.length (extent_at h n)
 Keeps h file kinds.Overlap n = (d : Extent) → Contains (extents_in h) d → Before d (extent_at h n)
     → d.is_record ≡ (extent_at h n).is_record → Apart d (extent_at h n)
-Keeps h file kinds.RecordWindow n = InWindow (record_size_of h.schema) (extents_in h) (extent_at h n)
-Keeps h file kinds.FixedAfterRecords n = BeforeRecords (extents_in h) (extent_at h n)
+Keeps h file kinds.RecordWindow n = InRecordWindow (record_size_of h.schema) (extents_in h) (extent_at h n)
+Keeps h file kinds.FixedAfterRecords n = NotFixedAfterRecords (extents_in h) (extent_at h n)
 Keeps h file kinds.Truncated n =
-    Within file (record_size_of h.schema) (record_count h.schema (places_of h.places) file) (extent_at h n)
+    NotTruncated file (record_size_of h.schema) (record_count h.schema (places_of h.places) file) (extent_at h n)
 
 -- the numbers are those of this variable, in a file of this length, and the first reaches past the second, or not to it
 abbrev pub Breaks : Header → (file number : ℕ) → Broken → Type 0

@@ -13,7 +13,7 @@ use Rattle.ncc_schema.specs.declared.schema.Dim.{Dim}
 use Rattle.ncc_schema.specs.declared.schema.Schema.{Schema}
 use Rattle.ncc_schema.specs.declared.schema.Var.{Var}
 use Rattle.ncc_schema.specs.Schema.{Place}
-use Rattle.ncc_schema.specs.Header.{nc_dimension, nc_attribute, nc_variable, counted, canon_name, canon_head, canon_dim, canon_attr, canon_dimids}
+use Rattle.ncc_schema.specs.Header.{nc_dimension, nc_attribute, nc_variable, numrecs_word, canon_name, canon_head, canon_dim, canon_attr, canon_dimids}
 use Rattle.ncc_schema.specs.Names.{first_attrs, no_place}
 use Rattle.ncc_header.specs.declared.part.Part.{Part}
 use Rattle.ncc_header.specs.declared.part.Part.TheVariants as parts
@@ -58,7 +58,7 @@ magic_bytes v = 0x43 ∷ 0x44 ∷ 0x46 ∷ big_endian 1 (byte_of v)
 abbrev pub parts_of : Schema → List (Part × List ℕ)
 parts_of s =
     (parts.Magic, magic_bytes s.version)
-    ∷ (parts.NumRecs, big_endian (count_width_of s.version) (counted s.version s.count))
+    ∷ (parts.NumRecs, big_endian (count_width_of s.version) (numrecs_word s.version s.count))
     ∷ (parts.DimList, canon_head s.version nc_dimension (length s.dims))
     ∷ (dims_from s.version 0 s.dims ++ (parts.GlobalList, canon_head s.version nc_attribute (length s.gatts))
     ∷ (globals_from s.version 0 s.gatts ++ (parts.VarList, canon_head s.version nc_variable (length s.vars))

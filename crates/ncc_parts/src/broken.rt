@@ -3,7 +3,7 @@
 ghost use Rattle.std.specs.Prelude.{◌≡◌, ◌+◌, ◌<◌, ◌==◌, length, position};
 ghost use Rattle.ncc_schema.specs.Schema.{Legal, places_of};
 ghost use Rattle.ncc_layout.specs.Sizes.{AreSizes};
-ghost use Rattle.ncc_parts.specs.Breaking.{after_records, broken_by, in_header, in_last_record, last_end, overlap, overlaps, record_window, truncated};
+ghost use Rattle.ncc_parts.specs.Breaking.{fixed_after_records, broken_by, in_header, in_last_record, last_end, overlap, overlaps, record_window, truncated};
 
 use crate::extents::{extent_of, records_begin};
 use ncc_header::{Count, Header, VarPlace};
@@ -96,11 +96,11 @@ fn record_window(header: &Header, sizes: &Sizes, number: usize) -> Option<Broken
 }
 
 /// Whether the variable is fixed and ends past the begin of the records.
-fn after_records(header: &Header, sizes: &Sizes, number: usize) -> Option<Broken>
+fn fixed_after_records(header: &Header, sizes: &Sizes, number: usize) -> Option<Broken>
     requires legal { Legal header.now.schema (places_of header.now.places) }
     requires sizes { AreSizes header.now.schema sizes.now }
     requires there { number < length header.now.schema.vars }
-    ensures { result ≡ after_records header.now number }
+    ensures { result ≡ fixed_after_records header.now number }
 {
     let extent = extent_of(header, sizes, number);
     let records = records_begin(header, sizes)?;
@@ -169,7 +169,7 @@ pub fn broken_by(
         LayoutFaultKind::InHeader => in_header(header, sizes, number),
         LayoutFaultKind::Overlap => overlap(header, sizes, number),
         LayoutFaultKind::RecordWindow => record_window(header, sizes, number),
-        LayoutFaultKind::FixedAfterRecords => after_records(header, sizes, number),
+        LayoutFaultKind::FixedAfterRecords => fixed_after_records(header, sizes, number),
         LayoutFaultKind::Truncated => truncated(header, sizes, file, number),
     }
 }

@@ -6,11 +6,11 @@ mod extents;
 pub mod laws;
 mod part;
 mod pieces;
-mod standing;
+mod state;
 
 pub use broken::{Broken, broken_by, variable_at};
 pub use extents::{extent_of, records_begin};
 pub use ncc_header::{Part, Unfinished};
 pub use part::{Piece, part_of};
 pub use pieces::pieces_of;
-pub use standing::unfinished;
+pub use state::unfinished;

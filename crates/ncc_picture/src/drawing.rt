@@ -8,7 +8,7 @@ ghost use Rattle.ncc_answers.specs.Answers.{Fails};
 ghost use Rattle.ncc_picture.specs.Pictures.{Pictures};
 
 use crate::whole::picture_text;
-use ncc_answers::{Answer, answered};
+use ncc_answers::{Answer, answer_of_sent};
 use ncc_check::{Refusal, laws};
 use ncc_header::Sink;
 use ncc_header::laws::header_or_stop;
@@ -37,10 +37,10 @@ pub fn picture_engine<S: Store, W: Sink>(
     laws::passing_has_no_fault();
     match measure(alloc, store, limit) {
         Ok(file) => match picture_text(alloc, &file) {
-            Ok(text) => answered(send_text(&text, sink), Answer::Passed),
+            Ok(text) => answer_of_sent(send_text(&text, sink), Answer::Passed),
             Err(_) => Answer::Memory,
         },
-        Err(Refusal::Fault(fault)) => answered(send_file_fault(fault, sink), Answer::Refused),
+        Err(Refusal::Fault(fault)) => answer_of_sent(send_file_fault(fault, sink), Answer::Refused),
         Err(Refusal::Device) => Answer::Device,
         Err(Refusal::Memory) => Answer::Memory,
     }

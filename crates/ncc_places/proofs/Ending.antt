@@ -11,7 +11,7 @@ use Rattle.ncc_schema.specs.Schema.{Place, LegalDims, LegalVar, Sound, is_record
 use Rattle.ncc_values.specs.declared.version.Version.{Version}
 use Rattle.ncc_layout.specs.declared.extent.Extent.{Extent}
 use Rattle.ncc_layout.specs.Bounds.{records_by}
-use Rattle.ncc_layout.specs.Extents.{counted, extent_of, extents_from, extents_of, greatest_end, least_begin, records_of, streamed}
+use Rattle.ncc_layout.specs.Extents.{number_of_records, extent_of, extents_from, extents_of, greatest_end, least_begin, records_of, streamed}
 use Rattle.ncc_layout.specs.Sizes.{record_bytes, record_size_of, record_vars, slab, up}
 use Rattle.ncc_layout.proofs.Positive.{slab_positive}
 use Rattle.ncc_places.specs.Ends.{known_or, last_end, records_from, records_with}
@@ -23,16 +23,16 @@ streamed_is size file begin [] is = absurd cc
 streamed_is size file begin (e ∷ es) is = refl
 
 pub count_is : (size file begin : ℕ) (es : List Extent) (count : Count) → least_begin (records_of es) ≡ Some begin
-    → known_or count (records_by (greatest_end (records_of es)) size file) ≡ counted size file es count
+    → known_or count (records_by (greatest_end (records_of es)) size file) ≡ number_of_records size file es count
 count_is size file begin es (Known n) is = refl
 count_is size file begin es Streaming is = streamed_is size file begin (records_of es) is
 
 -- the numbers that were found are those of the records
 pub records_are : (size file begin : ℕ) (es : List Extent) (count : Count) (z last n past : ℕ) → least_begin (records_of es) ≡ Some begin
     → z ≡ size → last ≡ greatest_end (records_of es) → n ≡ known_or count (records_by last z file) → past ≡ last_end z n begin last
-    → Some (record { count = n; begin = begin; size = z; end = past }) ≡ records_with size (counted size file es count) (records_of es)
+    → Some (record { count = n; begin = begin; size = z; end = past }) ≡ records_with size (number_of_records size file es count) (records_of es)
 records_are size file begin es count z last n past is same ends counts passes =
-    let due = counted size file es count in
+    let due = number_of_records size file es count in
     let number : n ≡ due =
     counts
     ∙ ap (λ (l : ℕ). known_or count (records_by l z file)) ends

@@ -11,7 +11,7 @@ use Rattle.ncc_header.specs.Answers.{Begins, Stops}
 use Rattle.ncc_layout.specs.declared.fault.LayoutFaultKind.{LayoutFaultKind}
 use Rattle.ncc_layout.specs.declared.fault.LayoutFaultKind.TheVariants.{TooLarge}
 use Rattle.ncc_layout.specs.Faults.{FirstFault}
-use Rattle.ncc_layout.specs.Sizes.{Fit, FirstTooLarge, room, rounded}
+use Rattle.ncc_layout.specs.Sizes.{NoneTooLarge, FirstTooLarge, room, rounded}
 use Rattle.ncc_layout.proofs.StandardPlaces.{record_sum_first}
 use Rattle.ncc_check.specs.declared.fault.FileFault.{FileFault}
 use Rattle.ncc_check.specs.declared.fault.FileFault.TheVariants as of
@@ -35,13 +35,13 @@ all_take P zero xs all = tt
 all_take P (suc n) [] all = tt
 all_take P (suc n) (x ∷ xs) all = (all.0, all_take P n xs all.1)
 
-fit_take : (dims : List Dim) (vars : List Var) (n : ℕ) → Fit dims vars → Fit dims (take n vars)
+fit_take : (dims : List Dim) (vars : List Var) (n : ℕ) → NoneTooLarge dims vars → NoneTooLarge dims (take n vars)
 fit_take dims vars n fit = record {
   each = all_take (λ x. rounded dims x ≤ room) n vars fit.each;
   together = omega (arith, record_sum_first dims n vars, fit.together);
 }
 
-fits_all : (s : Schema) (n : ℕ) → Fit s.dims s.vars → FirstTooLarge s n → ⊥
+fits_all : (s : Schema) (n : ℕ) → NoneTooLarge s.dims s.vars → FirstTooLarge s n → ⊥
 fits_all s n fit first = first.here (fit_take s.dims s.vars (n + 1) fit)
 
 module _ (laws : Laws) (told : Header → ℕ → List ℕ) (of_fault : FileFault → List ℕ) (bytes : List ℕ) (limit : ℕ) where
@@ -60,7 +60,7 @@ module _ (laws : Laws) (told : Header → ℕ → List ℕ) (of_fault : FileFaul
   not_both t (of.Header f) x fails hides = laws.begun_or_stopped bytes limit x.header f x.begins fails
   not_both t (of.Layout f) x fails hides =
       let header = laws.one_header bytes limit x.header fails.header x.begins fails.begins in
-      let fit : Fit fails.header.schema.dims fails.header.schema.vars = subst (λ (h : Header). Fit h.schema.dims h.schema.vars) header x.fit in
+      let fit : NoneTooLarge fails.header.schema.dims fails.header.schema.vars = subst (λ (h : Header). NoneTooLarge h.schema.dims h.schema.vars) header x.none_too_large in
       fits_all fails.header.schema fails.fault.number fit (too_large fails.header f.kind fails.fault.number hides fails.fault.first)
 
   pub one_text : OneText (IsToldText told of_fault bytes limit)
@@ -79,7 +79,7 @@ pub laid : (told : Header → ℕ → List ℕ) (bytes : List ℕ) (limit : ℕ)
 laid told bytes limit x text finds is = record {
   header = x.header;
   begins = finds.begins;
-  fit = finds.sizes.fit;
+  none_too_large = finds.sizes.none_too_large;
   text_is = is ∙ ap (told x.header) finds.length_is;
 }
 

@@ -13,7 +13,7 @@ use Rattle.ncc_schema.specs.Schema.{Place}
 use Rattle.ncc_layout.specs.declared.extent.Extent.{Extent}
 use Rattle.ncc_layout.specs.Bounds.{rank}
 use Rattle.ncc_layout.specs.Extents.{NumberedFrom, extents_from}
-use Rattle.ncc_layout.specs.Faults.{Before, InOrder, InOrderFrom}
+use Rattle.ncc_layout.specs.Rules.Overlap.{Before, InOrder, InOrderFrom}
 use Rattle.ncc_layout.proofs.Membership.{In, all_in, contains_from_in, in_from_contains}
 use Rattle.ncc_places.specs.Order.{by_begin, comes_before, placed_among}
 

@@ -2,7 +2,7 @@
 use Rattle.std.specs.Prelude.{◌≡◌, ℕ, List, length}
 use Rattle.ncc_schema.specs.declared.schema.Header.{Header}
 use Rattle.ncc_header.specs.Answers.{Begins}
-use Rattle.ncc_layout.specs.Sizes.{Fit}
+use Rattle.ncc_layout.specs.Sizes.{NoneTooLarge}
 use Rattle.ncc_check.specs.declared.fault.FileFault.{FileFault}
 use Rattle.ncc_check.specs.Faults.{Fails}
 use Rattle.ncc_lines.specs.Verdicts.{file_fault_line}
@@ -32,7 +32,7 @@ fault_told Members f = print (file_fault_members f)
 pub record IsToldOf (told : Header → (file : ℕ) → List ℕ) (bytes : List ℕ) (limit : ℕ) (text : List ℕ) : Type 0 where
   pub header : Header
   pub begins : Begins bytes limit header
-  pub fit : Fit header.schema.dims header.schema.vars
+  pub none_too_large : NoneTooLarge header.schema.dims header.schema.vars
   pub text_is : text ≡ told header (length bytes)
 
 -- what is told of the first fault of bytes, with which nothing has a place

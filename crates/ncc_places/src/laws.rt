@@ -4,7 +4,7 @@ ghost use Rattle.std.specs.Prelude.{◌≡◌, List, IsPermutation, length, map}
 ghost use Rattle.std.specs.List.{range_with_len};
 ghost use Rattle.ncc_schema.specs.declared.schema.Header.{Header};
 ghost use Rattle.ncc_schema.specs.Schema.{places_of};
-ghost use Rattle.ncc_layout.specs.Faults.{InOrder};
+ghost use Rattle.ncc_layout.specs.Rules.Overlap.{InOrder};
 ghost use Rattle.ncc_check.specs.Notes.{extents_in};
 ghost use Rattle.ncc_places.specs.Order.{by_begin};
 

@@ -10,20 +10,20 @@ ghost use Rattle.ncc_places.specs.Layouts.{LaysOut, fault_told};
 
 use crate::measuring::measure;
 use crate::telling::{fault_object, layout_told};
-use ncc_answers::{Answer, answered};
+use ncc_answers::{Answer, answer_of_sent};
 use ncc_check::{FileFault, Refusal, laws};
 use ncc_header::laws::header_or_stop;
 use ncc_header::{Sink, write_all};
 use ncc_json::Wording;
-use ncc_lines::{Halt, send_file_fault};
+use ncc_lines::{SendError, send_file_fault};
 use ncc_store::Store;
 use std::alloc::Global;
 
 /// Sends a text, and takes no memory. After an `Err` a front of it is sent.
-pub fn send_text<W: Sink>(text: &[u8], sink: &mut W) -> Result<(), Halt>
+pub fn send_text<W: Sink>(text: &[u8], sink: &mut W) -> Result<(), SendError>
     ensures sent { SendsAll (W.put sink.old) (W.put sink.new) text.now result }
     ensures count { Blames (W.failures sink.old) (W.failures sink.new) result }
-    ensures never { result ≢ Err Halt.Memory }
+    ensures never { result ≢ Err SendError.Memory }
 {
     write_all(sink, text)?;
     Ok(())
@@ -35,11 +35,11 @@ fn send_fault<W: Sink>(
     fault: FileFault,
     wording: Wording,
     sink: &mut W,
-) -> Result<(), Halt>
+) -> Result<(), SendError>
     ensures sent { SendsAll (W.put sink.old) (W.put sink.new) (fault_told wording fault) result }
     ensures count { Blames (W.failures sink.old) (W.failures sink.new) result }
-    ensures none { result ≡ Err Halt.Memory → sink.new ≡ sink.old }
-    ensures never { wording ≡ Wording.Words → result ≢ Err Halt.Memory }
+    ensures none { result ≡ Err SendError.Memory → sink.new ≡ sink.old }
+    ensures never { wording ≡ Wording.Words → result ≢ Err SendError.Memory }
 {
     match wording {
         Wording::Words => send_file_fault(fault, sink),
@@ -71,10 +71,10 @@ pub fn layout_engine<S: Store, W: Sink>(
     laws::passing_has_no_fault();
     match measure(alloc, store, limit) {
         Ok(file) => match layout_told(alloc, &file, wording) {
-            Ok(text) => answered(send_text(&text, sink), Answer::Passed),
+            Ok(text) => answer_of_sent(send_text(&text, sink), Answer::Passed),
             Err(_) => Answer::Memory,
         },
-        Err(Refusal::Fault(fault)) => answered(
+        Err(Refusal::Fault(fault)) => answer_of_sent(
             send_fault(alloc, fault, wording, sink),
             Answer::Refused,
         ),

@@ -23,7 +23,7 @@ pub struct Measured {
 }
 
 /// A header with the sizes of its variables, and the length of its file.
-fn sized(alloc: Global, header: Header, file_length: u64) -> Result<Measured, Refusal>
+fn measure_header(alloc: Global, header: Header, file_length: u64) -> Result<Measured, Refusal>
     requires { IsBegun header }
     ensures header { IfOk result (λ x. x.header ≡ header) }
     ensures length { IfOk result (λ x. x.file_length ≡ file_length) }
@@ -52,5 +52,5 @@ pub fn measure<S: Store>(alloc: Global, store: &mut S, limit: u64) -> Result<Mea
     store_laws::unmoved_calls_join::<S>();
     let file_length = store.len()?;
     let header = header_of(alloc, store, limit, file_length)?;
-    sized(alloc, header, file_length)
+    measure_header(alloc, header, file_length)
 }

@@ -5,7 +5,7 @@ use ncc_disk::{NewFile, Reason, Trouble, folder_of, open_to_read, reason_in};
 use ncc_engines::Answer;
 use ncc_header::WriteSink;
 use ncc_lines::Progress;
-use ncc_status::{Ended, flushed};
+use ncc_status::{Ended, flush_answer};
 use ncc_store::AheadStore;
 use ncc_tasks::Converting;
 use std::fs::File;
@@ -64,7 +64,7 @@ pub fn convert<'a, R: Files<File = File> + AllocGlobal, O: Write, P: Progress>(
     }
     let mut writer = sink.into_inner();
     Ended {
-        answer: flushed(&mut writer, answer),
+        answer: flush_answer(&mut writer, answer),
         trouble: Some(trouble),
     }
 }

@@ -9,7 +9,7 @@ use ncc_engines::Answer;
 use ncc_header::{ReadSource, WriteSink};
 use ncc_json::Wording;
 use ncc_lines::FloatStyle;
-use ncc_status::{all_told, end};
+use ncc_status::{end, tell_all};
 use std::alloc::Global;
 use std::io::{BufReader, BufWriter, Read, Write};
 
@@ -49,7 +49,7 @@ fn list_reader<I: Read + Drop, O: Write>(
     let mut sink = WriteSink::new(writer);
     let answered = listed_object(alloc, &mut source, INPUT, style, &mut sink);
     let mut writer = sink.into_inner();
-    all_told(answered, &mut writer)
+    tell_all(answered, &mut writer)
 }
 
 /// Lists standard input as an object, and gives the status.

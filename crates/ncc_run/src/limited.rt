@@ -34,7 +34,7 @@ ghost use Rattle.ncc_answers.specs.declared.work.Work.{Work};
 
 use ncc_batch::list_source;
 use ncc_engines::{Answer, csv_engine, extend_engine, list_engine};
-use ncc_header::{Failed, Sink, Source};
+use ncc_header::{Device, Sink, Source};
 use ncc_lines::{FloatStyle, Progress};
 use ncc_making::{Target, convert_store};
 use ncc_store::{FileStore, Store, SystemFile};
@@ -68,7 +68,7 @@ pub fn listed_object<R: Source, W: Sink>(
     path: &[u8],
     style: FloatStyle,
     sink: &mut W,
-) -> Result<Answer, Failed>
+) -> Result<Answer, Device>
     ensures sends { IfSome (R.left source.old) (λ input. SendsOne (Work.List LIMIT style Wording.Members) Form.Object
         path.now (Some input) (W.put sink.old) (W.put sink.new) result) }
     ensures exactly { result ≡ Ok Answer.Passed → IfSome (R.left source.old) (λ input.

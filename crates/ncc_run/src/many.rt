@@ -8,7 +8,7 @@ use ncc_batch::answer_all;
 use ncc_disk::{Trouble, open_file, reason_of};
 use ncc_engines::Answer;
 use ncc_header::WriteSink;
-use ncc_status::all_told;
+use ncc_status::tell_all;
 use ncc_tasks::Words;
 use ncc_values::Seq;
 use std::alloc::{AllocError, AllocFailed, Global};
@@ -135,5 +135,5 @@ pub fn answer_many<R: Files<File = File> + Clock + AllocGlobal, O: Write, E: Wri
     );
     folder.end();
     let mut writer = sink.into_inner();
-    all_told(answered, &mut writer)
+    tell_all(answered, &mut writer)
 }

@@ -44,7 +44,7 @@ pub struct ProgressLine<'a, R: Clock, E: Write> {
 }
 
 impl<'a, R: Clock, E: Write> ProgressLine<'a, R, E> {
-    /// A line that shows nothing yet, and never does unless `shown`.
+    /// A line that shows nothing yet, and never does unless `show`.
     pub fn new(clock: &'a R, err: &'a mut E, shown: bool) -> ProgressLine<'a, R, E> {
         let next = match Instant::now(clock) {
             Ok(now) if shown => now.checked_add(Duration::from_millis(FIRST)),

@@ -13,7 +13,7 @@ use ncc_commands::{FAULTS, asks_for_faults, command};
 use ncc_disk::{Reason, Trouble, Watched};
 use ncc_engines::Answer;
 use ncc_lines::Progress;
-use ncc_status::{Ended, USAGE, end, explain, finish, refuse_words, shown};
+use ncc_status::{Ended, USAGE, end, explain, finish, refuse_words, show};
 use ncc_tasks::{Selecting, Task, Words, task_given};
 use std::fs::File;
 use std::io::{Read, Write};
@@ -174,7 +174,7 @@ pub fn run<R: Files<File = File> + Clock + AllocGlobal, I: Read, O: Write, E: Wr
 {
     let mut out = Watched::new(&mut *out);
     if asks_for_faults(line.texts()) {
-        let answer = shown(rt.alloc(), FAULTS, &mut out);
+        let answer = show(rt.alloc(), FAULTS, &mut out);
         return end(answer, None, out.reason(), terminals.err, err);
     }
     let Ok(command) = command(rt.alloc(), line.texts()) else {

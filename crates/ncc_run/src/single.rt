@@ -7,7 +7,7 @@ use ncc_disk::{Reason, Trouble, Watched, open_file, open_to_extend, open_to_read
 use ncc_engines::Answer;
 use ncc_header::{ReadSource, WriteSink};
 use ncc_lines::{FloatStyle, Progress};
-use ncc_status::{Ended, flushed};
+use ncc_status::{Ended, flush_answer};
 use ncc_store::AheadStore;
 use ncc_tasks::{Extending, Selecting};
 use std::alloc::Global;
@@ -40,7 +40,7 @@ fn list_reader<I: Read + Drop, O: Write>(
     let mut sink = WriteSink::new(writer);
     let answer = listed(alloc, &mut source, style, &mut sink);
     let mut writer = sink.into_inner();
-    flushed(&mut writer, answer)
+    flush_answer(&mut writer, answer)
 }
 
 /// Lists the header at the front of a reader that has this name.
@@ -91,7 +91,7 @@ pub fn check<'a, R: Files<File = File> + AllocGlobal, O: Write>(
     let mut sink = WriteSink::new(writer);
     let answer = write_text(rt.alloc(), &mut store, work, &mut sink);
     let mut writer = sink.into_inner();
-    ended(name, flushed(&mut writer, answer), reason_in(&store))
+    ended(name, flush_answer(&mut writer, answer), reason_in(&store))
 }
 
 /// Prints what is picked of a variable of a file.
@@ -117,7 +117,7 @@ pub fn select<'a, R: Files<File = File> + AllocGlobal, O: Write, P: Progress>(
     let mut writer = sink.into_inner();
     ended(
         name,
-        flushed(&mut writer, answer),
+        flush_answer(&mut writer, answer),
         reason_in(&ahead.into_inner()),
     )
 }
@@ -140,5 +140,5 @@ pub fn extend<'a, R: Files<File = File> + AllocGlobal, O: Write>(
     // (the store keeps the lock until the line is out)
     let (store, answer) = extended_file(rt.alloc(), store, extending, &mut sink);
     let mut writer = sink.into_inner();
-    ended(name, flushed(&mut writer, answer), reason_in(&store))
+    ended(name, flush_answer(&mut writer, answer), reason_in(&store))
 }

@@ -115,7 +115,7 @@ header_long s places =
     let v = s.version in
     let letters = 0x43 ∷ 0x44 ∷ 0x46 ∷ [] in
     let version = big_endian 1 (byte_of v) in
-    let numrecs = big_endian (count_width_of v) (spelled.counted v s.count) in
+    let numrecs = big_endian (count_width_of v) (spelled.numrecs_word v s.count) in
     let of_lists = spelled.list v nc_dimension (spelled.dim v) s.dims ⨾ spelled.list v nc_attribute (spelled.attr v) s.gatts ⨾ spelled.list v nc_variable (spelled.var v) (zip s.vars places) in
     let lists = canon_list v nc_dimension (canon_dim v) s.dims ++ (canon_list v nc_attribute (canon_attr v) s.gatts ++ canon_list v nc_variable (canon_var v) (zip s.vars places)) in
     both (spelled.exactly letters) (spelled.exactly version ⨾ spelled.exactly numrecs ⨾ of_lists) letters (version ++ (numrecs ++ lists)) (exact letters)

@@ -7,7 +7,7 @@ use Rattle.ncc_values.specs.Numbers.{big_endian}
 use Rattle.ncc_values.specs.Version.{byte_of, count_width_of}
 use Rattle.ncc_values.specs.declared.version.Version.{Version}
 use Rattle.ncc_schema.specs.declared.schema.Schema.{Schema}
-use Rattle.ncc_schema.specs.Header.{◌⨾◌, list, dim, attr, var, nc_dimension, nc_attribute, nc_variable, IsHeader, counted, with_count_field, canon, canon_attr, canon_dim, canon_list, canon_var}
+use Rattle.ncc_schema.specs.Header.{◌⨾◌, list, dim, attr, var, nc_dimension, nc_attribute, nc_variable, IsHeader, numrecs_word, with_count_field, canon, canon_attr, canon_dim, canon_list, canon_var}
 use Rattle.ncc_schema.specs.Schema.{streaming_mark, with_count, Place, Legal, IsTyped}
 
 -- three parts, of which the second is another
@@ -42,7 +42,7 @@ start_of v = 0x43 ∷ 0x44 ∷ 0x46 ∷ big_endian 1 (byte_of v)
 
 -- what the count field held before
 abbrev pub old_field : Schema → List ℕ
-old_field s = big_endian (count_width_of s.version) (counted s.version s.count)
+old_field s = big_endian (count_width_of s.version) (numrecs_word s.version s.count)
 
 abbrev pub new_field : Schema → ℕ → List ℕ
 new_field s n = big_endian (count_width_of s.version) n
@@ -67,7 +67,7 @@ parts_of s places b h =
 pub with_rest : (s : Schema) (n : ℕ) (b rest : List ℕ) → b ≡ start_of s.version ++ (old_field s ++ rest) → with_count_field s.version n b ≡ start_of s.version ++ (new_field s n ++ rest)
 with_rest s n b rest joined =
     let long : 4 ≡ length (start_of s.version) = omega (arith, length-big_endian 1 (byte_of s.version)) in
-    let wide : count_width_of s.version ≡ length (old_field s) = sym (length-big_endian (count_width_of s.version) (counted s.version s.count)) in
+    let wide : count_width_of s.version ≡ length (old_field s) = sym (length-big_endian (count_width_of s.version) (numrecs_word s.version s.count)) in
     ap (with_count_field s.version n) joined ∙ sym (replaced (start_of s.version) (old_field s) (new_field s n) rest 4 (count_width_of s.version) long wide)
 
 pub rewritten : (s : Schema) (places : List Place) (b : List ℕ) (n : ℕ) → IsHeader s places b → n < streaming_mark s.version → IsHeader (with_count s n) places (with_count_field s.version n b)

@@ -16,7 +16,7 @@ use Rattle.ncc_values.proofs.ValuesLemmas.{length-bytes_of}
 use Rattle.ncc_values.specs.Version.{byte_of, count_width_of}
 use Rattle.ncc_values.specs.declared.version.Version.{Version}
 use Rattle.ncc_values.specs.declared.version.Version.TheVariants.{V1, V2, V5}
-use Rattle.ncc_schema.specs.declared.failed.Failed.{Failed}
+use Rattle.ncc_values.specs.declared.failures.Device.{Device}
 use Rattle.ncc_schema.specs.declared.schema.Dim.{Dim}
 use Rattle.ncc_schema.specs.declared.schema.Var.{Var}
 use Rattle.ncc_schema.specs.declared.schema.VarPlace.{VarPlace}
@@ -44,11 +44,11 @@ pub item_sent : {A : Type 0} (c : A → List ℕ) (xs : List A) (i : ℕ) (x d :
 item_sent c xs i x d old now new text h e s p = so_far_more old now new text (flat_map c (drop i xs)) (c x) (flat_map c (drop (i + 1) xs)) s (ap (flat_map c) (next_item xs i x d h e)) p
 
 -- it didn't
-pub item_fails : {A : Type 0} (Q : Failed → Type 0) (c : A → List ℕ) (xs : List A) (i : ℕ) (x d : A) (old now new : Option (List ℕ)) (text : List ℕ) (r : Result (Unit {0}) Failed) (e : Failed) → i < length xs → x ≡ get_or xs i d
+pub item_fails : {A : Type 0} (Q : Device → Type 0) (c : A → List ℕ) (xs : List A) (i : ℕ) (x d : A) (old now new : Option (List ℕ)) (text : List ℕ) (r : Result (Unit {0}) Device) (e : Device) → i < length xs → x ≡ get_or xs i d
     → SoFar old now text (flat_map c (drop i xs)) → IsErrAnd r Q → WritesAll now new (Err e) (c x) → WritesAll old new r text
 item_fails Q c xs i x d old now new text r e h is s exit w =
     let p = err_from_is_err_and r exit in
-    subst (λ (q : Result (Unit {0}) Failed). WritesAll old new q text) (sym p.1)
+    subst (λ (q : Result (Unit {0}) Device). WritesAll old new q text) (sym p.1)
     (writes_front_so_far old now new text (flat_map c (drop i xs)) (c x) (flat_map c (drop (i + 1) xs)) p.0 s (ap (flat_map c) (next_item xs i x d h is)) w)
 
 -- the numbers of dimensions fit where the number of dimensions does

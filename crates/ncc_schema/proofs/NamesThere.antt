@@ -15,7 +15,7 @@ use Rattle.ncc_schema.specs.declared.schema.Attr.{Attr}
 use Rattle.ncc_schema.specs.declared.schema.Var.{Var}
 use Rattle.ncc_schema.specs.declared.schema.Schema.{Schema}
 use Rattle.ncc_schema.specs.Schema.{Place, Legal}
-use Rattle.ncc_schema.specs.Header.{counted, canon_name, canon_head, canon_list, canon_dim, canon_attr, canon_dimids, canon_var, canon}
+use Rattle.ncc_schema.specs.Header.{numrecs_word, canon_name, canon_head, canon_list, canon_dim, canon_attr, canon_dimids, canon_var, canon}
 use Rattle.ncc_schema.specs.Names.{first_dim, first_attr, first_var, first_attrs, HasName, name_of, head_size, list_size, before, gatts_at, vars_at, attrs_in, attr_in, name_at, StandsAt}
 use Rattle.ncc_schema.proofs.Sizes.{length-canon_head}
 
@@ -84,7 +84,7 @@ var_there (x ∷ vars) (p ∷ places) (suc i) e h = var_there vars places i (ome
 
 module _ (s : Schema) (places : List Place) where
   abbrev count : List ℕ
-  count = big_endian (count_width_of s.version) (counted s.version s.count)
+  count = big_endian (count_width_of s.version) (numrecs_word s.version s.count)
 
   abbrev dims : List ℕ
   dims = canon_list s.version 10 (canon_dim s.version) s.dims
@@ -100,7 +100,7 @@ module _ (s : Schema) (places : List Place) where
   in_lists piece at t =
       let lists = dims ++ (gatts ++ vars) in
       let byte = big_endian 1 (byte_of s.version) in
-      moved (canon s places) piece (3 + (length byte + (length count + at))) (head_size s.version + at) (omega (arith, length-big_endian 1 (byte_of s.version), length-big_endian (count_width_of s.version) (counted s.version s.count)))
+      moved (canon s places) piece (3 + (length byte + (length count + at))) (head_size s.version + at) (omega (arith, length-big_endian 1 (byte_of s.version), length-big_endian (count_width_of s.version) (numrecs_word s.version s.count)))
       (behind (0x43 ∷ 0x44 ∷ 0x46 ∷ []) (byte ++ (count ++ lists)) piece (length byte + (length count + at)) (behind byte (count ++ lists) piece (length count + at) (behind count lists piece at t)))
 
   dims_there : StandsAt (canon s places) dims (head_size s.version)

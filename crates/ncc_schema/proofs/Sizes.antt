@@ -17,7 +17,7 @@ use Rattle.ncc_schema.specs.declared.schema.Attr.{Attr}
 use Rattle.ncc_schema.specs.declared.schema.Var.{Var}
 use Rattle.ncc_schema.specs.declared.schema.Schema.{Schema}
 use Rattle.ncc_schema.specs.Schema.{Place}
-use Rattle.ncc_schema.specs.Header.{zeros, counted, canon_name, canon_head, canon_list, canon_dim, canon_attr, canon_dimids, canon_var, canon}
+use Rattle.ncc_schema.specs.Header.{zeros, numrecs_word, canon_name, canon_head, canon_list, canon_dim, canon_attr, canon_dimids, canon_var, canon}
 use Rattle.ncc_schema.specs.Names.{list_size, before, attrs_in, canon_unplaced, vars_at}
 
 pub length-canon_head : (v : Version) (tag n : ℕ) → length (canon_head v tag n) ≡ list_size v
@@ -119,7 +119,7 @@ all_placed v (x ∷ vars) (p ∷ places) e =
 pub length-canon : (s : Schema) (places : List Place) → length places ≡ length s.vars → length (canon s places) ≡ vars_at s + list_size s.version + length (flat_map (canon_unplaced s.version) s.vars)
 length-canon s places e =
     let v = s.version in
-    let count = big_endian (count_width_of v) (counted v s.count) in
+    let count = big_endian (count_width_of v) (numrecs_word v s.count) in
     let dims = canon_list v 10 (canon_dim v) s.dims in
     let gatts = canon_list v 12 (canon_attr v) s.gatts in
     let vars = canon_list v 11 (canon_var v) (zip s.vars places) in
@@ -131,7 +131,7 @@ length-canon s places e =
       length-append dims (gatts ++ vars),
       length-append gatts vars,
       length-big_endian 1 (byte_of v),
-      length-big_endian (count_width_of v) (counted v s.count),
+      length-big_endian (count_width_of v) (numrecs_word v s.count),
       length-canon_list v 11 (canon_var v) (zip s.vars places),
       all_placed v s.vars places e,
     )

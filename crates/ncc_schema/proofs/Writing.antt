@@ -4,7 +4,7 @@ use Rattle.std.proofs.lemmas.List.{append-nil}
 use Rattle.std.specs.Prelude.{Result}
 use Rattle.std.specs.Result.{IsErrAnd}
 use Rattle.std.proofs.lemmas.Result.{err_from_is_err_and}
-use Rattle.ncc_schema.specs.declared.failed.Failed.{Failed}
+use Rattle.ncc_values.specs.declared.failures.Device.{Device}
 use Rattle.ncc_schema.specs.Device.{Puts, WritesAll}
 
 -- told bytes that grow twice grow by both
@@ -35,16 +35,16 @@ so_far_more old now new text rest piece after s e p = record {
 }
 
 -- a text of two parts goes out where the first part went out and the second does, or a front of it
-pub writes_both : (old mid new : Option (List ℕ)) (a b : List ℕ) (r : Result (Unit {0}) Failed) → Puts old mid a → WritesAll mid new r b → WritesAll old new r (a ++ b)
+pub writes_both : (old mid new : Option (List ℕ)) (a b : List ℕ) (r : Result (Unit {0}) Device) → Puts old mid a → WritesAll mid new r b → WritesAll old new r (a ++ b)
 writes_both old mid new a b (Ok x) p w = puts_both old mid new a b p w
 writes_both old mid new a b (Err e) p w = (a ++ w.0, w.1, ap (λ (z : List ℕ). a ++ z) w.2 ∙ sym (append_assoc a w.0 w.1), puts_both old mid new a w.0 p w.3)
 
 -- a front of it, where the first part didn't go out
-pub writes_front : (old new : Option (List ℕ)) (a b : List ℕ) (e : Failed) → WritesAll old new (Err e) a → WritesAll old new (Err e) (a ++ b)
+pub writes_front : (old new : Option (List ℕ)) (a b : List ℕ) (e : Device) → WritesAll old new (Err e) a → WritesAll old new (Err e) (a ++ b)
 writes_front old new a b e w = (w.0, w.1 ++ b, ap (λ (z : List ℕ). z ++ b) w.2 ∙ append_assoc w.0 w.1 b, w.3)
 
 -- the same, behind a front that went out
-pub writes_front_so_far : (old now new : Option (List ℕ)) (text rest piece after : List ℕ) (e : Failed) → SoFar old now text rest → rest ≡ piece ++ after → WritesAll now new (Err e) piece → WritesAll old new (Err e) text
+pub writes_front_so_far : (old now new : Option (List ℕ)) (text rest piece after : List ℕ) (e : Device) → SoFar old now text rest → rest ≡ piece ++ after → WritesAll now new (Err e) piece → WritesAll old new (Err e) text
 writes_front_so_far old now new text rest piece after e s split w =
     subst (λ (t : List ℕ). WritesAll old new (Err e) t) (sym (s.joined ∙ ap (λ (z : List ℕ). s.front ++ z) split))
     (writes_both old now new s.front (piece ++ after) (Err e) s.puts (writes_front now new piece after e w))
@@ -56,7 +56,7 @@ so_far_all old now text rest s none = subst (λ (t : List ℕ). Puts old now t) 
 -- ---- exits
 
 -- behind the exit of a `?`, where a part didn't go out
-pub fails_at : (Q : Failed → Type 0) (old new : Option (List ℕ)) (a b : List ℕ) (r : Result (Unit {0}) Failed) (e : Failed) → IsErrAnd r Q → WritesAll old new (Err e) a → WritesAll old new r (a ++ b)
+pub fails_at : (Q : Device → Type 0) (old new : Option (List ℕ)) (a b : List ℕ) (r : Result (Unit {0}) Device) (e : Device) → IsErrAnd r Q → WritesAll old new (Err e) a → WritesAll old new r (a ++ b)
 fails_at Q old new a b r e exit w =
     let p = err_from_is_err_and r exit in
-    subst (λ (q : Result (Unit {0}) Failed). WritesAll old new q (a ++ b)) (sym p.1) (writes_front old new a b p.0 w)
+    subst (λ (q : Result (Unit {0}) Device). WritesAll old new q (a ++ b)) (sym p.1) (writes_front old new a b p.0 w)

@@ -100,14 +100,14 @@ var v x =
     name v x.0.name ⨾ dimids v x.0.dims ⨾ list v nc_attribute (attr v) x.0.attrs
     ⨾ nc_type x.0.xtype ⨾ non_neg v x.1.vsize ⨾ number (offset_width_of v) x.1.begin
 
-abbrev pub counted : Version → Count → ℕ
-counted v (Known n) = n
-counted v Streaming = streaming_mark v
+abbrev pub numrecs_word : Version → Count → ℕ
+numrecs_word v (Known n) = n
+numrecs_word v Streaming = streaming_mark v
 
 -- header = magic numrecs dim_list gatt_list var_list
 abbrev pub header : Schema → List Place → Language
 header s places =
-    exactly (0x43 ∷ 0x44 ∷ 0x46 ∷ []) ⨾ number 1 (byte_of s.version) ⨾ non_neg s.version (counted s.version s.count)
+    exactly (0x43 ∷ 0x44 ∷ 0x46 ∷ []) ⨾ number 1 (byte_of s.version) ⨾ non_neg s.version (numrecs_word s.version s.count)
     ⨾ list s.version nc_dimension (dim s.version) s.dims ⨾ list s.version nc_attribute (attr s.version) s.gatts
     ⨾ list s.version nc_variable (var s.version) (zip s.vars places)
 
@@ -154,5 +154,5 @@ canon_var v x =
 
 abbrev pub canon : Schema → List Place → List ℕ
 canon s places =
-    (0x43 ∷ 0x44 ∷ 0x46 ∷ []) ++ (big_endian 1 (byte_of s.version) ++ (big_endian (count_width_of s.version) (counted s.version s.count)
+    (0x43 ∷ 0x44 ∷ 0x46 ∷ []) ++ (big_endian 1 (byte_of s.version) ++ (big_endian (count_width_of s.version) (numrecs_word s.version s.count)
     ++ (canon_list s.version nc_dimension (canon_dim s.version) s.dims ++ (canon_list s.version nc_attribute (canon_attr s.version) s.gatts ++ canon_list s.version nc_variable (canon_var s.version) (zip s.vars places)))))

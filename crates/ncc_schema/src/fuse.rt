@@ -4,9 +4,9 @@ ghost use Rattle.std.specs.Prelude.{◌≡◌, ◌+◌, ◌-◌, ◌<◌, ◌≤
 ghost use Rattle.ncc_values.specs.Failures.{last_count, joint_count, Counts};
 ghost use Rattle.ncc_schema.specs.Device.{Reads, Writes};
 
-use crate::failed::{Failed, fail};
 use crate::sink::Sink;
 use crate::source::Source;
+use ncc_values::{Device, device_failure};
 
 /// What is still passed: so many calls, each of at most so many bytes. After them each call fails.
 struct Fuse {
@@ -42,7 +42,7 @@ impl Fuse {
     }
 
     /// Uses a call up, and answers how many of these bytes it may pass.
-    fn pass(&mut self, bytes: usize) -> Result<usize, Failed>
+    fn pass(&mut self, bytes: usize) -> Result<usize, Device>
         ensures room { IfOk result (λ n. n ≡ min bytes self.old.most) }
         ensures some { IfOk result (λ _. 0 < self.old.calls) }
         ensures none { IfErr result (λ _. self.old.calls ≡ 0) }
@@ -51,7 +51,7 @@ impl Fuse {
         ensures count { Counts self.old.failures self.new.failures result }
     {
         if self.calls == 0 {
-            return Err(fail(&mut self.failures));
+            return Err(device_failure(&mut self.failures));
         }
         self.calls -= 1;
         Ok((bytes as u64).min(self.most) as usize)
@@ -102,7 +102,7 @@ impl<R: Source> Source for FuseSource<R> {
 
     ghost at_most_last = { λ s. joint_count_ends _ _ };
 
-    fn read(&mut self, buffer: &mut [u8]) -> Result<usize, Failed>
+    fn read(&mut self, buffer: &mut [u8]) -> Result<usize, Device>
         ensures bytes { Reads (R.left (source_of self.old)) (R.left (source_of self.new)) result buffer.new }
         ensures count { Counts
             (joint_count (own_read_failures self.old) (R.failures (source_of self.old)))
@@ -170,7 +170,7 @@ impl<W: Sink> Sink for FuseSink<W> {
 
     ghost at_most_last = { λ s. joint_count_ends _ _ };
 
-    fn write(&mut self, bytes: &[u8]) -> Result<usize, Failed>
+    fn write(&mut self, bytes: &[u8]) -> Result<usize, Device>
         ensures bytes { Writes (W.put (sink_of self.old)) (W.put (sink_of self.new)) result bytes.now }
         ensures count { Counts
             (joint_count (own_write_failures self.old) (W.failures (sink_of self.old)))

@@ -5,7 +5,11 @@ ghost use Rattle.ncc_schema.specs.Schema.{places_of, Legal};
 ghost use Rattle.ncc_schema.specs.Header.{canon_dim, canon_attr, canon};
 ghost use Rattle.ncc_schema.specs.Names.{capped, head_size, list_size, before, attrs_in, gatts_at, vars_at, HasName, name_at, canon_unplaced};
 
-use crate::lengths::{attrs_in, attrs_size, dims_size, gatts_at, list_size, vars_size, vars_start};
+use crate::lengths::{gatts_at, vars_start};
+use crate::rules::attr::attrs_size;
+use crate::rules::dim::dims_size;
+use crate::rules::list::list_size;
+use crate::rules::var::{attrs_in, vars_size};
 use crate::schema::{Header, Schema, Var};
 use ncc_values::Version;
 

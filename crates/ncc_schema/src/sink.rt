@@ -4,7 +4,7 @@ ghost use Rattle.std.specs.Prelude.{◌≡◌, ◌+◌, ◌≤◌, ℕ, List, le
 ghost use Rattle.ncc_values.specs.Failures.{last_count, Counts};
 ghost use Rattle.ncc_schema.specs.Device.{Writes, WritesAll};
 
-use crate::failed::{Failed, fail};
+use ncc_values::{Device, device_failure};
 use std::io::Write;
 
 /// Where bytes are put out, in order.
@@ -19,7 +19,7 @@ pub trait Sink {
     ghost calls: { Self → ℕ };
 
     /// Puts out a front of the bytes, at least one where there is one, and answers how many.
-    fn write(&mut self, bytes: &[u8]) -> Result<usize, Failed>
+    fn write(&mut self, bytes: &[u8]) -> Result<usize, Device>
         ensures bytes { Writes (put self.old) (put self.new) result bytes.now }
         ensures count { Counts (failures self.old) (failures self.new) result }
         ensures calls { calls self.new ≤ calls self.old + 1 };
@@ -73,16 +73,16 @@ impl<W: Write> Sink for WriteSink<W> {
 
     ghost at_most_last = { λ s. s.counted };
 
-    fn write(&mut self, bytes: &[u8]) -> Result<usize, Failed> {
+    fn write(&mut self, bytes: &[u8]) -> Result<usize, Device> {
         match self.inner.write(bytes) {
             Ok(n) if n > 0 || bytes.is_empty() => Ok(n),
-            _ => Err(fail(&mut self.failures)),
+            _ => Err(device_failure(&mut self.failures)),
         }
     }
 }
 
 /// Puts out all of the bytes, by as many writes as it takes: at most one for each byte.
-pub fn write_all<W: Sink>(sink: &mut W, bytes: &[u8]) -> Result<(), Failed>
+pub fn write_all<W: Sink>(sink: &mut W, bytes: &[u8]) -> Result<(), Device>
     ensures bytes { WritesAll (W.put sink.old) (W.put sink.new) result bytes.now }
     ensures count { Counts (W.failures sink.old) (W.failures sink.new) result }
     ensures calls { W.calls sink.new ≤ W.calls sink.old + length bytes.now }

@@ -4,7 +4,7 @@ ghost use Rattle.std.specs.Prelude.{◌≡◌, ◌+◌, ◌≤◌, ℕ, List, Op
 ghost use Rattle.ncc_values.specs.Failures.{last_count, Counts};
 ghost use Rattle.ncc_schema.specs.Device.{Reads};
 
-use crate::failed::{Failed, fail};
+use ncc_values::{Device, device_failure};
 use std::io::Read;
 
 /// Where bytes come from, in order.
@@ -20,7 +20,7 @@ pub trait Source {
 
     /// Reads some of the next bytes into the buffer, and answers how many. None into a buffer with
     /// room means the end.
-    fn read(&mut self, buffer: &mut [u8]) -> Result<usize, Failed>
+    fn read(&mut self, buffer: &mut [u8]) -> Result<usize, Device>
         ensures bytes { Reads (left self.old) (left self.new) result buffer.new }
         ensures count { Counts (failures self.old) (failures self.new) result }
         ensures calls { calls self.new ≤ calls self.old + 1 };
@@ -66,10 +66,10 @@ impl<R: Read> Source for ReadSource<R> {
 
     ghost at_most_last = { λ s. s.counted };
 
-    fn read(&mut self, buffer: &mut [u8]) -> Result<usize, Failed> {
+    fn read(&mut self, buffer: &mut [u8]) -> Result<usize, Device> {
         match self.inner.read(buffer) {
             Ok(n) => Ok(n),
-            Err(_) => Err(fail(&mut self.failures)),
+            Err(_) => Err(device_failure(&mut self.failures)),
         }
     }
 }

@@ -7,11 +7,11 @@ use Rattle.std.proofs.lemmas.Bool.{eq-eqb, and_from}
 use Rattle.ncc_slab.specs.declared.slab.Slab.{Slab}
 use Rattle.ncc_slab.specs.declared.fault.SlabFault.{SlabFault}
 use Rattle.ncc_slab.specs.declared.fault.SlabFault.TheVariants.{RankMismatch, ZeroStride, Outside}
-use Rattle.ncc_slab.specs.Refusals.{along, has_rank, along_fault, shape_fault, has_no_stride, is_outside, ends_past}
+use Rattle.ncc_slab.specs.Refusals.{along, has_rank, along_fault, shape_fault, has_zero_stride, is_outside, ends_past}
 
 -- only the strides tell whether there is one
 pub strides_tell : (ls ss cs ds : List ℕ) (n : ℕ) → length ss ≡ length ls → length cs ≡ length ls → length ds ≡ length ls
-    → position_from (λ d. d == 0) n ds ≡ position_from has_no_stride n (along ls ss cs ds)
+    → position_from (λ d. d == 0) n ds ≡ position_from has_zero_stride n (along ls ss cs ds)
 strides_tell [] ss cs [] n a b e = refl
 strides_tell [] ss cs (d ∷ ds) n a b e = absurd (omega (arith, e))
 strides_tell (l ∷ ls) [] cs ds n a b e = absurd (omega (arith, a))

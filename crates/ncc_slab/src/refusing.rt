@@ -3,7 +3,7 @@
 ghost use Rattle.std.specs.Prelude.{◌≡◌, ◌==◌, length};
 ghost use Rattle.std.specs.List.{position_from};
 ghost use Rattle.ncc_layout.specs.Placed.{vars_of};
-ghost use Rattle.ncc_slab.specs.Refusals.{along, has_no_stride, ends_past, is_outside, shape_fault, slab_fault};
+ghost use Rattle.ncc_slab.specs.Refusals.{along, has_zero_stride, ends_past, is_outside, shape_fault, slab_fault};
 
 use crate::fault::SlabFault;
 use crate::slab::Slab;
@@ -20,7 +20,7 @@ fn ends_past(room: u64, start: u64, count: u64, stride: u64) -> bool
 }
 
 /// The first dimension with a stride of 0.
-fn first_without_stride(stride: &[u64]) -> Option<usize>
+fn first_zero_stride(stride: &[u64]) -> Option<usize>
     ensures { result ≡ position_from (λ d. d == 0) 0 stride.now }
 {
     stride.iter().position(|stride| *stride == 0)
@@ -52,7 +52,7 @@ pub fn shape_fault(lengths: &[u64], slab: &Slab) -> Option<SlabFault>
     if start.len() != rank || count.len() != rank || stride.len() != rank {
         return Some(SlabFault::RankMismatch);
     }
-    match first_without_stride(stride) {
+    match first_zero_stride(stride) {
         Some(k) => Some(SlabFault::ZeroStride(k)),
         None => {
             let k = first_outside(lengths, start, count, stride)?;

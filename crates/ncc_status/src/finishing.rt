@@ -11,7 +11,7 @@ use clap::Error;
 use clap::error::ErrorKind;
 use ncc_answers::{Answer, status};
 use ncc_disk::{Reason, Trouble, Watched, tell_trouble};
-use ncc_header::Failed;
+use ncc_header::Device;
 use std::alloc::Global;
 use std::io::{BufWriter, Write};
 
@@ -77,7 +77,7 @@ fn tell_why<E: Write>(trouble: Option<Trouble<'_>>, output: Option<Reason>, err:
 }
 
 /// The answer, once what is left in a buffer went out.
-pub fn flushed<W: Write + Drop>(writer: &mut BufWriter<W>, answer: Answer) -> Answer
+pub fn flush_answer<W: Write + Drop>(writer: &mut BufWriter<W>, answer: Answer) -> Answer
     ensures answer { Flushes answer result }
     ensures same { Keeps (writer_contents W.contents writer.old) (writer_contents W.contents writer.new) }
     ensures empty { result ≢ Answer.Device → result ≢ Answer.Memory → writer_buffer writer.new ≡ [] }
@@ -92,8 +92,8 @@ pub fn flushed<W: Write + Drop>(writer: &mut BufWriter<W>, answer: Answer) -> An
 }
 
 /// What several files came to, once the rest of their lines went out, and whether all that failed was told there.
-pub fn all_told<W: Write + Drop>(
-    answered: Result<Answer, Failed>,
+pub fn tell_all<W: Write + Drop>(
+    answered: Result<Answer, Device>,
     writer: &mut BufWriter<W>,
 ) -> (Answer, bool)
     ensures answer { IfOk answered (λ answer. Flushes answer result.0) }
@@ -106,12 +106,12 @@ pub fn all_told<W: Write + Drop>(
     let Ok(answer) = answered else {
         return (Answer::Device, false);
     };
-    let left = flushed(writer, answer);
+    let left = flush_answer(writer, answer);
     (left, left == answer)
 }
 
 /// Writes a text whole.
-pub fn shown<O: Write>(alloc: Global, text: &str, out: &mut O) -> Answer
+pub fn show<O: Write>(alloc: Global, text: &str, out: &mut O) -> Answer
     ensures { result ≢ Answer.Refused }
 {
     let Ok(mut writer) = BufWriter::new(alloc, out) else {
@@ -120,7 +120,7 @@ pub fn shown<O: Write>(alloc: Global, text: &str, out: &mut O) -> Answer
     if writer.write_all(text.as_bytes()).is_err() {
         return Answer::Device;
     }
-    flushed(&mut writer, Answer::Passed)
+    flush_answer(&mut writer, Answer::Passed)
 }
 
 /// Writes the parser's own text: help to `out`, and faults of the command line to `err`.
@@ -142,6 +142,6 @@ pub fn explain<O: Write, E: Write>(
         let _ = err.write_all(text.as_bytes());
         return USAGE;
     }
-    let answer = shown(alloc, &text, out);
+    let answer = show(alloc, &text, out);
     end(answer, None, out.reason(), false, err)
 }

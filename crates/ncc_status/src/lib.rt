@@ -4,5 +4,5 @@
 mod finishing;
 mod word_faults;
 
-pub use finishing::{Ended, USAGE, all_told, end, explain, finish, flushed, shown};
+pub use finishing::{Ended, USAGE, end, explain, finish, flush_answer, show, tell_all};
 pub use word_faults::refuse_words;

@@ -3,7 +3,6 @@ pub mod Bytes
 pub mod DiskFile
 pub mod File
 pub mod Fuse
-pub mod Growing
 pub mod Log
 pub mod LogFile
 pub mod LogLaws

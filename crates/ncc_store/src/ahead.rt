@@ -6,8 +6,8 @@ ghost use Rattle.ncc_store.specs.Pages.{Holds};
 ghost use Rattle.ncc_store.specs.Store.{written, FrontWritten, AfterWrite, Only, KeepsImages, Elapses, Unmoved};
 
 use crate::copying::copy_from;
-use crate::device::Device;
 use crate::store::Store;
+use ncc_values::Device;
 use std::alloc::{AllocError, Global};
 
 /// How many bytes are on a page at most.
@@ -308,6 +308,3 @@ impl<S: Store> Store for AheadStore<S> {
         self.inner.sync()
     }
 }
-
-#[cfg(test)]
-mod tests;

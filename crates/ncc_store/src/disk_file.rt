@@ -3,8 +3,8 @@
 ghost use Rattle.std.specs.Prelude.{◌≡◌, [], true, false, IfOk};
 ghost use Rattle.ncc_store.specs.DiskFile.{is_writable};
 
-use crate::device::Device;
 use crate::system_file::{SystemFile, WHOLE};
+use ncc_values::Device;
 use std::fs::File;
 use std::io;
 use std::io::ErrorKind;

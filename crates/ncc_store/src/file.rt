@@ -6,11 +6,12 @@ ghost use Rattle.std.specs.declared.io.Error.{Error};
 ghost use Rattle.ncc_values.specs.Failures.{last_count, Counts, Rose};
 ghost use Rattle.ncc_store.specs.Store.{written, FrontWritten, AfterWrite, Only, KeepsImages, Elapses, Unmoved};
 
-use crate::device::{Device, end, fail};
+use crate::device::end;
 use crate::disk_file::DiskFile;
 use crate::opening::open;
 use crate::store::Store;
 use crate::system_file::{SystemFile, write_whole};
+use ncc_values::{Device, device_failure};
 use std::fs::File;
 use std::io;
 use std::io::ErrorKind;
@@ -95,7 +96,7 @@ impl<F: SystemFile> FileStore<F> {
         ensures rose { Rose (file_failures self.old) (file_failures self.new) }
     {
         keep(&mut self.fault, error);
-        fail(&mut self.failures)
+        device_failure(&mut self.failures)
     }
 
     /// Fills `out`. It fails where that ends past the end of the file.
@@ -194,7 +195,7 @@ impl<F: SystemFile> Store for FileStore<F> {
         ensures alters { Alters self.old self.new result }
     {
         if !self.ready {
-            return Err(fail(&mut self.failures));
+            return Err(device_failure(&mut self.failures));
         }
         match write_whole(&mut self.file, place, piece) {
             Ok(()) => Ok(()),
@@ -213,7 +214,7 @@ impl<F: SystemFile> Store for FileStore<F> {
         ensures alters { Alters self.old self.new result }
     {
         if !self.ready {
-            return Err(fail(&mut self.failures));
+            return Err(device_failure(&mut self.failures));
         }
         match self.file.settle() {
             Ok(()) => Ok(()),
@@ -224,6 +225,3 @@ impl<F: SystemFile> Store for FileStore<F> {
         }
     }
 }
-
-#[cfg(test)]
-mod tests;

@@ -4,8 +4,8 @@ ghost use Rattle.std.specs.Prelude.{◌≡◌, ◌+◌, ◌-◌, ◌<◌, ◌≤
 ghost use Rattle.ncc_values.specs.Failures.{last_count, Rose};
 ghost use Rattle.ncc_store.specs.Store.{written, FrontWritten, AfterWrite, Only, KeepsImages, Elapses, Unmoved};
 
-use crate::device::{Device, fail};
 use crate::store::Store;
+use ncc_values::{Device, device_failure};
 
 /// The length of a piece, in bytes, of which a failed write does all or nothing.
 const WHOLE: usize = 8;
@@ -121,7 +121,7 @@ impl<S: Store> Store for FuseStore<S> {
         ensures nothing { fuse_left self.old ≡ 0 → fuse_inner self.new ≡ fuse_inner self.old }
     {
         if self.left == 0 {
-            return Err(fail(&mut self.failures));
+            return Err(device_failure(&mut self.failures));
         }
         self.left -= 1;
         self.inner.len()
@@ -139,7 +139,7 @@ impl<S: Store> Store for FuseStore<S> {
         ensures nothing { fuse_left self.old ≡ 0 → fuse_inner self.new ≡ fuse_inner self.old }
     {
         if self.left == 0 {
-            return Err(fail(&mut self.failures));
+            return Err(device_failure(&mut self.failures));
         }
         self.left -= 1;
         self.inner.read_at(place, out)
@@ -170,7 +170,7 @@ impl<S: Store> Store for FuseStore<S> {
             self.left -= 1;
             return self.inner.write_at(place, piece);
         }
-        let failed = fail(&mut self.failures);
+        let failed = device_failure(&mut self.failures);
         let done = self.front_of(piece);
         if done.is_empty() {
             return Err(failed);
@@ -189,12 +189,9 @@ impl<S: Store> Store for FuseStore<S> {
         ensures nothing { fuse_left self.old ≡ 0 → fuse_inner self.new ≡ fuse_inner self.old }
     {
         if self.left == 0 {
-            return Err(fail(&mut self.failures));
+            return Err(device_failure(&mut self.failures));
         }
         self.left -= 1;
         self.inner.sync()
     }
 }
-
-#[cfg(test)]
-mod tests;

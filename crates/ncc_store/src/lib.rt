@@ -19,7 +19,6 @@ mod store;
 mod system_file;
 
 pub use ahead::AheadStore;
-pub use device::Device;
 pub use disk_file::DiskFile;
 pub use file::FileStore;
 pub use fuse::FuseStore;
@@ -27,9 +26,7 @@ pub use log::{Call, LogStore};
 pub use log_file::LogFile;
 pub use long::LongStore;
 pub use memory::MemStore;
+pub use ncc_values::Device;
 pub use opening::file_options;
 pub use store::Store;
 pub use system_file::SystemFile;
-
-#[cfg(test)]
-mod tests;

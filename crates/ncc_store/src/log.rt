@@ -7,10 +7,10 @@ ghost use Rattle.ncc_store.specs.Store.{written, FrontWritten, AfterWrite, Only,
 ghost use Rattle.ncc_store.specs.declared.log.Call.TheVariants.{Sync};
 
 use crate::copying::copy_from;
-use crate::device::{Device, fail};
 use crate::logging::{sync_logged, write_logged};
 use crate::putting::are_bytes;
 use crate::store::Store;
+use ncc_values::{Device, device_failure};
 use std::alloc::Global;
 
 /// A call that succeeded.
@@ -152,7 +152,7 @@ impl Store for LogStore {
             piece,
         ) {
             Ok(()) => Ok(()),
-            Err(_) => Err(fail(&mut self.failures)),
+            Err(_) => Err(device_failure(&mut self.failures)),
         }
     }
 
@@ -166,10 +166,7 @@ impl Store for LogStore {
     {
         match sync_logged(&mut self.calls) {
             Ok(()) => Ok(()),
-            Err(_) => Err(fail(&mut self.failures)),
+            Err(_) => Err(device_failure(&mut self.failures)),
         }
     }
 }
-
-#[cfg(test)]
-mod tests;

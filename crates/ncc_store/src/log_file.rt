@@ -4,15 +4,16 @@ ghost use Rattle.std.specs.Prelude.{◌≡◌, ◌<◌, ◌≤◌, true, ℕ, Li
 ghost use Rattle.ncc_values.specs.Failures.{last_count};
 ghost use Rattle.ncc_store.specs.Store.{Unsynced};
 
-use crate::device::{Device, end, fail};
+use crate::device::end;
 use crate::log::LogStore;
 use crate::store::Store;
 use crate::system_file::{SystemFile, WHOLE};
+use ncc_values::{Device, device_failure};
 use std::io;
 use std::io::ErrorKind;
 
 /// A call that failed, as the system tells it.
-fn told(_device: Device) -> io::Error {
+fn io_error(_device: Device) -> io::Error {
     ErrorKind::Other.into()
 }
 
@@ -115,30 +116,30 @@ impl SystemFile for LogFile {
     fn size(&mut self) -> io::Result<u64> {
         match self.log.len() {
             Ok(size) => Ok(size),
-            Err(_) => Err(told(fail(&mut self.failures))),
+            Err(_) => Err(io_error(device_failure(&mut self.failures))),
         }
     }
 
     fn fill(&mut self, place: u64, out: &mut [u8]) -> io::Result<()> {
         let size = self.size()?;
         if place > size || out.len() as u64 > size - place {
-            return Err(told(fail(&mut self.failures)));
+            return Err(io_error(device_failure(&mut self.failures)));
         }
         match self.log.read_at(place, out) {
             Ok(()) => Ok(()),
-            Err(_) => Err(told(fail(&mut self.failures))),
+            Err(_) => Err(io_error(device_failure(&mut self.failures))),
         }
     }
 
     fn write_some(&mut self, place: u64, piece: &[u8]) -> io::Result<usize> {
         if self.calls == 0 {
-            return Err(told(end(&mut self.sound, &mut self.failures)));
+            return Err(io_error(end(&mut self.sound, &mut self.failures)));
         }
         self.calls -= 1;
         let front = self.front_of(piece);
         match self.log.write_at(place, front) {
             Ok(()) => Ok(front.len()),
-            Err(_) => Err(told(end(&mut self.sound, &mut self.failures))),
+            Err(_) => Err(io_error(end(&mut self.sound, &mut self.failures))),
         }
     }
 
@@ -147,12 +148,12 @@ impl SystemFile for LogFile {
             return Ok(());
         }
         if self.calls == 0 {
-            return Err(told(end(&mut self.sound, &mut self.failures)));
+            return Err(io_error(end(&mut self.sound, &mut self.failures)));
         }
         self.calls -= 1;
         match self.log.sync() {
             Ok(()) => Ok(()),
-            Err(_) => Err(told(end(&mut self.sound, &mut self.failures))),
+            Err(_) => Err(io_error(end(&mut self.sound, &mut self.failures))),
         }
     }
 }

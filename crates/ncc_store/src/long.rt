@@ -4,8 +4,8 @@ ghost use Rattle.std.specs.Prelude.{◌≡◌, ◌+◌, ◌≤◌, ◌↔◌, []
 ghost use Rattle.ncc_values.specs.Failures.{last_count, Counts};
 ghost use Rattle.ncc_store.specs.Zeros.{zero_past};
 
-use crate::device::{Device, fail};
 use crate::store::Store;
+use ncc_values::{Device, device_failure};
 
 /// Some bytes, and zeros from there to its length. A write and a sync fail. It tells nothing.
 #[derive(Drop)]
@@ -34,13 +34,13 @@ impl LongStore {
     }
 
     /// Fails and counts it.
-    fn refused(&mut self) -> Result<(), Device>
+    fn refuse(&mut self) -> Result<(), Device>
         ensures err { IsErr result }
         ensures front { long_front self.new ≡ long_front self.old }
         ensures length { long_length self.new ≡ long_length self.old }
         ensures count { Counts (long_failures self.old) (long_failures self.new) result }
     {
-        Err(fail(&mut self.failures))
+        Err(device_failure(&mut self.failures))
     }
 }
 
@@ -103,7 +103,7 @@ impl Store for LongStore {
         ensures count { Counts (long_failures self.old) (long_failures self.new) result }
     {
         if place > self.length || out.len() as u64 > self.length - place {
-            return self.refused();
+            return self.refuse();
         }
         fill_from(&self.front, place, out);
         Ok(())
@@ -115,7 +115,7 @@ impl Store for LongStore {
         ensures length { long_length self.new ≡ long_length self.old }
         ensures count { Counts (long_failures self.old) (long_failures self.new) result }
     {
-        self.refused()
+        self.refuse()
     }
 
     fn sync(&mut self) -> Result<(), Device>
@@ -124,9 +124,6 @@ impl Store for LongStore {
         ensures length { long_length self.new ≡ long_length self.old }
         ensures count { Counts (long_failures self.old) (long_failures self.new) result }
     {
-        self.refused()
+        self.refuse()
     }
 }
-
-#[cfg(test)]
-mod tests;

@@ -6,9 +6,9 @@ ghost use Rattle.ncc_store.specs.Bytes.{AreBytes};
 ghost use Rattle.ncc_store.specs.Store.{written, FrontWritten};
 
 use crate::copying::copy_from;
-use crate::device::{Device, fail};
 use crate::putting::{are_bytes, put};
 use crate::store::Store;
+use ncc_values::{Device, device_failure};
 
 /// Bytes in memory. It tells them, and no images. Only a write past the end can fail, where it
 /// finds no memory, and then does nothing.
@@ -101,7 +101,7 @@ impl Store for MemStore {
         ensures count { Counts (memory_failures self.old) (memory_failures self.new) result }
     {
         if put(&mut self.bytes, place as usize, piece).is_err() {
-            return Err(fail(&mut self.failures));
+            return Err(device_failure(&mut self.failures));
         }
         Ok(())
     }
@@ -113,6 +113,3 @@ impl Store for MemStore {
         Ok(())
     }
 }
-
-#[cfg(test)]
-mod tests;

@@ -4,8 +4,8 @@ ghost use Rattle.std.specs.Prelude.{◌≡◌, true, IfOk};
 ghost use Rattle.std.specs.Fs.{new_options, with_read, with_write};
 ghost use Rattle.ncc_store.specs.DiskFile.{is_writable};
 
-use crate::device::Device;
 use crate::disk_file::DiskFile;
+use ncc_values::Device;
 use std::fs;
 use std::fs::{File, OpenOptions};
 use std::rt::Files;

@@ -5,7 +5,7 @@ ghost use Rattle.ncc_values.specs.Failures.{last_count, Counts};
 ghost use Rattle.ncc_values.specs.Numbers.{IsBytes};
 ghost use Rattle.ncc_store.specs.Store.{written, FrontWritten, AfterWrite, Only, KeepsImages, Elapses, Unmoved};
 
-use crate::device::Device;
+use ncc_values::Device;
 
 /// Bytes that are read and written at a place, counted in bytes from 0. A write is pending until a
 /// `sync` succeeded: a stop may leave any part of it. A call that fails answers `Device` and is counted.

@@ -3,7 +3,7 @@ pub mod External
 pub mod ExternalLaws
 pub mod Failures
 pub mod FailureLaws
-pub mod Few
+pub mod InlineList
 pub mod Fill
 pub mod Name
 pub mod Numbers

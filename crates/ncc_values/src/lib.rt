@@ -4,8 +4,8 @@
 mod elements;
 mod external;
 mod failures;
-mod few;
 mod fill;
+mod inline_list;
 pub mod laws;
 mod name;
 mod numbers;
@@ -19,9 +19,9 @@ mod version;
 mod xtype;
 
 pub use external::External;
-pub use failures::count_failure;
-pub use few::{Few, Name};
+pub use failures::{Device, count_failure, device_failure};
 pub use fill::fill_default;
+pub use inline_list::{InlineList, Name};
 pub use name::name_fits;
 pub use numbers::number;
 pub use padding::pad;

@@ -2,7 +2,7 @@
 
 ghost use Rattle.std.specs.Prelude.{◌≡◌, ◌+◌, ◌*◌, ◌/◌, ◌%◌, ◌≤◌, ◌↔◌, [], length, take, drop, IsTrue, IsOk, IfOk, OnOk, OnErr};
 
-use crate::few::Few;
+use crate::inline_list::InlineList;
 use crate::raw::{Char, F32Bits, F64Bits};
 use crate::xtype::XType;
 use std::alloc::{AllocError, Global};
@@ -11,17 +11,17 @@ use std::mem::size_of;
 /// Values of one external type, in order. Those of up to 30 bytes take no allocation (of 64 bits 3).
 #[derive(Debug, PartialEq, Eq, Drop)]
 pub enum Values {
-    Bytes(Few<i8, 30>),
-    Chars(Few<Char, 30>),
-    Shorts(Few<i16, 15>),
-    Ints(Few<i32, 7>),
-    Floats(Few<F32Bits, 7>),
-    Doubles(Few<F64Bits, 3>),
-    UBytes(Few<u8, 30>),
-    UShorts(Few<u16, 15>),
-    UInts(Few<u32, 7>),
-    Int64s(Few<i64, 3>),
-    UInt64s(Few<u64, 3>),
+    Bytes(InlineList<i8, 30>),
+    Chars(InlineList<Char, 30>),
+    Shorts(InlineList<i16, 15>),
+    Ints(InlineList<i32, 7>),
+    Floats(InlineList<F32Bits, 7>),
+    Doubles(InlineList<F64Bits, 3>),
+    UBytes(InlineList<u8, 30>),
+    UShorts(InlineList<u16, 15>),
+    UInts(InlineList<u32, 7>),
+    Int64s(InlineList<i64, 3>),
+    UInt64s(InlineList<u64, 3>),
 }
 
 // A list that allocates has 24 bytes and says so in a byte, and its type is said in another.
@@ -36,17 +36,17 @@ impl Values {
         ensures { result ≡ no_values xtype }
     {
         match xtype {
-            XType::Byte => Values::Bytes(Few::new(alloc)),
-            XType::Char => Values::Chars(Few::new(alloc)),
-            XType::Short => Values::Shorts(Few::new(alloc)),
-            XType::Int => Values::Ints(Few::new(alloc)),
-            XType::Float => Values::Floats(Few::new(alloc)),
-            XType::Double => Values::Doubles(Few::new(alloc)),
-            XType::UByte => Values::UBytes(Few::new(alloc)),
-            XType::UShort => Values::UShorts(Few::new(alloc)),
-            XType::UInt => Values::UInts(Few::new(alloc)),
-            XType::Int64 => Values::Int64s(Few::new(alloc)),
-            XType::UInt64 => Values::UInt64s(Few::new(alloc)),
+            XType::Byte => Values::Bytes(InlineList::new(alloc)),
+            XType::Char => Values::Chars(InlineList::new(alloc)),
+            XType::Short => Values::Shorts(InlineList::new(alloc)),
+            XType::Int => Values::Ints(InlineList::new(alloc)),
+            XType::Float => Values::Floats(InlineList::new(alloc)),
+            XType::Double => Values::Doubles(InlineList::new(alloc)),
+            XType::UByte => Values::UBytes(InlineList::new(alloc)),
+            XType::UShort => Values::UShorts(InlineList::new(alloc)),
+            XType::UInt => Values::UInts(InlineList::new(alloc)),
+            XType::Int64 => Values::Int64s(InlineList::new(alloc)),
+            XType::UInt64 => Values::UInt64s(InlineList::new(alloc)),
         }
     }
 
@@ -56,17 +56,17 @@ impl Values {
         ensures { IfOk result (λ values. values ≡ values_of xtype bytes.now) }
     {
         Ok(match xtype {
-            XType::Byte => Values::Bytes(Few::of_bytes(alloc, bytes)?),
-            XType::Char => Values::Chars(Few::of_bytes(alloc, bytes)?),
-            XType::Short => Values::Shorts(Few::of_bytes(alloc, bytes)?),
-            XType::Int => Values::Ints(Few::of_bytes(alloc, bytes)?),
-            XType::Float => Values::Floats(Few::of_bytes(alloc, bytes)?),
-            XType::Double => Values::Doubles(Few::of_bytes(alloc, bytes)?),
-            XType::UByte => Values::UBytes(Few::of_bytes(alloc, bytes)?),
-            XType::UShort => Values::UShorts(Few::of_bytes(alloc, bytes)?),
-            XType::UInt => Values::UInts(Few::of_bytes(alloc, bytes)?),
-            XType::Int64 => Values::Int64s(Few::of_bytes(alloc, bytes)?),
-            XType::UInt64 => Values::UInt64s(Few::of_bytes(alloc, bytes)?),
+            XType::Byte => Values::Bytes(InlineList::of_bytes(alloc, bytes)?),
+            XType::Char => Values::Chars(InlineList::of_bytes(alloc, bytes)?),
+            XType::Short => Values::Shorts(InlineList::of_bytes(alloc, bytes)?),
+            XType::Int => Values::Ints(InlineList::of_bytes(alloc, bytes)?),
+            XType::Float => Values::Floats(InlineList::of_bytes(alloc, bytes)?),
+            XType::Double => Values::Doubles(InlineList::of_bytes(alloc, bytes)?),
+            XType::UByte => Values::UBytes(InlineList::of_bytes(alloc, bytes)?),
+            XType::UShort => Values::UShorts(InlineList::of_bytes(alloc, bytes)?),
+            XType::UInt => Values::UInts(InlineList::of_bytes(alloc, bytes)?),
+            XType::Int64 => Values::Int64s(InlineList::of_bytes(alloc, bytes)?),
+            XType::UInt64 => Values::UInt64s(InlineList::of_bytes(alloc, bytes)?),
         })
     }
 

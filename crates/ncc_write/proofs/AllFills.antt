@@ -13,11 +13,11 @@ use Rattle.ncc_build.specs.Dataset.{Slab, slabs_of}
 use Rattle.ncc_build.specs.Fill.{fills}
 use Rattle.ncc_write.specs.Positions.{slab_at}
 use Rattle.ncc_write.specs.Writer.{Stands, Stops}
-use Rattle.ncc_write.specs.Writing.{Standing, Next, IsFront, IsFrontOfFiles, IsWhole, data_length, filled_in, next_of, with_fills, with_more}
+use Rattle.ncc_write.specs.Writing.{WriterState, Next, IsFront, IsFrontOfFiles, IsWhole, data_length, filled_in, next_of, with_fills, with_more}
 use Rattle.ncc_write.specs.declared.writer.FileWriter.{FileWriter}
 use Rattle.ncc_write.proofs.Filling.{fills_bytes, filled_at_end, filling_goes_on}
 use Rattle.ncc_write.proofs.Fronts.{front_behind, front_of_front}
-use Rattle.ncc_write.specs.Turns.{IsCourse}
+use Rattle.ncc_write.specs.VarSlabs.{IsSlabOrder}
 use Rattle.ncc_write.proofs.Going.{bytes_both, Taking, taking}
 use Rattle.ncc_write.proofs.Paddings.{length_fills}
 use Rattle.ncc_write.proofs.Positions.{next_done}
@@ -74,33 +74,33 @@ more_begins s less more out front f d is same begins = f d is same (front_of_fro
 -- ---- on the way
 
 -- where a writer that fills in stands, for where it began
-pub record FillsOn {W : Type 0} (start put : Option (List ℕ)) (x : FileWriter W) (w : Standing) : Type 0 where
-  pub now : Standing
+pub record FillsOn {W : Type 0} (start put : Option (List ℕ)) (x : FileWriter W) (w : WriterState) : Type 0 where
+  pub now : WriterState
   pub at : Stands start put x now
   pub stands : now.failed ≡ false
   pub filling : with_fills now ≡ with_fills w
   pub schema : now.schema ≡ w.schema
 
-pub fills_from : {W : Type 0} (start put : Option (List ℕ)) (x : FileWriter W) (w : Standing) → Stands start put x w → w.failed ≡ false → FillsOn start put x w
+pub fills_from : {W : Type 0} (start put : Option (List ℕ)) (x : FileWriter W) (w : WriterState) → Stands start put x w → w.failed ≡ false → FillsOn start put x w
 fills_from start put x w at stands = record { now = w; at = at; stands = stands; filling = refl; schema = refl }
 
 -- one slab more is filled
-pub goes_on : (w : Standing) (n : Next) → IsWhole w.schema w.taken → next_of w.schema w.taken ≡ Some n → with_fills (with_more w (fills n.left n.slab.var)) ≡ with_fills w
+pub goes_on : (w : WriterState) (n : Next) → IsWhole w.schema w.taken → next_of w.schema w.taken ≡ Some n → with_fills (with_more w (fills n.left n.slab.var)) ≡ with_fills w
 goes_on w n whole next = ap (λ (bytes : List ℕ). record { schema = w.schema; taken = bytes; failed = w.failed }) (sym (filling_goes_on w.schema w.taken n whole next))
 
-module _ {W : Type 0} (start put : Option (List ℕ)) (x : FileWriter W) (w : Standing) (f : FillsOn start put x w) where
+module _ {W : Type 0} (start put : Option (List ℕ)) (x : FileWriter W) (w : WriterState) (f : FillsOn start put x w) where
   abbrev s : Schema
   s = f.now.schema
 
-  planned : IsCourse s x.course
-  planned = subst (λ (u : Schema). IsCourse u x.course) f.at.schema x.planned
+  planned : IsSlabOrder s x.slab_order
+  planned = subst (λ (u : Schema). IsSlabOrder u x.slab_order) f.at.schema x.planned
 
   abbrev filling : List ℕ
   filling = fills x.left (slab_at s x.slab).var
 
-  module _ (less : x.slab < x.course.slabs) where
+  module _ (less : x.slab < x.slab_order.slabs) where
     taken : Taking s f.now.taken x.slab x.left filling x.left
-    taken = taking s x.course f.now.taken x.slab x.left filling x.left planned (f.at.at f.stands) (f.at.whole f.stands) less (length_fills x.left (slab_at s x.slab).var) (omega arith)
+    taken = taking s x.slab_order f.now.taken x.slab x.left filling x.left planned (f.at.at f.stands) (f.at.whole f.stands) less (length_fills x.left (slab_at s x.slab).var) (omega arith)
 
     same : with_fills (with_more f.now filling) ≡ with_fills f.now
     same = goes_on f.now (record { slab = slab_at s x.slab; left = x.left }) (f.at.whole f.stands) taken.next
@@ -115,18 +115,18 @@ module _ {W : Type 0} (start put : Option (List ℕ)) (x : FileWriter W) (w : St
       fills_stop stops =
           let more = f.now.taken ++ filling in
           let whole : with_fills (with_more f.now filling) ≡ with_fills w = same ∙ f.filling in
-          subst (λ (v : Standing). Stops start new y v) whole (record {
+          subst (λ (v : WriterState). Stops start new y v) whole (record {
             schema = stops.schema;
             bytes = filled_bytes s (slabs_of s) more stops.bytes;
             out = (stops.out.0, stops.out.1, more_begins s more (filled_in s (slabs_of s) more) stops.out.0 (filled_front s (slabs_of s) more taken.grows.within) stops.out.2);
           })
 
   -- nothing is left
-  pub fills_end : x.course.slabs ≤ x.slab → Stands start put x (with_fills w)
+  pub fills_end : x.slab_order.slabs ≤ x.slab → Stands start put x (with_fills w)
   fills_end enough =
       let at = f.at.at f.stands in
       let all : x.slab ≡ length (slabs_of s) = omega (arith, enough, planned.slabs, x.within) in
       let total : length f.now.taken ≡ data_length s = at.done all ∙ ap (sum_by (λ b. slab s.dims b.var)) (take_all x.slab (slabs_of s) (omega (arith, all))) in
       let none = filled_at_end s f.now.taken (next_done s f.now.taken x.slab x.left at all) (omega (arith, total)) in
       let whole : f.now ≡ with_fills f.now = ap (λ (bytes : List ℕ). record { schema = s; taken = bytes; failed = f.now.failed }) (sym none) in
-      subst (λ (v : Standing). Stands start put x v) (whole ∙ f.filling) f.at
+      subst (λ (v : WriterState). Stands start put x v) (whole ∙ f.filling) f.at

@@ -5,20 +5,20 @@ use Rattle.ncc_values.specs.Values.{count_of, type_of}
 use Rattle.ncc_values.specs.declared.values.Values.{Values}
 use Rattle.ncc_build.specs.declared.fault.WriteFault.TheVariants.{WrongType, TooManyValues, Device}
 use Rattle.ncc_build.specs.declared.fault.WriteFault.{WriteFault}
-use Rattle.ncc_write.specs.declared.turn.Turn.{Turn}
+use Rattle.ncc_write.specs.declared.var_slab.VarSlab.{VarSlab}
 use Rattle.ncc_write.specs.declared.writer.FileWriter.{FileWriter}
 use Rattle.ncc_write.specs.Positions.{slab_at}
-use Rattle.ncc_write.specs.Turns.{IsCourse, turn_at}
+use Rattle.ncc_write.specs.VarSlabs.{IsSlabOrder, var_slab_at}
 use Rattle.ncc_write.specs.Writer.{Stands}
-use Rattle.ncc_write.specs.Writing.{IsAnswer, Next, Standing, next_of, refuses_put}
-use Rattle.ncc_write.proofs.Courses.{turn_is}
+use Rattle.ncc_write.specs.Writing.{IsAnswer, Next, WriterState, next_of, refuses_put}
+use Rattle.ncc_write.proofs.SlabOrders.{var_slab_is}
 use Rattle.ncc_write.proofs.Positions.{next_open}
 use Rattle.ncc_write.proofs.Refusing.{wrong_type, too_many, takes, fails}
 
-module _ {W : Type 0} (start put : Option (List ℕ)) (x : FileWriter W) (w : Standing) (at : Stands start put x w)
-    (stands : w.failed ≡ false) (less : x.slab < x.course.slabs) (values : Values) where
-  planned : IsCourse w.schema x.course
-  planned = subst (λ (u : Schema). IsCourse u x.course) at.schema x.planned
+module _ {W : Type 0} (start put : Option (List ℕ)) (x : FileWriter W) (w : WriterState) (at : Stands start put x w)
+    (stands : w.failed ≡ false) (less : x.slab < x.slab_order.slabs) (values : Values) where
+  planned : IsSlabOrder w.schema x.slab_order
+  planned = subst (λ (u : Schema). IsSlabOrder u x.slab_order) at.schema x.planned
 
   abbrev n : Next
   n = record { slab = slab_at w.schema x.slab; left = x.left }
@@ -26,14 +26,14 @@ module _ {W : Type 0} (start put : Option (List ℕ)) (x : FileWriter W) (w : St
   next : next_of w.schema w.taken ≡ Some n
   next = next_open w.schema w.taken x.slab x.left (at.at stands) (omega (arith, less, planned.slabs))
 
-  xtype : (turn_at x.course x.slab).xtype ≡ n.slab.var.xtype
-  xtype = ap (λ (t : Turn). t.xtype) (turn_is w.schema x.course planned x.slab less)
+  xtype : (var_slab_at x.slab_order x.slab).xtype ≡ n.slab.var.xtype
+  xtype = ap (λ (t : VarSlab). t.xtype) (var_slab_is w.schema x.slab_order planned x.slab less)
 
-  pub faces_other : (type_of values ≡ (turn_at x.course x.slab).xtype → ⊥)
+  pub faces_other : (type_of values ≡ (var_slab_at x.slab_order x.slab).xtype → ⊥)
       → IsAnswer {T = Unit {0}} (λ (e : WriteFault). e) (refuses_put w values) (Err WrongType)
   faces_other other = wrong_type w values stands n next (λ e. other (e ∙ sym xtype))
 
-  module _ (same : type_of values ≡ (turn_at x.course x.slab).xtype) where
+  module _ (same : type_of values ≡ (var_slab_at x.slab_order x.slab).xtype) where
     pub faces_fewer : x.left < count_of values
         → IsAnswer {T = Unit {0}} (λ (e : WriteFault). e) (refuses_put w values) (Err TooManyValues)
     faces_fewer many = too_many w values stands n next (same ∙ xtype) many

@@ -10,9 +10,9 @@ use Rattle.ncc_layout.specs.declared.extent.Extent.{Extent}
 use Rattle.ncc_schema.specs.declared.schema.Schema.{Schema}
 use Rattle.ncc_schema.specs.declared.schema.Var.{Var}
 use Rattle.ncc_schema.specs.Schema.{IsTyped, Place, Sound, is_record_var}
-use Rattle.ncc_layout.specs.Extents.{counted, extents_of}
+use Rattle.ncc_layout.specs.Extents.{number_of_records, extents_of}
 use Rattle.ncc_layout.specs.Plans.{IsKnown, known}
-use Rattle.ncc_layout.specs.Rules.{Within}
+use Rattle.ncc_layout.specs.Rules.Truncated.{NotTruncated}
 use Rattle.ncc_layout.specs.Sizes.{record_size_of, record_vars}
 use Rattle.ncc_build.specs.Dataset.{AreSlabsOf, Dataset, IsDataset}
 use Rattle.ncc_write.proofs.FoundSlabs.{HaveRoom, are_slabs, fixed_room, record_room, slabs_at}
@@ -47,10 +47,10 @@ pub record HasRoom (s : Schema) (places : List Place) (bytes : List ℕ) : Type 
   pub typed : IsTyped s
   pub counted : IsKnown s.count
   pub many : length places ≡ length s.vars
-  pub within : AllByRecursion (Within (length bytes) (record_size_of s) (known s.count)) (extents_of s places)
+  pub within : AllByRecursion (NotTruncated (length bytes) (record_size_of s) (known s.count)) (extents_of s places)
 
 -- where the number of records is known
-pub count_is : (size long : ℕ) (es : List Extent) (n : Count) → IsKnown n → counted size long es n ≡ known n
+pub count_is : (size long : ℕ) (es : List Extent) (n : Count) → IsKnown n → number_of_records size long es n ≡ known n
 count_is size long es (Known n) is = refl
 count_is size long es Streaming is = absurd is
 

@@ -15,7 +15,8 @@ use Rattle.ncc_schema.specs.declared.schema.Var.{Var}
 use Rattle.ncc_schema.specs.Schema.{Place, is_record_var}
 use Rattle.ncc_layout.specs.declared.extent.Extent.{Extent}
 use Rattle.ncc_layout.specs.Extents.{end, extent_of, extents_from}
-use Rattle.ncc_layout.specs.Rules.{ByKind, LastWithin, Within}
+use Rattle.ncc_layout.specs.Rules.ByKind.{ByKind}
+use Rattle.ncc_layout.specs.Rules.Truncated.{LastNotTruncated, NotTruncated}
 use Rattle.ncc_layout.specs.Sizes.{slab}
 use Rattle.ncc_build.specs.Dataset.{AreSlabsOf, IsSlabOf, elements}
 use Rattle.ncc_write.specs.Holds.{bytes_at, no_slab}
@@ -121,25 +122,25 @@ fixed_ends true A begin size long is ends = absurd cc
 fixed_ends false A begin size long is ends = omega (arith, ends)
 
 pub fixed_room : (dims : List Dim) (long size records n : ℕ) (vars : List Var) (places : List Place)
-    → AllByRecursion (Within long size records) (extents_from dims n vars places)
+    → AllByRecursion (NotTruncated long size records) (extents_from dims n vars places)
     → HaveRoom (λ x. not (is_record_var dims x)) dims long 0 vars places
 fixed_room dims long size records n [] places all = tt
 fixed_room dims long size records n (x ∷ vars) [] all = tt
 fixed_room dims long size records n (x ∷ vars) (p ∷ places) all = (
-  λ is. fixed_ends (is_record_var dims x) (LastWithin long size records (extent_of dims n x p)) p.begin
+  λ is. fixed_ends (is_record_var dims x) (LastNotTruncated long size records (extent_of dims n x p)) p.begin
       (slab dims x) long is all.0,
   fixed_room dims long size records (suc n) vars places all.1,
 )
 
 record_ends : (t : Bool) (A : Type 0) (e : Extent) (long size records r : ℕ) → r < records → t ≡ true
-    → ByKind t (LastWithin long size records e) A → e.begin + r * size + e.slab ≤ long
+    → ByKind t (LastNotTruncated long size records e) A → e.begin + r * size + e.slab ≤ long
 record_ends true A e long size zero r below is ends = absurd (omega (arith, below))
 record_ends true A e long size (suc n) r below is ends =
     omega (arith, ends, mul-le r size n size (omega (arith, below)) (omega arith))
 record_ends false A e long size records r below is ends = absurd cc
 
 pub record_room : (dims : List Dim) (long size records n r : ℕ) (vars : List Var) (places : List Place) → r < records
-    → AllByRecursion (Within long size records) (extents_from dims n vars places)
+    → AllByRecursion (NotTruncated long size records) (extents_from dims n vars places)
     → HaveRoom (is_record_var dims) dims long (r * size) vars places
 record_room dims long size records n r [] places below all = tt
 record_room dims long size records n r (x ∷ vars) [] below all = tt

@@ -4,8 +4,8 @@ mod Streaming
 mod Slabs
 mod Rounds
 mod Positions
-mod Courses
-mod NextTurns
+mod SlabOrders
+mod NextVarSlabs
 mod Going
 pub mod Refusing
 mod AllFills
@@ -27,7 +27,7 @@ mod Indices
 mod Holding
 mod Same
 mod OneDatasets
-mod Turns
+mod BeginsInOrder
 mod NamesKept
 mod NoNotes
 mod Passing

@@ -20,9 +20,9 @@ one_more n fill = ap (λ (l : List ℕ). concat (replicate n fill) ++ l) (sym (a
 pub next_fill : (place n : ℕ) (fill old before after : List ℕ) → take (place + n * length fill) before ≡ take place old ++ concat (replicate n fill)
     → take (place + n * length fill + length fill) after ≡ take (place + n * length fill) before ++ fill
     → take (place + (n + 1) * length fill) after ≡ take place old ++ concat (replicate (n + 1) fill)
-next_fill place n fill old before after so_far turn =
+next_fill place n fill old before after so_far var_slab =
     let end : place + (n + 1) * length fill ≡ place + n * length fill + length fill = omega (arith, add-mul n 1 (length fill)) in
-    ap (λ (k : ℕ). take k after) end ∙ turn ∙ ap (λ (l : List ℕ). l ++ fill) so_far ∙ append_assoc (take place old) (concat (replicate n fill)) fill
+    ap (λ (k : ℕ). take k after) end ∙ var_slab ∙ ap (λ (l : List ℕ). l ++ fill) so_far ∙ append_assoc (take place old) (concat (replicate n fill)) fill
     ∙ ap (λ (l : List ℕ). take place old ++ l) (one_more n fill)
 
 length-fills : (n : ℕ) (fill : List ℕ) → length (concat (replicate n fill)) ≡ n * length fill
@@ -43,7 +43,7 @@ pub more_fills : (place d m : ℕ) (fill old before after : List ℕ) → place 
     → take (place + d * length fill) before ≡ take place old ++ concat (replicate d fill)
     → take (place + d * length fill + m * length fill) after ≡ take (place + d * length fill) before ++ take (m * length fill) (drop place before)
     → take (place + (d + m) * length fill) after ≡ take place old ++ concat (replicate (d + m) fill)
-more_fills place d m fill old before after within le so_far turn =
+more_fills place d m fill old before after within le so_far var_slab =
     let s = length fill in
     let end : place + (d + m) * s ≡ place + d * s + m * s = omega (arith, add-mul d m s) in
     let less : m * s ≤ d * s = mul-le m s d s le (omega arith) in
@@ -54,7 +54,7 @@ more_fills place d m fill old before after within le so_far turn =
     ∙ drop-append_seam (take place old) (concat (replicate d fill)) in
     let piece : take (m * s) (drop place before) ≡ concat (replicate m fill) =
     sym (take-take (m * s) (d * s) (drop place before) less) ∙ ap (take (m * s)) there ∙ first_fills m d fill le in
-    ap (λ (k : ℕ). take k after) end ∙ turn ∙ ap (λ (l : List ℕ). l ++ take (m * s) (drop place before)) so_far
+    ap (λ (k : ℕ). take k after) end ∙ var_slab ∙ ap (λ (l : List ℕ). l ++ take (m * s) (drop place before)) so_far
     ∙ append_assoc (take place old) (concat (replicate d fill)) (take (m * s) (drop place before))
     ∙ ap (λ (l : List ℕ). take place old ++ (concat (replicate d fill) ++ l)) piece
     ∙ ap (λ (l : List ℕ). take place old ++ l) (fills_join d m fill)

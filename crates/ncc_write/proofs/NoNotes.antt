@@ -21,7 +21,7 @@ use Rattle.ncc_check.specs.declared.note.NoteKind.{NoteKind}
 use Rattle.ncc_check.specs.declared.note.NoteKind.TheVariants.{VsizeField, HeaderPadding, TaggedEmpty, NameRule, DuplicateName, UnalignedBegin, Order, LargeCount}
 use Rattle.ncc_check.specs.Notes.{vsize_words, vsizes, extents_in, HasLargeCount, IsDue, AreNotes}
 use Rattle.ncc_write.proofs.NamesKept.{name_fits, name_differs}
-use Rattle.ncc_write.proofs.Turns.{later_begins_later, each_of}
+use Rattle.ncc_write.proofs.BeginsInOrder.{later_begins_later, each_of}
 
 -- ---- parts
 

@@ -3,8 +3,8 @@ use Rattle.std.proofs.Common.{◌≡◌, ℕ, zero, suc, ◌+◌, ◌-◌, ◌*�
 use Rattle.std.specs.Prelude.{◌/◌, ◌%◌}
 use Rattle.std.specs.List.{concat}
 use Rattle.std.proofs.lemmas.List.{length-append}
-use Rattle.ncc_write.specs.Outlet.{IsPaged, Paged}
-use Rattle.ncc_write.specs.declared.outlet.Outlet.{Outlet}
+use Rattle.ncc_write.specs.PagedSink.{IsPaged, Paged}
+use Rattle.ncc_write.specs.declared.paged_sink.PagedSink.{PagedSink}
 
 -- nothing waits at first
 pub first_out : (n : ℕ) → IsPaged n n 0 (65536 - n % 65536)
@@ -32,7 +32,7 @@ length_copies (suc n) fill = omega (arith, length-append fill (concat (replicate
 -- ---- a slab that is full
 
 -- the slab's padding isn't put yet
-pub paged_before : {W : Type 0} (first whole : ℕ) (o : Outlet W) (old bytes padding : List ℕ) {new : List ℕ} → new ≡ old ++ bytes ++ padding
+pub paged_before : {W : Type 0} (first whole : ℕ) (o : PagedSink W) (old bytes padding : List ℕ) {new : List ℕ} → new ≡ old ++ bytes ++ padding
     → whole + length padding ≡ length new → Paged first (length old + length bytes) o → Paged first whole o
 paged_before first whole o old bytes padding is sum p =
     let long = ap length is ∙ length-append (old ++ bytes) padding in

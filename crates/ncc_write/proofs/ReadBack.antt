@@ -14,7 +14,7 @@ use Rattle.ncc_schema.specs.declared.schema.Schema.{Schema}
 use Rattle.ncc_schema.specs.Schema.{Place, places_of}
 use Rattle.ncc_header.specs.Answers.{Begins}
 use Rattle.ncc_layout.specs.Elements.{Inside, placed_from, placed_vars, placed_with, var_at}
-use Rattle.ncc_layout.specs.Extents.{counted, extents_of, record_count}
+use Rattle.ncc_layout.specs.Extents.{number_of_records, extents_of, record_count}
 use Rattle.ncc_layout.specs.Placed.{record_size_of_file, vars_of}
 use Rattle.ncc_layout.specs.Plans.{IsKnown, known}
 use Rattle.ncc_layout.specs.Sizes.{record_size_of}
@@ -84,7 +84,7 @@ no_more dims records number [] places = omega arith
 no_more dims records number (x ∷ vars) [] = omega arith
 no_more dims records number (x ∷ vars) (p ∷ places) = omega (arith, no_more dims records (suc number) vars places)
 
-count_is : (record_size length : ℕ) (es : List Extent) (c : Count) → IsKnown c → counted record_size length es c ≡ known c
+count_is : (record_size length : ℕ) (es : List Extent) (c : Count) → IsKnown c → number_of_records record_size length es c ≡ known c
 count_is record_size length es (Known n) h = refl
 count_is record_size length es Streaming h = absurd h
 

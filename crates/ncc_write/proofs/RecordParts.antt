@@ -26,7 +26,7 @@ use Rattle.ncc_write.specs.Records.{HasSizes, fits_slab, in_turn, with_padding, 
 use Rattle.ncc_write.proofs.ManyFills.{fills_join}
 use Rattle.ncc_write.proofs.Paddings.{type_is}
 use Rattle.ncc_write.proofs.Pages.{length_copies}
-use Rattle.ncc_write.specs.Turns.{no_var}
+use Rattle.ncc_write.specs.VarSlabs.{no_var}
 
 -- the size of a placed variable's slab
 pub slab_of_sizes : (s : Schema) (p : Placed) → HasSizes s p → (n : ℕ) → n < length s.vars

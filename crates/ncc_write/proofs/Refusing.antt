@@ -9,7 +9,7 @@ use Rattle.ncc_values.specs.declared.xtype.XType.{XType}
 use Rattle.ncc_build.specs.Fill.{same_type}
 use Rattle.ncc_build.specs.declared.fault.WriteFault.{WriteFault}
 use Rattle.ncc_build.specs.declared.fault.WriteFault.TheVariants.{WrongType, TooManyValues, Unfinished, Failed, Complete, Device}
-use Rattle.ncc_write.specs.Writing.{Standing, Next, next_of, told, expected, refuses_next, refuses_put, refuses_fill, refuses_unfinished, refuses_finish, IsAnswer, IsExactly}
+use Rattle.ncc_write.specs.Writing.{WriterState, Next, next_of, told, expected, refuses_next, refuses_put, refuses_fill, refuses_unfinished, refuses_finish, IsAnswer, IsExactly}
 use Rattle.ncc_write.proofs.Paddings.{type_is}
 
 -- ---- types
@@ -33,10 +33,10 @@ judges : (n : Next) (values : Values) (same many : Bool) → same_type (type_of 
 judges n values same many is room = ap (λ (b : Bool). judged b (ltb n.left (count_of values))) is ∙ ap (judged same) room
 
 -- of a writer that hasn't failed
-by_next : (w : Standing) (values : Values) (o : Option Next) → w.failed ≡ false → next_of w.schema w.taken ≡ o → refuses_put w values ≡ refuses_next o values
+by_next : (w : WriterState) (values : Values) (o : Option Next) → w.failed ≡ false → next_of w.schema w.taken ≡ o → refuses_put w values ≡ refuses_next o values
 by_next w values o stands next = ap (λ (b : Bool). if b then Some Failed else refuses_next (next_of w.schema w.taken) values) stands ∙ ap (λ (p : Option Next). refuses_next p values) next
 
-module _ (w : Standing) (values : Values) (stands : w.failed ≡ false) where
+module _ (w : WriterState) (values : Values) (stands : w.failed ≡ false) where
   abbrev Answer : Option WriteFault → Result (Unit {0}) WriteFault → Type 0
   Answer refusal result = IsAnswer (λ (e : WriteFault). e) refusal result
 
@@ -65,24 +65,24 @@ module _ (w : Standing) (values : Values) (stands : w.failed ≡ false) where
 
 -- ---- what is expected
 
-pub expected_by : (w : Standing) (o : Option Next) → w.failed ≡ false → next_of w.schema w.taken ≡ o → expected w ≡ told o
+pub expected_by : (w : WriterState) (o : Option Next) → w.failed ≡ false → next_of w.schema w.taken ≡ o → expected w ≡ told o
 expected_by w o stands next = ap (λ (b : Bool). if b then None else told (next_of w.schema w.taken)) stands ∙ ap told next
 
-pub failed_expects_nothing : (w : Standing) → w.failed ≡ true → expected w ≡ None
+pub failed_expects_nothing : (w : WriterState) → w.failed ≡ true → expected w ≡ None
 failed_expects_nothing w failed = ap (λ (b : Bool). if b then None else told (next_of w.schema w.taken)) failed
 
 -- ---- filling
 
-pub fill_failed : (w : Standing) → w.failed ≡ true → IsAnswer {T = Unit {0}} (λ (e : WriteFault). e) (refuses_fill w) (Err Failed)
+pub fill_failed : (w : WriterState) → w.failed ≡ true → IsAnswer {T = Unit {0}} (λ (e : WriteFault). e) (refuses_fill w) (Err Failed)
 fill_failed w failed = subst (λ (o : Option WriteFault). IsAnswer {T = Unit {0}} (λ (e : WriteFault). e) o (Err Failed)) (sym (ap (λ (b : Bool). if b then Some Failed else None) failed)) refl
 
 -- ---- finishing
 
-pub finish_by : (w : Standing) (o : Option Next) → w.failed ≡ false → next_of w.schema w.taken ≡ o → refuses_finish w ≡ refuses_unfinished o
+pub finish_by : (w : WriterState) (o : Option Next) → w.failed ≡ false → next_of w.schema w.taken ≡ o → refuses_finish w ≡ refuses_unfinished o
 finish_by w o stands next = ap (λ (b : Bool). if b then Some Failed else refuses_unfinished (next_of w.schema w.taken)) stands ∙ ap refuses_unfinished next
 
-pub unfinished : (T : Type 0) {E : Type 0} (w : Standing) (n : Next) (fault_of : E → WriteFault) (e : E) → w.failed ≡ false → next_of w.schema w.taken ≡ Some n → fault_of e ≡ Unfinished → IsExactly {T = T} fault_of (refuses_finish w) (Err e)
+pub unfinished : (T : Type 0) {E : Type 0} (w : WriterState) (n : Next) (fault_of : E → WriteFault) (e : E) → w.failed ≡ false → next_of w.schema w.taken ≡ Some n → fault_of e ≡ Unfinished → IsExactly {T = T} fault_of (refuses_finish w) (Err e)
 unfinished T w n fault_of e stands next is = subst (λ (o : Option WriteFault). IsExactly {T = T} fault_of o (Err e)) (sym (finish_by w (Some n) stands next)) is
 
-pub finished : {T E : Type 0} (w : Standing) (fault_of : E → WriteFault) (x : T) → w.failed ≡ false → next_of w.schema w.taken ≡ None → IsExactly fault_of (refuses_finish w) (Ok x)
+pub finished : {T E : Type 0} (w : WriterState) (fault_of : E → WriteFault) (x : T) → w.failed ≡ false → next_of w.schema w.taken ≡ None → IsExactly fault_of (refuses_finish w) (Ok x)
 finished w fault_of x stands none = subst (λ (o : Option WriteFault). IsExactly fault_of o (Ok x)) (sym (finish_by w None stands none)) tt

@@ -17,7 +17,7 @@ use Rattle.ncc_layout.specs.Plans.{known}
 use Rattle.ncc_layout.proofs.Membership.{all_filter}
 use Rattle.ncc_layout.proofs.Positive.{slab_positive}
 use Rattle.ncc_build.specs.Dataset.{Slab, slabs_from, fixed_vars, fixed_slabs, record_slabs, slabs_of}
-use Rattle.ncc_write.specs.Turns.{slabs_of_kind}
+use Rattle.ncc_write.specs.VarSlabs.{slabs_of_kind}
 use Rattle.ncc_write.proofs.Slabs.{vars_of_fixed, vars_of_record}
 
 -- the record variables, or the fixed ones

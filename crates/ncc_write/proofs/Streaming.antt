@@ -9,13 +9,13 @@ use Rattle.std.proofs.lemmas.Nat.{mul-le}
 use Rattle.std.specs.List.{concat}
 use Rattle.std.specs.Result.{IsErrAnd}
 use Rattle.ncc_schema.specs.Device.{Puts, WritesAll}
-use Rattle.ncc_schema.specs.declared.failed.Failed.{Failed}
+use Rattle.ncc_values.specs.declared.failures.Device.{Device}
 use Rattle.ncc_schema.proofs.Writing.{puts_both, puts_none}
 use Rattle.ncc_write.specs.Streams.{Streams}
 use Rattle.ncc_write.proofs.ManyFills.{fills_join}
 
 -- one piece, and after it the next
-pub streams_both : (old mid new : Option (List ℕ)) (waits between waiting a b : List ℕ) (r : Result (Unit {0}) Failed) → Streams old mid waits between a (Ok tt) → Streams mid new between waiting b r
+pub streams_both : (old mid new : Option (List ℕ)) (waits between waiting a b : List ℕ) (r : Result (Unit {0}) Device) → Streams old mid waits between a (Ok tt) → Streams mid new between waiting b r
     → Streams old new waits waiting (a ++ b) r
 streams_both old mid new waits between waiting a b (Ok x) one two = (
   one.0 ++ two.0,
@@ -34,16 +34,16 @@ pub streams_none : (old : Option (List ℕ)) (waits : List ℕ) → Streams old 
 streams_none old waits = ([], puts_none old, append-nil waits)
 
 -- a piece that failed fails with whatever would come after it
-pub stream_fails : (old new : Option (List ℕ)) (waits waiting other a b : List ℕ) (e : Failed) → Streams old new waits waiting a (Err e) → Streams old new waits other (a ++ b) (Err e)
+pub stream_fails : (old new : Option (List ℕ)) (waits waiting other a b : List ℕ) (e : Device) → Streams old new waits waiting a (Err e) → Streams old new waits other (a ++ b) (Err e)
 stream_fails old new waits waiting other a b e s =
     (s.0, s.1 ++ b, s.2, sym (append_assoc waits a b) ∙ ap (λ (l : List ℕ). l ++ b) s.3 ∙ append_assoc s.0 s.1 b)
 
 -- after the exit of a `?`
-pub stream_fails_at : (Q : Failed → Type 0) (old new : Option (List ℕ)) (waits waiting other a b : List ℕ) (r : Result (Unit {0}) Failed) (e : Failed) → IsErrAnd r Q → Streams old new waits waiting a (Err e)
+pub stream_fails_at : (Q : Device → Type 0) (old new : Option (List ℕ)) (waits waiting other a b : List ℕ) (r : Result (Unit {0}) Device) (e : Device) → IsErrAnd r Q → Streams old new waits waiting a (Err e)
     → Streams old new waits other (a ++ b) r
 stream_fails_at Q old new waits waiting other a b r e exit s =
     let p = err_from_is_err_and r exit in
-    subst (λ (q : Result (Unit {0}) Failed). Streams old new waits other (a ++ b) q) (sym p.1) (stream_fails old new waits waiting other a b p.0 s)
+    subst (λ (q : Result (Unit {0}) Device). Streams old new waits other (a ++ b) q) (sym p.1) (stream_fails old new waits waiting other a b p.0 s)
 
 -- ---- bytes, piece after piece
 
@@ -54,8 +54,8 @@ next_bytes old mid new waits between waiting bytes m n one two =
     subst (λ (l : List ℕ). Streams old new waits waiting l (Ok tt)) (sym (take-add m n bytes))
     (streams_both old mid new waits between waiting _ _ (Ok tt) one two)
 
-pub bytes_fail_at : (Q : Failed → Type 0) (old mid new : Option (List ℕ)) (waits between waiting bytes : List ℕ)
-    (m n : ℕ) (r : Result (Unit {0}) Failed) (e : Failed) → IsErrAnd r Q
+pub bytes_fail_at : (Q : Device → Type 0) (old mid new : Option (List ℕ)) (waits between waiting bytes : List ℕ)
+    (m n : ℕ) (r : Result (Unit {0}) Device) (e : Device) → IsErrAnd r Q
     → Streams old mid waits between (take m bytes) (Ok tt) → Streams mid new between waiting (take n (drop m bytes)) (Err e)
     → Streams old new waits waiting bytes r
 bytes_fail_at Q old mid new waits between waiting bytes m n r e exit one two =
@@ -63,7 +63,7 @@ bytes_fail_at Q old mid new waits between waiting bytes m n r e exit one two =
     let first = streams_both old mid new waits between waiting _ _ (Err e) one two in
     let joined = subst (λ (l : List ℕ). Streams old new waits waiting l (Err e)) (sym (take-add m n bytes)) first in
     let all = stream_fails old new waits waiting waiting (take (m + n) bytes) (drop (m + n) bytes) e joined in
-    subst (λ (q : Result (Unit {0}) Failed). Streams old new waits waiting bytes q) (sym p.1)
+    subst (λ (q : Result (Unit {0}) Device). Streams old new waits waiting bytes q) (sym p.1)
     (subst (λ (l : List ℕ). Streams old new waits waiting l (Err p.0)) (take-append-drop (m + n) bytes) all)
 
 -- ---- values, part after part
@@ -75,7 +75,7 @@ next_part old mid new waits between waiting bytes m n size one two =
     subst (λ (k : ℕ). Streams old new waits waiting (take k bytes) (Ok tt)) (sym (add-mul m n size))
     (next_bytes old mid new waits between waiting bytes (m * size) (n * size) one two)
 
-pub part_fails_at : (Q : Failed → Type 0) (old mid new : Option (List ℕ)) (waits between waiting bytes : List ℕ) (m n size : ℕ) (r : Result (Unit {0}) Failed) (e : Failed) → IsErrAnd r Q
+pub part_fails_at : (Q : Device → Type 0) (old mid new : Option (List ℕ)) (waits between waiting bytes : List ℕ) (m n size : ℕ) (r : Result (Unit {0}) Device) (e : Device) → IsErrAnd r Q
     → Streams old mid waits between (take (m * size) bytes) (Ok tt) → Streams mid new between waiting (take (n * size) (drop (m * size) bytes)) (Err e) → Streams old new waits waiting bytes r
 part_fails_at Q old mid new waits between waiting bytes m n size r e exit one two =
     bytes_fail_at Q old mid new waits between waiting bytes (m * size) (n * size) r e exit one two
@@ -92,7 +92,7 @@ pub next_fills : (old mid new : Option (List ℕ)) (waits between waiting fill :
 next_fills old mid new waits between waiting fill m n one two =
     subst (λ (l : List ℕ). Streams old new waits waiting l (Ok tt)) (fills_join m n fill) (streams_both old mid new waits between waiting _ _ (Ok tt) one two)
 
-pub fills_fail_at : (Q : Failed → Type 0) (old mid new : Option (List ℕ)) (waits between waiting fill : List ℕ) (m n count : ℕ) (r : Result (Unit {0}) Failed) (e : Failed) → IsErrAnd r Q → m + n ≤ count
+pub fills_fail_at : (Q : Device → Type 0) (old mid new : Option (List ℕ)) (waits between waiting fill : List ℕ) (m n count : ℕ) (r : Result (Unit {0}) Device) (e : Device) → IsErrAnd r Q → m + n ≤ count
     → Streams old mid waits between (concat (replicate m fill)) (Ok tt) → Streams mid new between waiting (concat (replicate n fill)) (Err e) → Streams old new waits waiting (concat (replicate count fill)) r
 fills_fail_at Q old mid new waits between waiting fill m n count r e exit le one two =
     let p = err_from_is_err_and r exit in
@@ -100,7 +100,7 @@ fills_fail_at Q old mid new waits between waiting fill m n count r e exit le one
     let all = stream_fails old new waits waiting waiting (concat (replicate m fill) ++ concat (replicate n fill)) (concat (replicate (count - (m + n)) fill)) e first in
     let sum : m + n + (count - (m + n)) ≡ count = omega (arith, le) in
     let joined = ap (λ (l : List ℕ). l ++ concat (replicate (count - (m + n)) fill)) (fills_join m n fill) ∙ fills_join (m + n) (count - (m + n)) fill ∙ ap (λ (k : ℕ). concat (replicate k fill)) sum in
-    subst (λ (q : Result (Unit {0}) Failed). Streams old new waits waiting (concat (replicate count fill)) q) (sym p.1)
+    subst (λ (q : Result (Unit {0}) Device). Streams old new waits waiting (concat (replicate count fill)) q) (sym p.1)
     (subst (λ (l : List ℕ). Streams old new waits waiting l (Err p.0)) joined all)
 
 -- ---- a page that goes out
@@ -127,12 +127,12 @@ page_out old new items full end le room puts =
     )
 
 -- a front of the page went out
-pub page_fails : (Q : Failed → Type 0) (old new : Option (List ℕ)) (items other : List ℕ) (full end : ℕ) (r : Result (Unit {0}) Failed) (e : Failed) → IsErrAnd r Q → full ≤ end
+pub page_fails : (Q : Device → Type 0) (old new : Option (List ℕ)) (items other : List ℕ) (full end : ℕ) (r : Result (Unit {0}) Device) (e : Device) → IsErrAnd r Q → full ≤ end
     → WritesAll old new (Err e) (take full items) → Streams old new (take end items) other [] r
 page_fails Q old new items other full end r e exit le w =
     let p = err_from_is_err_and r exit in
     let rest = take (end - full) (drop full items) in
-    subst (λ (q : Result (Unit {0}) Failed). Streams old new (take end items) other [] q) (sym p.1) (
+    subst (λ (q : Result (Unit {0}) Device). Streams old new (take end items) other [] q) (sym p.1) (
       w.0,
       w.1 ++ rest,
       w.3,

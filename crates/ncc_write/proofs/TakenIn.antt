@@ -8,7 +8,7 @@ use Rattle.ncc_build.specs.Dataset.{slabs_of}
 use Rattle.ncc_write.specs.declared.writer.FileWriter.{FileWriter}
 use Rattle.ncc_write.specs.Positions.{IsAt, end_of, slab_at}
 use Rattle.ncc_write.specs.Writer.{Stands, taken_at, taken_in}
-use Rattle.ncc_write.specs.Writing.{Standing}
+use Rattle.ncc_write.specs.Writing.{WriterState}
 
 abbrev taken_by : Schema → (number left : ℕ) → Bool → ℕ
 taken_by s k left open_slab =
@@ -23,7 +23,7 @@ by_slab s taken k left at false is =
     let all : k ≡ length (slabs_of s) = omega (arith, ltb-false k (length (slabs_of s)) is, at.within) in
     sym (at.done all)
 
-pub taken_is : {W : Type 0} (start put : Option (List ℕ)) (x : FileWriter W) (w : Standing) → Stands start put x w
+pub taken_is : {W : Type 0} (start put : Option (List ℕ)) (x : FileWriter W) (w : WriterState) → Stands start put x w
     → w.failed ≡ false → taken_in x ≡ length w.taken
 taken_is start put x w at goes =
     ap (λ (s : Schema). taken_at s x.slab x.left) at.schema

@@ -21,7 +21,7 @@ use Rattle.ncc_write.specs.Laws.{CompleteWhenTaken, TakingGrows}
 use Rattle.ncc_write.specs.Positions.{IsAt}
 use Rattle.ncc_write.specs.Trips.{PutsAll, PutsSlab, WritesAs, of_write}
 use Rattle.ncc_write.specs.Writer.{Stands, schema_in}
-use Rattle.ncc_write.specs.Writing.{IsAnswer, IsExactly, Next, Standing, StartFails, Went, data_length, expected, next_of, refuses_finish, refuses_put, starting, told, with_more, with_taken, with_values}
+use Rattle.ncc_write.specs.Writing.{IsAnswer, IsExactly, Next, WriterState, StartFails, Went, data_length, expected, next_of, refuses_finish, refuses_put, starting, told, with_more, with_taken, with_values}
 use Rattle.ncc_write.proofs.Ends.{all_taken}
 use Rattle.ncc_write.proofs.Growing.{by_size}
 use Rattle.ncc_write.proofs.NextSlabs.{IsNext, is_next}
@@ -31,11 +31,11 @@ use Rattle.ncc_write.proofs.Refusing.{expected_by, finish_by, taken}
 
 -- ---- sizes
 
-abbrev Few : ℕ → Type 0
-Few w = (n left : ℕ) → n / w < left → n < left * w
+abbrev InlineList : ℕ → Type 0
+InlineList w = (n left : ℕ) → n / w < left → n < left * w
 
-pub too_few : (t : XType) → Few (size_of t)
-too_few t = by_size Few (λ n left h. omega (arith, h)) (λ n left h. omega (arith, h)) (λ n left h. omega (arith, h))
+pub too_few : (t : XType) → InlineList (size_of t)
+too_few t = by_size InlineList (λ n left h. omega (arith, h)) (λ n left h. omega (arith, h)) (λ n left h. omega (arith, h))
     (λ n left h. omega (arith, h)) t
 
 abbrev Enough : ℕ → Type 0
@@ -55,7 +55,7 @@ has_some t = by_size HasSome (λ left h. omega (arith, h)) (λ left h. omega (ar
 -- ---- what comes next
 
 -- the slab that is awaited
-pub record Comes (w : Standing) (var left : ℕ) : Type 0 where
+pub record Comes (w : WriterState) (var left : ℕ) : Type 0 where
   pub n : Next
   pub next_is : next_of w.schema w.taken ≡ Some n
   pub left_is : left ≡ n.left
@@ -71,7 +71,7 @@ abbrev left_or : Option (ℕ × ℕ × ℕ) → ℕ
 left_or None = 0
 left_or (Some x) = x.2
 
-module _ {W : Type 0} (start put : Option (List ℕ)) (x : FileWriter W) (w : Standing) (at : Stands start put x w)
+module _ {W : Type 0} (start put : Option (List ℕ)) (x : FileWriter W) (w : WriterState) (at : Stands start put x w)
     (goes : w.failed ≡ false) where
   module _ (var number left : ℕ) (next : Some (var, number, left) ≡ expected w) where
     by : (o : Option Next) → next_of w.schema w.taken ≡ o → Comes w var left
@@ -144,7 +144,7 @@ module _ {W : Type 0} (start put : Option (List ℕ)) (x : FileWriter W) (w : St
         (taken w v goes c.n c.next_is (type_of-values_of t piece ∙ typed) (omega (arith, count, c.left_is))) answer
 
 -- where the piece was taken
-pub stands_there : {W : Type 0} (start put : Option (List ℕ)) (x : FileWriter W) (w new : Standing) (t : XType) (k : ℕ)
+pub stands_there : {W : Type 0} (start put : Option (List ℕ)) (x : FileWriter W) (w new : WriterState) (t : XType) (k : ℕ)
     (piece : List ℕ) → IsBytes piece → length piece ≡ k * size_of t → Stands start put x new
     → new ≡ with_values w (values_of t piece) → Stands start put x (with_more w piece)
 stands_there start put x w new t k piece are long at is =
@@ -152,20 +152,20 @@ stands_there start put x w new t k piece are long at is =
     (is ∙ ap (with_more w) (bytes_of-values_of t k piece are long)) at
 
 -- a sink's failure is want of memory
-pub failed_so : {W : Type 0} (start put : Option (List ℕ)) (x : FileWriter W) (w : Standing) (bytes : List ℕ)
+pub failed_so : {W : Type 0} (start put : Option (List ℕ)) (x : FileWriter W) (w : WriterState) (bytes : List ℕ)
     (e : WriteFault) → e ≡ write.Device → PutsSlab start put x w bytes (Err (of_write e))
 failed_so start put x w bytes e is = subst (λ (f : WriteFault). PutsSlab start put x w bytes (Err (of_write f))) (sym is) tt
 
 -- ---- slab after slab
 
 -- a front of the bytes was taken, and this is the rest
-pub record PutSoFar {W : Type 0} (start put : Option (List ℕ)) (x : FileWriter W) (w : Standing) (bytes rest : List ℕ)
+pub record PutSoFar {W : Type 0} (start put : Option (List ℕ)) (x : FileWriter W) (w : WriterState) (bytes rest : List ℕ)
     : Type 0 where
   pub front : List ℕ
   pub joined : bytes ≡ front ++ rest
   pub stands : Stands start put x (with_more w front)
 
-pub at_first : {W : Type 0} (start put : Option (List ℕ)) (x : FileWriter W) (w : Standing) (bytes : List ℕ)
+pub at_first : {W : Type 0} (start put : Option (List ℕ)) (x : FileWriter W) (w : WriterState) (bytes : List ℕ)
     → Stands start put x w → PutSoFar start put x w bytes bytes
 at_first start put x w bytes at = record {
   front = [];
@@ -173,7 +173,7 @@ at_first start put x w bytes at = record {
   stands = subst (λ (l : List ℕ). Stands start put x (with_taken w l)) (sym (append-nil w.taken)) at;
 }
 
-pub goes_on : {W : Type 0} (start put new : Option (List ℕ)) (x y : FileWriter W) (w : Standing)
+pub goes_on : {W : Type 0} (start put new : Option (List ℕ)) (x y : FileWriter W) (w : WriterState)
     (bytes rest : List ℕ) (n : ℕ) (s : PutSoFar start put x w bytes rest)
     → PutsSlab start new y (with_more w s.front) rest (Ok n) → PutSoFar start new y w bytes (drop n rest)
 goes_on start put new x y w bytes rest n s puts = record {
@@ -184,7 +184,7 @@ goes_on start put new x y w bytes rest n s puts = record {
       puts.2;
 }
 
-pub stops : {W : Type 0} (start put new : Option (List ℕ)) (x y : FileWriter W) (w : Standing) (bytes rest : List ℕ)
+pub stops : {W : Type 0} (start put new : Option (List ℕ)) (x y : FileWriter W) (w : WriterState) (bytes rest : List ℕ)
     (s : PutSoFar start put x w bytes rest) (e : TripFault)
     → PutsSlab start new y (with_more w s.front) rest (Err e) → PutsAll start new y w bytes (Err e)
 stops start put new x y w bytes rest s fault.HeaderTooLong puts = absurd puts
@@ -201,9 +201,9 @@ stops start put new x y w bytes rest s fault.Memory puts = tt
 
 -- ---- all slabs
 
-module _ {W : Type 0} (start put : Option (List ℕ)) (x : FileWriter W) (w : Standing) (bytes rest : List ℕ)
+module _ {W : Type 0} (start put : Option (List ℕ)) (x : FileWriter W) (w : WriterState) (bytes rest : List ℕ)
     (s : PutSoFar start put x w bytes rest) (goes : w.failed ≡ false)
-    (none : (v : Standing) → Stands start put x v → None ≡ expected v) where
+    (none : (v : WriterState) → Stands start put x v → None ≡ expected v) where
   by_next : (o : Option Next) → next_of w.schema (w.taken ++ s.front) ≡ o → None ≡ told o
       → next_of w.schema (w.taken ++ s.front) ≡ None
   by_next None is told_none = is
@@ -248,7 +248,7 @@ as_many s bytes k left at none = by (ltb k (length (slabs_of s))) refl
         all_taken s bytes k left at e
 
 -- a writer that expects nothing isn't refused
-pub not_refused : (T : Type 0) {E : Type 0} (w : Standing) (why : E → WriteFault) (e : E) → w.failed ≡ false
+pub not_refused : (T : Type 0) {E : Type 0} (w : WriterState) (why : E → WriteFault) (e : E) → w.failed ≡ false
     → next_of w.schema w.taken ≡ None → IsExactly {T = T} why (refuses_finish w) (Err e) → ⊥
 not_refused T w why e goes none answer =
     subst (λ (o : Option WriteFault). IsExactly {T = T} why o (Err e)) (finish_by w None goes none) answer

@@ -21,7 +21,8 @@ use Rattle.ncc_layout.specs.Elements.{var_at, no_var}
 use Rattle.ncc_layout.specs.Extents.{end}
 use Rattle.ncc_layout.specs.Placed.{file_length_of, record_size_of_file, records_of_file, vars_of, extents_of_file, KeepsRules}
 use Rattle.ncc_layout.specs.Plans.{known}
-use Rattle.ncc_layout.specs.Rules.{ByKind, LastWithin, Within}
+use Rattle.ncc_layout.specs.Rules.ByKind.{ByKind}
+use Rattle.ncc_layout.specs.Rules.Truncated.{LastNotTruncated, NotTruncated}
 use Rattle.ncc_layout.specs.Sizes.{record_size_of, slab}
 use Rattle.ncc_layout.specs.Standard.{standard_places}
 use Rattle.ncc_layout.proofs.ShapesInFile.{all_at}
@@ -98,15 +99,15 @@ module _ (p : Placed) (keeps : KeepsRules p) (n r : ℕ) (has : HasSlab p n r) w
   abbrev x : PlacedVar
   x = var_at (vars_of p) n
 
-  within : Within (file_length_of p) (record_size_of_file p) (records_of_file p) x.extent
+  within : NotTruncated (file_length_of p) (record_size_of_file p) (records_of_file p) x.extent
   within =
-      subst (Within (file_length_of p) (record_size_of_file p) (records_of_file p))
+      subst (NotTruncated (file_length_of p) (record_size_of_file p) (records_of_file p))
       (get_or-map (λ (y : PlacedVar). y.extent) (vars_of p) n no_var no_var.extent has.there)
-      (all_at (Within (file_length_of p) (record_size_of_file p) (records_of_file p)) (extents_of_file p) n
+      (all_at (NotTruncated (file_length_of p) (record_size_of_file p) (records_of_file p)) (extents_of_file p) n
       no_var.extent (omega (arith, length-map (vars_of p) (λ (y : PlacedVar). y.extent), has.there))
-      keeps.rules.within)
+      keeps.rules.not_truncated)
 
-  last_ends : (records : ℕ) → LastWithin (file_length_of p) (record_size_of_file p) records x.extent → r < records
+  last_ends : (records : ℕ) → LastNotTruncated (file_length_of p) (record_size_of_file p) records x.extent → r < records
       → x.extent.begin + r * record_size_of_file p + x.extent.slab ≤ file_length_of p
   last_ends zero last less = absurd (omega (arith, less))
   last_ends (suc m) last less = omega (
@@ -116,7 +117,7 @@ module _ (p : Placed) (keeps : KeepsRules p) (n r : ℕ) (has : HasSlab p n r) w
   )
 
   by_kind : (t : Bool) → x.extent.is_record ≡ t
-      → ByKind t (LastWithin (file_length_of p) (record_size_of_file p) (records_of_file p) x.extent)
+      → ByKind t (LastNotTruncated (file_length_of p) (record_size_of_file p) (records_of_file p) x.extent)
       (end x.extent ≤ file_length_of p)
       → slab_begin (record_size_of_file p) x r + x.extent.slab ≤ file_length_of p
   by_kind true is last =

@@ -3,8 +3,8 @@ pub mod Writing
 pub mod Laws
 pub mod Headline
 pub mod Streams
-pub mod Outlet
-pub mod Turns
+pub mod PagedSink
+pub mod VarSlabs
 pub mod Positions
 pub mod Writer
 pub mod Records

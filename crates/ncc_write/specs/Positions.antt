@@ -4,7 +4,7 @@ use Rattle.ncc_values.specs.XType.{size_of}
 use Rattle.ncc_schema.specs.declared.schema.Schema.{Schema}
 use Rattle.ncc_layout.specs.Sizes.{slab}
 use Rattle.ncc_build.specs.Dataset.{Slab, elements, slabs_of}
-use Rattle.ncc_write.specs.Turns.{no_var}
+use Rattle.ncc_write.specs.VarSlabs.{no_var}
 
 -- a slab that isn't there
 abbrev pub no_slab : Slab

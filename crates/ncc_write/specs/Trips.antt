@@ -16,16 +16,16 @@ use Rattle.ncc_build.specs.File.{header_of}
 use Rattle.ncc_build.specs.declared.fault.WriteFault.{WriteFault}
 use Rattle.ncc_build.specs.declared.fault.WriteFault.TheVariants as write
 use Rattle.ncc_layout.specs.Sizes.{slab}
-use Rattle.ncc_write.specs.declared.course.Course.{Course}
+use Rattle.ncc_write.specs.declared.slab_order.SlabOrder.{SlabOrder}
 use Rattle.ncc_write.specs.declared.trip_checking.Due.{Due}
 use Rattle.ncc_write.specs.declared.trip_fault.TripFault.{TripFault}
 use Rattle.ncc_write.specs.declared.trip_fault.TripFault.TheVariants as fault
 use Rattle.ncc_write.specs.declared.writer.FileWriter.{FileWriter}
 use Rattle.ncc_write.specs.Laws.{IsCompleted}
 use Rattle.ncc_write.specs.Positions.{end_of, slab_at}
-use Rattle.ncc_write.specs.Turns.{IsCourse}
+use Rattle.ncc_write.specs.VarSlabs.{IsSlabOrder}
 use Rattle.ncc_write.specs.Writer.{Stands}
-use Rattle.ncc_write.specs.Writing.{Standing, data_length, expected, next_of, with_more}
+use Rattle.ncc_write.specs.Writing.{WriterState, data_length, expected, next_of, with_more}
 
 -- ---- the whole
 
@@ -48,15 +48,15 @@ of_write _ = fault.Differs
 
 -- a writer whose sink hasn't failed
 abbrev pub Stood : {W : Type 0} → (put : Option (List ℕ)) → FileWriter W → Type 0
-Stood put x = (start : Option (List ℕ)) × (w : Standing) × Stands start put x w × (w.failed ≡ false)
+Stood put x = (start : Option (List ℕ)) × (w : WriterState) × Stands start put x w × (w.failed ≡ false)
 
 -- it expects the slab of this variable, of which so many elements are left
 abbrev pub Awaits : {W : Type 0} → (put : Option (List ℕ)) → FileWriter W → (var left : ℕ) → Type 0
 Awaits put x var left = (number : ℕ)
-    × ((start : Option (List ℕ)) (w : Standing) → Stands start put x w → Some (var, number, left) ≡ expected w)
+    × ((start : Option (List ℕ)) (w : WriterState) → Stands start put x w → Some (var, number, left) ≡ expected w)
 
 -- some of the bytes were taken; or they are too few
-abbrev pub PutsSlab : {W : Type 0} → (start put : Option (List ℕ)) → FileWriter W → Standing → (bytes : List ℕ)
+abbrev pub PutsSlab : {W : Type 0} → (start put : Option (List ℕ)) → FileWriter W → WriterState → (bytes : List ℕ)
     → Result ℕ TripFault → Type 0
 PutsSlab start put x w bytes (Ok n) = (0 < n) × (n ≤ length bytes) × Stands start put x (with_more w (take n bytes))
 PutsSlab start put x w bytes (Err fault.WrongLength) = length (w.taken ++ bytes) < data_length w.schema
@@ -64,7 +64,7 @@ PutsSlab start put x w bytes (Err fault.Memory) = Unit {0}
 PutsSlab start put x w bytes (Err _) = ⊥
 
 -- all bytes were taken, and no value is missing; or they are too few or too many
-abbrev pub PutsAll : {W : Type 0} → (start put : Option (List ℕ)) → FileWriter W → Standing → (bytes : List ℕ)
+abbrev pub PutsAll : {W : Type 0} → (start put : Option (List ℕ)) → FileWriter W → WriterState → (bytes : List ℕ)
     → Result (Unit {0}) TripFault → Type 0
 PutsAll start put x w bytes (Ok u) = Stands start put x (with_more w bytes) × (next_of w.schema (w.taken ++ bytes) ≡ None)
 PutsAll start put x w bytes (Err fault.WrongLength) = length (w.taken ++ bytes) ≡ data_length w.schema → ⊥
@@ -111,8 +111,8 @@ pub record SlabReads (file : List ℕ) (p : Placed) (s : Schema) (bytes : List �
       (var_at (vars_of p) (slab_at s k).number).extent.slab
       ≡ take (slab s.dims (slab_at s k).var) (drop (end_of s k) bytes)
 
--- so it is of each slab of the course
-pub record AllRead (file : List ℕ) (p : Placed) (c : Course) (bytes : List ℕ) : Type 0 where
+-- so it is of all slabs, in their order
+pub record AllRead (file : List ℕ) (p : Placed) (c : SlabOrder) (bytes : List ℕ) : Type 0 where
   pub schema : Schema
-  pub course : IsCourse schema c
+  pub slab_order : IsSlabOrder schema c
   pub each : (k : ℕ) → k < length (slabs_of schema) → SlabReads file p schema bytes k

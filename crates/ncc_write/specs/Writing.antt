@@ -21,7 +21,7 @@ use Rattle.ncc_build.specs.File.{padding_bytes, header_of, file_of}
 -- ---- a writer
 
 -- where a writer stands
-pub record Standing : Type 0 where
+pub record WriterState : Type 0 where
   pub schema : Schema
   -- the bytes of the values that it has taken, in writing order, without padding
   pub taken : List ℕ
@@ -84,7 +84,7 @@ told None = None
 told (Some n) = Some (n.slab.number, n.slab.in_record, n.left)
 
 -- nothing after a failure
-abbrev pub expected : Standing → Option (ℕ × ℕ × ℕ)
+abbrev pub expected : WriterState → Option (ℕ × ℕ × ℕ)
 expected w = if w.failed then None else told (next_of w.schema w.taken)
 
 -- ---- refusals
@@ -96,30 +96,30 @@ refuses_next (Some n) values =
     else if ltb n.left (count_of values) then Some TooManyValues
     else None
 
-abbrev pub refuses_put : Standing → Values → Option WriteFault
+abbrev pub refuses_put : WriterState → Values → Option WriteFault
 refuses_put w values = if w.failed then Some Failed else refuses_next (next_of w.schema w.taken) values
 
-abbrev pub refuses_fill : Standing → Option WriteFault
+abbrev pub refuses_fill : WriterState → Option WriteFault
 refuses_fill w = if w.failed then Some Failed else None
 
 abbrev pub refuses_unfinished : Option Next → Option WriteFault
 refuses_unfinished None = None
 refuses_unfinished (Some n) = Some Unfinished
 
-abbrev pub refuses_finish : Standing → Option WriteFault
+abbrev pub refuses_finish : WriterState → Option WriteFault
 refuses_finish w = if w.failed then Some Failed else refuses_unfinished (next_of w.schema w.taken)
 
 -- ---- what is taken
 
-abbrev pub with_taken : Standing → List ℕ → Standing
+abbrev pub with_taken : WriterState → List ℕ → WriterState
 with_taken w bytes = record { schema = w.schema; taken = bytes; failed = w.failed }
 
 -- with these bytes after those before
-abbrev pub with_more : Standing → List ℕ → Standing
+abbrev pub with_more : WriterState → List ℕ → WriterState
 with_more w bytes = with_taken w (w.taken ++ bytes)
 
 -- with these values after those before
-abbrev pub with_values : Standing → Values → Standing
+abbrev pub with_values : WriterState → Values → WriterState
 with_values w values = with_more w (bytes_of values)
 
 -- the bytes taken, and fill values for all that is left of these slabs
@@ -129,10 +129,10 @@ filled_in s (b ∷ slabs) taken =
     let size = slab s.dims b.var in
     take size taken ++ fills ((size - length taken) / size_of b.var.xtype) b.var ++ filled_in s slabs (drop size taken)
 
-abbrev pub with_fills : Standing → Standing
+abbrev pub with_fills : WriterState → WriterState
 with_fills w = with_taken w (filled_in w.schema (slabs_of w.schema) w.taken)
 
-abbrev pub as_failed : Standing → Standing
+abbrev pub as_failed : WriterState → WriterState
 as_failed w = record { schema = w.schema; taken = w.taken; failed = true }
 
 -- the bytes of all values of a schema
@@ -140,7 +140,7 @@ abbrev pub data_length : Schema → ℕ
 data_length s = sum_by (λ b. slab s.dims b.var) (slabs_of s)
 
 -- a writer that has taken nothing
-abbrev pub starting : Schema → Standing
+abbrev pub starting : Schema → WriterState
 starting s = record { schema = s; taken = []; failed = false }
 
 -- ---- what goes out
@@ -214,11 +214,11 @@ Went start put P = (out : List ℕ) × Puts start put out × P out
 
 -- what went out, and what still stands in the buffer, is what the writer has written; after a failure what went
 -- out is a front of that, whatever would follow
-abbrev pub IsOutBy : (failed : Bool) → Standing → (buffer out : List ℕ) → Type 0
+abbrev pub IsOutBy : (failed : Bool) → WriterState → (buffer out : List ℕ) → Type 0
 IsOutBy false w buffer out = out ++ buffer ≡ written w.schema w.taken
 IsOutBy true w buffer out = IsFrontOfFiles w.schema w.taken out
 
-abbrev pub IsOut : Standing → (buffer out : List ℕ) → Type 0
+abbrev pub IsOut : WriterState → (buffer out : List ℕ) → Type 0
 IsOut w buffer out = IsOutBy w.failed w buffer out
 
 -- a writer that isn't started: with no memory nothing went out, and after a failure of the sink a front of the header
@@ -245,7 +245,7 @@ IsExactly fault_of None (Err e) = ⊥
 IsExactly fault_of (Some f) (Err e) = fault_of e ≡ f
 
 -- where a writer stands after a call that takes these values: only a failure of the sink is kept
-abbrev pub StandsAfter : (old taking new : Standing) → Result (Unit {0}) WriteFault → Type 0
+abbrev pub StandsAfter : (old taking new : WriterState) → Result (Unit {0}) WriteFault → Type 0
 StandsAfter old taking new (Ok x) = new ≡ taking
 StandsAfter old taking new (Err Device) = new ≡ as_failed taking
 StandsAfter old taking new (Err e) = new ≡ old

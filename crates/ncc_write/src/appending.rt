@@ -6,7 +6,7 @@ ghost use Rattle.ncc_check.specs.Writes.{AddsRecord, CallsForRecord};
 ghost use Rattle.ncc_write.specs.Appends.{AppendsAs, RefusesImage};
 ghost use Rattle.ncc_write.specs.Records.{HasSizes, IsRecord, bytes_of_record};
 
-use crate::image::{image_of, judged};
+use crate::image::{image_of, judge_slabs};
 use crate::laws::open_file_has_sizes;
 use ncc_check::{AppendError, NcFile};
 use ncc_layout::Placed;
@@ -27,7 +27,7 @@ fn record_image(
     ensures bytes { IfOk result (λ image. image.items ≡ bytes_of_record schema.now slabs.now) }
     ensures refused { IfErr result (RefusesImage schema.now slabs.now) }
 {
-    if let Err(number) = judged(schema, placed, slabs) {
+    if let Err(number) = judge_slabs(schema, placed, slabs) {
         return Err(AppendError::WrongValues(number));
     }
     match image_of(alloc, schema, placed, slabs) {

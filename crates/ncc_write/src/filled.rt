@@ -6,14 +6,14 @@ ghost use Rattle.ncc_values.specs.Values.{type_of, values_of, with_bytes};
 ghost use Rattle.ncc_values.specs.XType.{size_of};
 ghost use Rattle.ncc_check.specs.Files.{schema_of};
 ghost use Rattle.ncc_write.specs.Records.{HasSizes, bytes_of_record, fill_values};
-ghost use Rattle.ncc_write.specs.Turns.{turn_fill};
+ghost use Rattle.ncc_write.specs.VarSlabs.{var_slab_fill};
 
-use crate::image::{image_of, turn_in};
+use crate::all_var_slabs::record_variables;
+use crate::image::{image_of, var_slab_in};
 use crate::laws::adding::fills_are_a_record;
 use crate::laws::open_file_has_sizes;
 use crate::putting::fill_at;
-use crate::turn::Turn;
-use crate::turning::record_variables;
+use crate::var_slab::VarSlab;
 use ncc_check::NcFile;
 use ncc_layout::Placed;
 use ncc_schema::{Schema, is_record_var};
@@ -44,15 +44,19 @@ fn add_fills(
 }
 
 /// A slab of fill values.
-fn fill_slab(alloc: Global, turn: Turn, buffer: &mut [u8; ROOM]) -> Result<Values, AllocError>
+fn fill_slab(
+    alloc: Global,
+    var_slab: VarSlab,
+    buffer: &mut [u8; ROOM],
+) -> Result<Values, AllocError>
     ensures { IfOk result
-        (λ values. values ≡ values_of turn.xtype (concat (replicate turn.elements (turn_fill turn)))) }
+        (λ values. values ≡ values_of var_slab.xtype (concat (replicate var_slab.elements (var_slab_fill var_slab)))) }
 {
-    let mut values = Values::new(alloc, turn.xtype);
+    let mut values = Values::new(alloc, var_slab.xtype);
     let mut done = 0;
-    while done < turn.elements {
-        let count = (turn.elements - done).min(AT_ONCE as u64);
-        add_fills(&mut values, buffer, turn.fill(), count as usize)?;
+    while done < var_slab.elements {
+        let count = (var_slab.elements - done).min(AT_ONCE as u64);
+        add_fills(&mut values, buffer, var_slab.fill(), count as usize)?;
         done += count;
     }
     Ok(values)
@@ -69,8 +73,8 @@ fn fill_slabs(alloc: Global, schema: &Schema, placed: &Placed) -> Result<Vec<Val
     let mut slabs = Vec::new(alloc);
     for number in 0..vars.len() {
         if is_record_var(schema.dims.as_slice(), &vars[number]) {
-            let turn = turn_in(schema, placed, number, lone);
-            slabs.push(fill_slab(alloc, turn, &mut buffer)?)?;
+            let var_slab = var_slab_in(schema, placed, number, lone);
+            slabs.push(fill_slab(alloc, var_slab, &mut buffer)?)?;
         }
     }
     Ok(slabs)

@@ -8,11 +8,11 @@ ghost use Rattle.ncc_layout.specs.Sizes.{record_size_of, slab};
 ghost use Rattle.ncc_build.specs.Dataset.{IsSlabOf};
 ghost use Rattle.ncc_build.specs.File.{is_lone};
 ghost use Rattle.ncc_write.specs.Records.{HasSizes, IsRecord, bytes_of_record, fits_slab, whole_size, with_padding, wrong_at};
-ghost use Rattle.ncc_write.specs.Turns.{no_var, turn_fill, turn_for};
+ghost use Rattle.ncc_write.specs.VarSlabs.{no_var, var_slab_fill, var_slab_for};
 
+use crate::all_var_slabs::record_variables;
 use crate::putting::{fill_at, put_at};
-use crate::turn::{Turn, turn_of};
-use crate::turning::record_variables;
+use crate::var_slab::{VarSlab, var_slab_of};
 use ncc_build::values_in_range;
 use ncc_layout::Placed;
 use ncc_schema::{Schema, Var, is_record_var};
@@ -59,7 +59,7 @@ fn wrong_at(schema: &Schema, placed: &Placed, slabs: &[Values]) -> Option<usize>
 }
 
 /// Whether the slabs are those of a record.
-pub(crate) fn judged(schema: &Schema, placed: &Placed, slabs: &[Values]) -> Result<(), usize>
+pub(crate) fn judge_slabs(schema: &Schema, placed: &Placed, slabs: &[Values]) -> Result<(), usize>
     requires sizes { HasSizes schema.now placed.now }
     ensures fits { OnOk result (IsRecord schema.now slabs.now) }
     ensures wrong { IfErr result (λ k. wrong_at schema.now slabs.now ≡ Some k) }
@@ -72,28 +72,28 @@ pub(crate) fn judged(schema: &Schema, placed: &Placed, slabs: &[Values]) -> Resu
 }
 
 /// Puts a slab and its padding into the image, from a place on, and tells where they end.
-fn put_slab(image: &mut [u8], place: usize, turn: Turn, values: &Values) -> usize
-    requires { place + count_of values.now * size_of (type_of values.now) + turn.padding * length (turn_fill turn)
+fn put_slab(image: &mut [u8], place: usize, var_slab: VarSlab, values: &Values) -> usize
+    requires { place + count_of values.now * size_of (type_of values.now) + var_slab.padding * length (var_slab_fill var_slab)
         ≤ length image.old }
     ensures end { result
-        ≡ place + count_of values.now * size_of (type_of values.now) + turn.padding * length (turn_fill turn) }
+        ≡ place + count_of values.now * size_of (type_of values.now) + var_slab.padding * length (var_slab_fill var_slab) }
     ensures bytes { take result image.new
-        ≡ take place image.old ++ (bytes_of values.now ++ concat (replicate turn.padding (turn_fill turn))) }
+        ≡ take place image.old ++ (bytes_of values.now ++ concat (replicate var_slab.padding (var_slab_fill var_slab))) }
     ensures room { length image.new ≡ length image.old }
 {
     let end = put_at(image, place, values, 0, values.len());
-    fill_at(image, end, turn.fill(), turn.padding as usize)
+    fill_at(image, end, var_slab.fill(), var_slab.padding as usize)
 }
 
 /// What is put for the slab of a record variable, which is padded unless it is the lone one.
-pub(crate) fn turn_in(schema: &Schema, placed: &Placed, number: usize, lone: bool) -> Turn
+pub(crate) fn var_slab_in(schema: &Schema, placed: &Placed, number: usize, lone: bool) -> VarSlab
     requires there { number < length schema.now.vars }
     requires sizes { HasSizes schema.now placed.now }
     requires lone { lone ≡ is_lone schema.now (get_or schema.now.vars number no_var) }
     ensures { let var = get_or schema.now.vars number no_var in
-        result ≡ turn_for schema.now (record { var = var; number = number; in_record = 0 }) }
+        result ≡ var_slab_for schema.now (record { var = var; number = number; in_record = 0 }) }
 {
-    turn_of(schema, number, placed.slab(number), lone)
+    var_slab_of(schema, number, placed.slab(number), lone)
 }
 
 /// Puts the slab of a record variable and its padding into the image, from a place on, and tells where they end.
@@ -116,7 +116,12 @@ fn put_slab_of(
         ≡ take place image.old ++ with_padding schema.now (get_or schema.now.vars number no_var, values.now) }
     ensures room { length image.new ≡ length image.old }
 {
-    put_slab(image, place, turn_in(schema, placed, number, lone), values)
+    put_slab(
+        image,
+        place,
+        var_slab_in(schema, placed, number, lone),
+        values,
+    )
 }
 
 /// Puts the slabs of a record into the image, one after another.

@@ -1,23 +1,23 @@
 //! Writes netCDF classic files: values are put in the order in which they lie, through a buffer of one size.
 #![tactic(auto)]
 
+mod all_var_slabs;
 mod appending;
-mod course;
 mod extending;
 mod filled;
 mod image;
 pub mod laws;
-mod outlet;
+mod paged_sink;
 mod planning;
 mod putting;
+mod slab_order;
 mod starting;
 mod trip;
 mod trip_checking;
 mod trip_fault;
 mod trip_putting;
 mod trip_reading;
-mod turn;
-mod turning;
+mod var_slab;
 mod whole;
 mod writer;
 

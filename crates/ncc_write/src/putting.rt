@@ -44,7 +44,7 @@ pub(crate) fn copy_at(buffer: &mut [u8], place: usize, bytes: &[u8])
 }
 
 /// Copies so many bytes of the buffer, from a place on, to a later one that they don't reach.
-fn copy_on(buffer: &mut [u8], place: usize, count: usize, to: usize)
+fn copy_again(buffer: &mut [u8], place: usize, count: usize, to: usize)
     requires before { place + count ≤ to }
     requires room { to + count ≤ length buffer.old }
     ensures bytes { take (to + count) buffer.new ≡ take to buffer.old ++ take count (drop place buffer.old) }
@@ -113,7 +113,7 @@ pub(crate) fn fill_at(buffer: &mut [u8], place: usize, fill: &[u8], count: usize
     fill_few(buffer, place, fill, done);
     while done < count {
         let more = done.min(count - done);
-        copy_on(buffer, place, more * size, place + done * size);
+        copy_again(buffer, place, more * size, place + done * size);
         done += more;
     }
     place + count * size

@@ -3,7 +3,7 @@
 ghost use Rattle.ncc_build.specs.Builds.{schema_of};
 ghost use Rattle.ncc_write.specs.Trips.{TripsAs};
 
-use crate::starting::course_of;
+use crate::starting::slab_order_of;
 use crate::trip_checking::{due_by, passes};
 use crate::trip_fault::TripFault;
 use crate::trip_putting::written;
@@ -29,14 +29,14 @@ pub fn round_trip(alloc: Global, built: Built, bytes: &[u8], limit: u64) -> Resu
     if limit < header_bytes(alloc, &built)?.len() as u64 {
         return Err(TripFault::HeaderTooLong);
     }
-    let course = course_of(alloc, &built)?;
+    let slab_order = slab_order_of(alloc, &built)?;
     let due = due_by(built.schema());
     let mut store = MemStore::new(written(alloc, built, bytes)?);
     passes(alloc, &mut store, limit, due)?;
     match open(alloc, store, limit) {
         Ok(file) => {
             let mut file = file;
-            all_same(alloc, &mut file, &course, bytes)
+            all_same(alloc, &mut file, &slab_order, bytes)
         }
         Err((_, Refusal::Fault(_))) => Err(TripFault::Differs),
         Err(_) => Err(TripFault::Memory),

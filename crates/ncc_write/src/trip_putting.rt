@@ -4,7 +4,7 @@ ghost use Rattle.std.specs.Prelude.{◌≡◌, ℕ, List, Option, false, length}
 ghost use Rattle.ncc_build.specs.Builds.{schema_of};
 ghost use Rattle.ncc_write.specs.Trips.{Awaits, PutsAll, PutsSlab, Stood, WritesAs};
 ghost use Rattle.ncc_write.specs.Writer.{sink_in, Stands};
-ghost use Rattle.ncc_write.specs.Writing.{Standing};
+ghost use Rattle.ncc_write.specs.Writing.{WriterState};
 
 use crate::laws::{complete_when_taken, taking_grows};
 use crate::putting::are_bytes;
@@ -23,7 +23,7 @@ fn put_slab<W: Sink>(
 ) -> Result<usize, TripFault>
     requires stood { Stood (W.put (sink_in writer.old)) writer.old }
     requires awaits { Awaits (W.put (sink_in writer.old)) writer.old var left }
-    ensures puts { (start : Option (List ℕ)) (w : Standing) → Stands start (W.put (sink_in writer.old)) writer.old w
+    ensures puts { (start : Option (List ℕ)) (w : WriterState) → Stands start (W.put (sink_in writer.old)) writer.old w
         → w.failed ≡ false → PutsSlab start (W.put (sink_in writer.new)) writer.new w bytes.now result }
 {
     taking_grows();
@@ -43,7 +43,7 @@ fn put_slab<W: Sink>(
 /// Puts slab after slab, by their bytes one after another, until none is expected.
 fn put_all<W: Sink>(writer: &mut FileWriter<W>, bytes: &[u8]) -> Result<(), TripFault>
     requires stood { Stood (W.put (sink_in writer.old)) writer.old }
-    ensures puts { (start : Option (List ℕ)) (w : Standing) → Stands start (W.put (sink_in writer.old)) writer.old w
+    ensures puts { (start : Option (List ℕ)) (w : WriterState) → Stands start (W.put (sink_in writer.old)) writer.old w
         → w.failed ≡ false → PutsAll start (W.put (sink_in writer.new)) writer.new w bytes.now result }
 {
     complete_when_taken();

@@ -11,8 +11,8 @@ ghost use Rattle.ncc_slab.specs.SlabPlaces.{HasSlab, slab_begin};
 ghost use Rattle.ncc_write.specs.Trips.{AllRead, of_slab};
 ghost use Rattle.ncc_write.specs.declared.trip_fault.TripFault.TheVariants.{Memory};
 
-use crate::course::Course;
 use crate::putting::are_bytes;
+use crate::slab_order::SlabOrder;
 use crate::trip_fault::TripFault;
 use ncc_check::NcFile;
 use ncc_slab::laws::{whole_slab_adjoins, whole_slab_is_there};
@@ -97,19 +97,19 @@ fn same_slab<S: Store>(
 pub(crate) fn all_same<S: Store>(
     alloc: Global,
     file: &mut NcFile<S>,
-    course: &Course,
+    slab_order: &SlabOrder,
     bytes: &[u8],
 ) -> Result<(), TripFault>
     requires told { IsTrue S.tells_bytes }
-    requires reads { AllRead (S.bytes (store_of file.old)) (placed_of file.old) course.now bytes.now }
+    requires reads { AllRead (S.bytes (store_of file.old)) (placed_of file.old) slab_order.now bytes.now }
     ensures memory { IfErr result (λ e. e ≡ Memory) }
 {
     let mut rest = bytes;
-    for slab in 0..course.slabs() {
-        let (turn, record) = course.turn(slab);
-        let size = file.placed().slab(turn.var) as usize;
+    for slab in 0..slab_order.slabs() {
+        let (var_slab, record) = slab_order.var_slab(slab);
+        let size = file.placed().slab(var_slab.var) as usize;
         let (piece, after) = rest.split_at(size);
-        same_slab(alloc, file, turn.var, record, piece)?;
+        same_slab(alloc, file, var_slab.var, record, piece)?;
         rest = after;
     }
     Ok(())

@@ -2,18 +2,18 @@
 
 ghost use Rattle.std.specs.Prelude.{◌≡◌, ◌<◌, ◌≤◌, [], false};
 ghost use Rattle.ncc_build.specs.Builds.{schema_of};
-ghost use Rattle.ncc_write.specs.Outlet.{waiting};
-ghost use Rattle.ncc_write.specs.Turns.{IsCourse, turn_number, record_at};
+ghost use Rattle.ncc_write.specs.PagedSink.{waiting};
+ghost use Rattle.ncc_write.specs.VarSlabs.{IsSlabOrder, var_slab_number, record_at};
 
-use crate::course::Course;
 use crate::laws::taking_all_completes;
-use crate::outlet::Outlet;
+use crate::paged_sink::PagedSink;
 use crate::putting::{are_bytes, elements_in};
+use crate::slab_order::SlabOrder;
 use crate::starting::{Parts, prepared};
-use crate::turn::Turn;
+use crate::var_slab::VarSlab;
 use ncc_build::laws::built_is_writable;
 use ncc_build::{Built, WriteFault};
-use ncc_schema::{Failed, Schema, Sink, write_all};
+use ncc_schema::{Device, Schema, Sink, write_all};
 use ncc_values::{Values, XType};
 use std::alloc::Global;
 
@@ -23,25 +23,25 @@ use std::alloc::Global;
 #[derive(Drop)]
 pub struct FileWriter<W> {
     built: Built,
-    course: Course,
+    slab_order: SlabOrder,
     /// The slab of the next value, and how many elements of it are left.
     slab: u64,
     left: u64,
-    /// The number of that slab's turn, and its record.
+    /// The number of that slab's `VarSlab`, and its record.
     number: usize,
     round: u64,
     failed: bool,
-    outlet: Outlet<W>,
-    ghost planned: { IsCourse (schema_of built) course },
-    ghost within: { slab ≤ course.slabs },
-    ghost number_is: { slab < course.slabs → number ≡ turn_number course slab },
-    ghost round_is: { slab < course.slabs → round ≡ record_at course slab },
-    ghost flushed: { slab ≡ course.slabs → failed ≡ false → waiting outlet ≡ [] },
+    paged_sink: PagedSink<W>,
+    ghost planned: { IsSlabOrder (schema_of built) slab_order },
+    ghost within: { slab ≤ slab_order.slabs },
+    ghost number_is: { slab < slab_order.slabs → number ≡ var_slab_number slab_order slab },
+    ghost round_is: { slab < slab_order.slabs → round ≡ record_at slab_order slab },
+    ghost flushed: { slab ≡ slab_order.slabs → failed ≡ false → waiting paged_sink ≡ [] },
 }
 
 impl<W: Sink> FileWriter<W> {
     ghost use Rattle.std.specs.Prelude.{ℕ, ◌+◌, ◌*◌, ◌%◌, List, length, Option, None, IfOk, IfErr, IsOk, OnOk};
-    ghost use Rattle.ncc_build.specs.declared.fault.WriteFault.TheVariants.{Device, Memory};
+    ghost use Rattle.ncc_build.specs.declared.fault.WriteFault.TheVariants as faults;
     ghost use Rattle.ncc_build.specs.Fill.{fills};
     ghost use Rattle.ncc_values.specs.Failures.{Counts};
     ghost use Rattle.ncc_values.specs.Numbers.{IsBytes};
@@ -51,9 +51,9 @@ impl<W: Sink> FileWriter<W> {
     ghost use Rattle.ncc_schema.specs.Device.{Puts};
     ghost use Rattle.ncc_write.specs.Laws.{IsCompleted};
     ghost use Rattle.ncc_write.specs.Positions.{slab_at};
-    ghost use Rattle.ncc_write.specs.Turns.{turn_at};
+    ghost use Rattle.ncc_write.specs.VarSlabs.{var_slab_at};
     ghost use Rattle.ncc_write.specs.Writer.{schema_in, sink_in, Stands, StandsOrStops, Ends, Gives};
-    ghost use Rattle.ncc_write.specs.Writing.{Standing, Went, next_of, starting, StartFails, expected, refuses_put, refuses_fill, refuses_finish, with_values, with_more, with_fills, IsAnswer, IsExactly, StandsAfter, CountsFailure};
+    ghost use Rattle.ncc_write.specs.Writing.{WriterState, Went, next_of, starting, StartFails, expected, refuses_put, refuses_fill, refuses_finish, with_values, with_more, with_fills, IsAnswer, IsExactly, StandsAfter, CountsFailure};
 
     /// Puts out the header, and makes the buffer. After `Memory` nothing went out, after `Device` a beginning of the
     /// header.
@@ -61,7 +61,7 @@ impl<W: Sink> FileWriter<W> {
         ensures stands { IfOk result (λ x. Stands (W.put sink) (W.put (sink_in x)) x (starting (schema_of built))) }
         ensures header { IfOk result (λ x. Puts (W.put sink) (W.put (sink_in x)) (header_of (schema_of built))) }
         ensures count { IfOk result (λ x. W.failures (sink_in x) ≡ W.failures sink) }
-        ensures untouched { IfErr result (λ e. e.1 ≡ Memory → e.0 ≡ sink) }
+        ensures untouched { IfErr result (λ e. e.1 ≡ faults.Memory → e.0 ≡ sink) }
         ensures refused { IfErr result (λ e. StartFails (W.put sink) (W.put e.0) (W.failures sink) (W.failures e.0)
             (header_of (schema_of built)) e.1) }
         ensures calls { IfOk result (λ x. W.calls (sink_in x) ≤ W.calls sink + length (header_of (schema_of built))) }
@@ -70,7 +70,7 @@ impl<W: Sink> FileWriter<W> {
         built_is_writable(&built);
         let Parts {
             header,
-            course,
+            slab_order,
             buffer,
         } = match prepared(alloc, &built) {
             Ok(parts) => parts,
@@ -81,13 +81,13 @@ impl<W: Sink> FileWriter<W> {
             return Err((sink, WriteFault::Device));
         }
         Ok(FileWriter {
-            left: course.first_elements(),
-            course,
+            left: slab_order.first_elements(),
+            slab_order,
             slab: 0,
             number: 0,
             round: 0,
             failed: false,
-            outlet: Outlet::over(sink, buffer, header.len() as u64),
+            paged_sink: PagedSink::over(sink, buffer, header.len() as u64),
             built,
         })
     }
@@ -101,78 +101,81 @@ impl<W: Sink> FileWriter<W> {
 
     /// What is put for the slab of the next value, and in which record.
     #[inline(always)]
-    fn turn(&self) -> (Turn, u64)
-        requires { self.now.slab < self.now.course.slabs }
-        ensures turn { result.0 ≡ turn_at self.now.course self.now.slab }
-        ensures record { result.1 ≡ record_at self.now.course self.now.slab }
+    fn var_slab(&self) -> (VarSlab, u64)
+        requires { self.now.slab < self.now.slab_order.slabs }
+        ensures var_slab { result.0 ≡ var_slab_at self.now.slab_order self.now.slab }
+        ensures record { result.1 ≡ record_at self.now.slab_order self.now.slab }
     {
-        (self.course.turn_with(self.number), self.round)
+        (self.slab_order.var_slab_with(self.number), self.round)
     }
 
     /// The variable, the record and how many elements are left of the slab that the next value is of; nothing where
     /// all values are there, or the sink failed. A fixed variable is in record 0.
     pub fn expects(&self) -> Option<(usize, u64, u64)>
-        ensures { (start : Option (List ℕ)) (w : Standing) → Stands start (W.put (sink_in self.now)) self.now w
+        ensures { (start : Option (List ℕ)) (w : WriterState) → Stands start (W.put (sink_in self.now)) self.now w
             → result ≡ expected w }
     {
         if self.failed {
             return None;
         }
-        if self.slab == self.course.slabs() {
+        if self.slab == self.slab_order.slabs() {
             return None;
         }
-        let (turn, record) = self.turn();
-        Some((turn.var, record, self.left))
+        let (var_slab, record) = self.var_slab();
+        Some((var_slab.var, record, self.left))
     }
 
     /// Goes on to the next slab, of which nothing is there yet.
     #[inline(always)]
-    fn open_slab(&mut self) -> Result<(), Failed>
-        requires { self.old.slab < self.old.course.slabs }
+    fn open_slab(&mut self) -> Result<(), Device>
+        requires { self.old.slab < self.old.slab_order.slabs }
         ensures next { OnOk result (self.new.slab ≡ self.old.slab + 1) }
-        ensures slabs { self.new.course.slabs ≡ self.old.course.slabs }
-        ensures opens { (start : Option (List ℕ)) (w : Standing) → Ends [] start (W.put (sink_in self.old)) self.old w
+        ensures slabs { self.new.slab_order.slabs ≡ self.old.slab_order.slabs }
+        ensures opens { (start : Option (List ℕ)) (w : WriterState) → Ends [] start (W.put (sink_in self.old)) self.old w
             → StandsOrStops start (W.put (sink_in self.new)) self.new w result }
         ensures count { Counts (W.failures (sink_in self.old)) (W.failures (sink_in self.new)) result }
     {
         built_is_writable(&self.built);
         let next = self.slab + 1;
-        if next < self.course.slabs() {
-            let (number, round) = self.course.turn_after(self.slab, self.number, self.round);
-            self.left = self.course.turn_with(number).elements;
+        if next < self.slab_order.slabs() {
+            let (number, round) = self
+                .slab_order
+                .var_slab_after(self.slab, self.number, self.round);
+            self.left = self.slab_order.var_slab_with(number).elements;
             self.number = number;
             self.round = round;
             self.slab = next;
             return Ok(());
         }
-        self.outlet.flush()?;
+        self.paged_sink.flush()?;
         self.slab = next;
         Ok(())
     }
 
     /// Pads a slab that has all its elements, and goes on to the next one.
     #[inline(always)]
-    fn close_slab(&mut self) -> Result<(), Failed>
-        requires { self.old.slab < self.old.course.slabs }
+    fn close_slab(&mut self) -> Result<(), Device>
+        requires { self.old.slab < self.old.slab_order.slabs }
         ensures next { OnOk result (self.new.slab ≡ self.old.slab + 1) }
-        ensures slabs { self.new.course.slabs ≡ self.old.course.slabs }
-        ensures closes { (start : Option (List ℕ)) (w : Standing)
+        ensures slabs { self.new.slab_order.slabs ≡ self.old.slab_order.slabs }
+        ensures closes { (start : Option (List ℕ)) (w : WriterState)
             → Ends (padding_bytes w.schema (slab_at w.schema self.old.slab).var)
             start (W.put (sink_in self.old)) self.old w
             → StandsOrStops start (W.put (sink_in self.new)) self.new w result }
         ensures count { Counts (W.failures (sink_in self.old)) (W.failures (sink_in self.new)) result }
     {
-        let turn = self.turn().0;
-        self.outlet.put_fills(turn.fill(), turn.padding)?;
+        let var_slab = self.var_slab().0;
+        self.paged_sink
+            .put_fills(var_slab.fill(), var_slab.padding)?;
         self.open_slab()
     }
 
     /// Goes on after so many elements of the slab, whose bytes were put after what waits.
     #[inline(always)]
-    fn go_on(&mut self, count: u64) -> Result<(), Failed>
-        requires there { self.old.slab < self.old.course.slabs }
+    fn go_on(&mut self, count: u64) -> Result<(), Device>
+        requires there { self.old.slab < self.old.slab_order.slabs }
         requires room { count ≤ self.old.left }
-        ensures goes { (start : Option (List ℕ)) (w : Standing) (bytes : List ℕ)
+        ensures goes { (start : Option (List ℕ)) (w : WriterState) (bytes : List ℕ)
             → Gives bytes count start (W.put (sink_in self.old)) self.old w
             → StandsOrStops start (W.put (sink_in self.new)) self.new (with_more w bytes) result }
         ensures count { Counts (W.failures (sink_in self.old)) (W.failures (sink_in self.new)) result }
@@ -186,53 +189,53 @@ impl<W: Sink> FileWriter<W> {
 
     /// Takes values that fit in the slab.
     #[inline(always)]
-    fn take(&mut self, values: &Values) -> Result<(), Failed>
-        requires there { self.old.slab < self.old.course.slabs }
+    fn take(&mut self, values: &Values) -> Result<(), Device>
+        requires there { self.old.slab < self.old.slab_order.slabs }
         requires room { count_of values.now ≤ self.old.left }
-        requires typed { type_of values.now ≡ (turn_at self.old.course self.old.slab).xtype }
-        ensures takes { (start : Option (List ℕ)) (w : Standing) → Stands start (W.put (sink_in self.old)) self.old w
+        requires typed { type_of values.now ≡ (var_slab_at self.old.slab_order self.old.slab).xtype }
+        ensures takes { (start : Option (List ℕ)) (w : WriterState) → Stands start (W.put (sink_in self.old)) self.old w
             → w.failed ≡ false
             → StandsOrStops start (W.put (sink_in self.new)) self.new (with_values w values.now) result }
         ensures count { Counts (W.failures (sink_in self.old)) (W.failures (sink_in self.new)) result }
     {
-        self.outlet.put_values(values)?;
+        self.paged_sink.put_values(values)?;
         self.go_on(values.len() as u64)
     }
 
     /// Takes the bytes of so many values that fit in the slab.
     #[inline(always)]
-    fn take_bytes(&mut self, count: u64, bytes: &[u8]) -> Result<(), Failed>
-        requires there { self.old.slab < self.old.course.slabs }
+    fn take_bytes(&mut self, count: u64, bytes: &[u8]) -> Result<(), Device>
+        requires there { self.old.slab < self.old.slab_order.slabs }
         requires room { count ≤ self.old.left }
-        requires whole { length bytes.now ≡ count * size_of (turn_at self.old.course self.old.slab).xtype }
+        requires whole { length bytes.now ≡ count * size_of (var_slab_at self.old.slab_order self.old.slab).xtype }
         requires bytes { IsBytes bytes.now }
-        ensures takes { (start : Option (List ℕ)) (w : Standing) → Stands start (W.put (sink_in self.old)) self.old w
+        ensures takes { (start : Option (List ℕ)) (w : WriterState) → Stands start (W.put (sink_in self.old)) self.old w
             → w.failed ≡ false
             → StandsOrStops start (W.put (sink_in self.new)) self.new (with_more w bytes.now) result }
         ensures count { Counts (W.failures (sink_in self.old)) (W.failures (sink_in self.new)) result }
     {
-        self.outlet.put_bytes(bytes)?;
+        self.paged_sink.put_bytes(bytes)?;
         self.go_on(count)
     }
 
     /// Takes the next values, any number up to what is left of the slab. Refused values change nothing. After a
     /// `Device` a beginning of the file went out, and every later `put`, `fill_rest` and `finish` is `Failed`.
     pub fn put(&mut self, values: &Values) -> Result<(), WriteFault>
-        ensures answer { (start : Option (List ℕ)) (w : Standing) → Stands start (W.put (sink_in self.old)) self.old w
+        ensures answer { (start : Option (List ℕ)) (w : WriterState) → Stands start (W.put (sink_in self.old)) self.old w
             → IsAnswer (λ e. e) (refuses_put w values.now) result }
-        ensures stands { (start : Option (List ℕ)) (w : Standing) → Stands start (W.put (sink_in self.old)) self.old w
-            → (new : Standing) × Stands start (W.put (sink_in self.new)) self.new new
+        ensures stands { (start : Option (List ℕ)) (w : WriterState) → Stands start (W.put (sink_in self.old)) self.old w
+            → (new : WriterState) × Stands start (W.put (sink_in self.new)) self.new new
             × StandsAfter w (with_values w values.now) new result }
-        ensures unchanged { IfErr result (λ e. (e ≡ Device → ⊥) → self.new ≡ self.old) }
+        ensures unchanged { IfErr result (λ e. (e ≡ faults.Device → ⊥) → self.new ≡ self.old) }
         ensures count { CountsFailure (W.failures (sink_in self.old)) (W.failures (sink_in self.new)) result }
     {
         if self.failed {
             return Err(WriteFault::Failed);
         }
-        if self.slab == self.course.slabs() {
+        if self.slab == self.slab_order.slabs() {
             return Err(WriteFault::Complete);
         }
-        if values.xtype() != self.turn().0.xtype {
+        if values.xtype() != self.var_slab().0.xtype {
             return Err(WriteFault::WrongType);
         }
         if values.len() as u64 > self.left {
@@ -252,21 +255,21 @@ impl<W: Sink> FileWriter<W> {
     #[inline(always)]
     pub fn put_bytes(&mut self, xtype: XType, bytes: &[u8]) -> Result<(), WriteFault>
         requires whole { length bytes.now % size_of xtype ≡ 0 }
-        ensures answer { (start : Option (List ℕ)) (w : Standing) → Stands start (W.put (sink_in self.old)) self.old w
+        ensures answer { (start : Option (List ℕ)) (w : WriterState) → Stands start (W.put (sink_in self.old)) self.old w
             → IsAnswer (λ e. e) (refuses_put w (values_of xtype bytes.now)) result }
-        ensures stands { (start : Option (List ℕ)) (w : Standing) → Stands start (W.put (sink_in self.old)) self.old w
-            → (new : Standing) × Stands start (W.put (sink_in self.new)) self.new new
+        ensures stands { (start : Option (List ℕ)) (w : WriterState) → Stands start (W.put (sink_in self.old)) self.old w
+            → (new : WriterState) × Stands start (W.put (sink_in self.new)) self.new new
             × StandsAfter w (with_values w (values_of xtype bytes.now)) new result }
-        ensures unchanged { IfErr result (λ e. (e ≡ Device → ⊥) → self.new ≡ self.old) }
+        ensures unchanged { IfErr result (λ e. (e ≡ faults.Device → ⊥) → self.new ≡ self.old) }
         ensures count { CountsFailure (W.failures (sink_in self.old)) (W.failures (sink_in self.new)) result }
     {
         if self.failed {
             return Err(WriteFault::Failed);
         }
-        if self.slab == self.course.slabs() {
+        if self.slab == self.slab_order.slabs() {
             return Err(WriteFault::Complete);
         }
-        if xtype != self.turn().0.xtype {
+        if xtype != self.var_slab().0.xtype {
             return Err(WriteFault::WrongType);
         }
         let count = elements_in(xtype, bytes);
@@ -284,27 +287,27 @@ impl<W: Sink> FileWriter<W> {
     }
 
     /// Fills what is left of the slab.
-    fn fill_slab(&mut self) -> Result<(), Failed>
-        requires { self.old.slab < self.old.course.slabs }
-        ensures fills { (start : Option (List ℕ)) (w : Standing) → Stands start (W.put (sink_in self.old)) self.old w
+    fn fill_slab(&mut self) -> Result<(), Device>
+        requires { self.old.slab < self.old.slab_order.slabs }
+        ensures fills { (start : Option (List ℕ)) (w : WriterState) → Stands start (W.put (sink_in self.old)) self.old w
             → w.failed ≡ false → StandsOrStops start (W.put (sink_in self.new)) self.new
             (with_more w (fills self.old.left (slab_at w.schema self.old.slab).var)) result }
         ensures next { OnOk result (self.new.slab ≡ self.old.slab + 1) }
-        ensures slabs { self.new.course.slabs ≡ self.old.course.slabs }
+        ensures slabs { self.new.slab_order.slabs ≡ self.old.slab_order.slabs }
         ensures count { Counts (W.failures (sink_in self.old)) (W.failures (sink_in self.new)) result }
     {
-        let turn = self.turn().0;
-        self.outlet.put_fills(turn.fill(), self.left)?;
+        let var_slab = self.var_slab().0;
+        self.paged_sink.put_fills(var_slab.fill(), self.left)?;
         self.close_slab()
     }
 
     /// Fills all that is left.
-    fn fill_slabs(&mut self) -> Result<(), Failed>
-        ensures fills { (start : Option (List ℕ)) (w : Standing) → Stands start (W.put (sink_in self.old)) self.old w
+    fn fill_slabs(&mut self) -> Result<(), Device>
+        ensures fills { (start : Option (List ℕ)) (w : WriterState) → Stands start (W.put (sink_in self.old)) self.old w
             → w.failed ≡ false → StandsOrStops start (W.put (sink_in self.new)) self.new (with_fills w) result }
         ensures count { Counts (W.failures (sink_in self.old)) (W.failures (sink_in self.new)) result }
     {
-        while self.slab < self.course.slabs() {
+        while self.slab < self.slab_order.slabs() {
             self.fill_slab()?;
         }
         Ok(())
@@ -314,20 +317,20 @@ impl<W: Sink> FileWriter<W> {
     /// is one value of its type, else the default of the type. After a `Device` a beginning of the file went out,
     /// and every later `put`, `fill_rest` and `finish` is `Failed`.
     pub fn fill_rest(&mut self) -> Result<(), WriteFault>
-        ensures answer { (start : Option (List ℕ)) (w : Standing) → Stands start (W.put (sink_in self.old)) self.old w
+        ensures answer { (start : Option (List ℕ)) (w : WriterState) → Stands start (W.put (sink_in self.old)) self.old w
             → IsAnswer (λ e. e) (refuses_fill w) result }
-        ensures stands { (start : Option (List ℕ)) (w : Standing) → Stands start (W.put (sink_in self.old)) self.old w
-            → (new : Standing) × Stands start (W.put (sink_in self.new)) self.new new
+        ensures stands { (start : Option (List ℕ)) (w : WriterState) → Stands start (W.put (sink_in self.old)) self.old w
+            → (new : WriterState) × Stands start (W.put (sink_in self.new)) self.new new
             × StandsAfter w (with_fills w) new result }
-        ensures complete { (start : Option (List ℕ)) (w : Standing) → Stands start (W.put (sink_in self.old)) self.old w
+        ensures complete { (start : Option (List ℕ)) (w : WriterState) → Stands start (W.put (sink_in self.old)) self.old w
             → w.failed ≡ false → next_of w.schema w.taken ≡ None → IsOk result × (self.new ≡ self.old) }
-        ensures unchanged { IfErr result (λ e. (e ≡ Device → ⊥) → self.new ≡ self.old) }
+        ensures unchanged { IfErr result (λ e. (e ≡ faults.Device → ⊥) → self.new ≡ self.old) }
         ensures count { CountsFailure (W.failures (sink_in self.old)) (W.failures (sink_in self.new)) result }
     {
         if self.failed {
             return Err(WriteFault::Failed);
         }
-        if self.slab == self.course.slabs() {
+        if self.slab == self.slab_order.slabs() {
             return Ok(());
         }
         match self.fill_slabs() {
@@ -342,9 +345,9 @@ impl<W: Sink> FileWriter<W> {
     /// Ends a file that has all its values, which is then out, and gives the sink back. Nothing is written here.
     /// A refused writer is given back as it was.
     pub fn finish(self) -> Result<W, (FileWriter<W>, WriteFault)>
-        ensures answer { (start : Option (List ℕ)) (w : Standing) → Stands start (W.put (sink_in self)) self w
+        ensures answer { (start : Option (List ℕ)) (w : WriterState) → Stands start (W.put (sink_in self)) self w
             → IsExactly (λ e. e.1) (refuses_finish w) result }
-        ensures file { (start : Option (List ℕ)) (w : Standing) → Stands start (W.put (sink_in self)) self w
+        ensures file { (start : Option (List ℕ)) (w : WriterState) → Stands start (W.put (sink_in self)) self w
             → IfOk result (λ sink. Went start (W.put sink) (λ out. ∥ IsCompleted w.schema w.taken out ∥₁)) }
         ensures sink { IfOk result (λ sink. sink ≡ sink_in self) }
         ensures unchanged { IfErr result (λ e. e.0 ≡ self) }
@@ -354,7 +357,7 @@ impl<W: Sink> FileWriter<W> {
         if self.failed {
             return Err((self, WriteFault::Failed));
         }
-        if self.slab < self.course.slabs() {
+        if self.slab < self.slab_order.slabs() {
             return Err((self, WriteFault::Unfinished));
         }
         Ok(self.into_sink())
@@ -364,6 +367,6 @@ impl<W: Sink> FileWriter<W> {
     pub fn into_sink(self) -> W
         ensures { result ≡ sink_in self }
     {
-        self.outlet.into_sink()
+        self.paged_sink.into_sink()
     }
 }

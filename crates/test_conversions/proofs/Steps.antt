@@ -1,7 +1,7 @@
 -- What a step does to a name.
 use Rattle.std.proofs.Common.{◌≡◌, inl, inr, ◌⊎◌, ℕ, suc, ◌-◌, ◌≤◌, List, [], ◌∷◌, length, false, Option, None, refl, subst, sym, arith}
 use Rattle.std.specs.Prelude.{Result, Ok, Err, OnOk, OnErr}
-use Rattle.ncc_store.specs.declared.device.Device.{Device}
+use Rattle.ncc_values.specs.declared.failures.Device.{Device}
 use Rattle.ncc_target.specs.Names.{NameElapses}
 use Rattle.test_conversions.specs.declared.step.Step.{Step}
 use Rattle.test_conversions.specs.declared.step.Step.TheVariants.{Gives, Takes, Settles}

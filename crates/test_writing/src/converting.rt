@@ -4,7 +4,7 @@ mod memory;
 
 use ncc_check::open;
 use ncc_convert::convert;
-use ncc_lines::{Halt, Unshown};
+use ncc_lines::{SendError, Unshown};
 use ncc_schema::{FuseSink, Sink, WriteSink};
 use ncc_store::MemStore;
 use ncc_values::Version;
@@ -19,7 +19,7 @@ fn convert_to<W: Sink + Drop>(
     bytes: Vec<u8>,
     version: Version,
     sink: W,
-) -> Option<(W, Result<(), Halt>)> {
+) -> Option<(W, Result<(), SendError>)> {
     let Ok(opened) = open(alloc, MemStore::new(bytes), LIMIT) else {
         return None;
     };
@@ -40,7 +40,11 @@ fn sinks_that_fail(rt: HostRuntime) -> Result<(), Fail> {
         let sink = FuseSink::new(WriteSink::new(Vec::new(alloc)), calls, 65_536);
         match convert_to(alloc, bytes, Version::V2, sink) {
             Some((sink, result)) => {
-                let wanted = if calls < 2 { Err(Halt::Device) } else { Ok(()) };
+                let wanted = if calls < 2 {
+                    Err(SendError::Device)
+                } else {
+                    Ok(())
+                };
                 assert!(rt; result == wanted);
                 let out = sink.into_inner().into_inner();
                 assert!(rt; out.as_slice() == whole.as_slice().split_at(length).0);

@@ -2,7 +2,7 @@
 
 ghost use Rattle.std.specs.Prelude.{◌≡◌, OnOk, IsTrue, ◌↔◌, length};
 ghost use Rattle.ncc_check.specs.Notes.{HasLargeCount};
-ghost use Rattle.ncc_check.specs.Noting.{Adds, Below, CountNote, LargeLength, MarkNote, names_in, note_of_mark, offsets_in};
+ghost use Rattle.ncc_check.specs.Noting.{Adds, Below, LargeCountNote, LargeLengthNote, MarkNote, names_in, note_of_mark, offsets_in};
 
 use crate::note::{Note, NoteKind};
 use crate::notes::named::Named;
@@ -52,8 +52,8 @@ fn is_large(schema: &Schema) -> bool
 }
 
 /// Notes a large number of records.
-pub fn note_count(schema: &Schema, notes: &mut Vec<Note>) -> Result<(), AllocError>
-    ensures { OnOk result (Adds (CountNote schema.now) notes.old.items notes.new.items) }
+pub fn note_large_count(schema: &Schema, notes: &mut Vec<Note>) -> Result<(), AllocError>
+    ensures { OnOk result (Adds (LargeCountNote schema.now) notes.old.items notes.new.items) }
 {
     let large = is_large(schema);
     note_if(notes, large, NoteKind::LargeCount, NUMRECS_AT)?;
@@ -61,7 +61,7 @@ pub fn note_count(schema: &Schema, notes: &mut Vec<Note>) -> Result<(), AllocErr
 }
 
 /// Notes the dimensions whose length has its top bit set.
-pub fn note_lengths(
+pub fn note_large_lengths(
     version: Version,
     dims: &[Dim],
     named: &[Named<'_>],
@@ -69,7 +69,7 @@ pub fn note_lengths(
 ) -> Result<(), AllocError>
     requires { length named.now ≡ length dims.now }
     ensures { OnOk result (Adds
-        (Below (LargeLength version dims.now (names_in named.now) (offsets_in named.now)) (length dims.now))
+        (Below (LargeLengthNote version dims.now (names_in named.now) (offsets_in named.now)) (length dims.now))
         notes.old.items notes.new.items) }
 {
     let limit = limit_of_counts(version);

@@ -1,7 +1,7 @@
 //! The notes on the names of a list: those that don't fit, and those that an earlier one has.
 
 ghost use Rattle.std.specs.Prelude.{◌≡◌, IfOk, OnOk, IsTrue, ◌↔◌, ◌+◌, ◌%◌, ◌<◌, ◌≤◌, [], false, true, not, length, get_or, set};
-ghost use Rattle.ncc_check.specs.Noting.{Adds, AreTaken, Below, BadName, Repeated, IsRepeated, NameNotes, key_of_name, keys_in, names_in, offsets_in};
+ghost use Rattle.ncc_check.specs.Noting.{Adds, AreTaken, Below, NameRuleNote, DuplicateNameNote, IsDuplicate, NameNotes, key_of_name, keys_in, names_in, offsets_in};
 
 use crate::note::{Note, NoteKind};
 use crate::notes::named::Named;
@@ -14,8 +14,12 @@ use std::alloc::{AllocError, Global};
 const SHORT: usize = 32;
 
 /// Notes the names that break the rule of names.
-fn note_bad(alloc: Global, named: &[Named<'_>], notes: &mut Vec<Note>) -> Result<(), AllocError>
-    ensures { OnOk result (Adds (Below (BadName (names_in named.now) (offsets_in named.now)) (length named.now))
+fn note_name_rule(
+    alloc: Global,
+    named: &[Named<'_>],
+    notes: &mut Vec<Note>,
+) -> Result<(), AllocError>
+    ensures { OnOk result (Adds (Below (NameRuleNote (names_in named.now) (offsets_in named.now)) (length named.now))
         notes.old.items notes.new.items) }
 {
     for x in named {
@@ -51,7 +55,7 @@ fn keys_of(alloc: Global, named: &[Named<'_>]) -> Result<Vec<u64>, AllocError>
 fn is_among(named: &[Named<'_>], keys: &[u64], number: usize, name: &[u8]) -> bool
     requires number { number ≤ length named.now }
     requires keys { keys.now ≡ keys_in named.now }
-    ensures { IsTrue result ↔ IsRepeated (names_in named.now) number name.now }
+    ensures { IsTrue result ↔ IsDuplicate (names_in named.now) number name.now }
 {
     let own = key(name);
     for i in 0..number {
@@ -79,13 +83,13 @@ fn take_slot(taken: &mut [bool], key: u64) -> bool
 
 /// Whether an earlier name is the same as the one with this number, whose slot is then taken as theirs are. A name
 /// whose slot was free has a key of its own.
-fn is_repeated(named: &[Named<'_>], keys: &[u64], taken: &mut [bool], number: usize) -> bool
+fn is_duplicate(named: &[Named<'_>], keys: &[u64], taken: &mut [bool], number: usize) -> bool
     requires there { number < length named.now }
     requires keys { keys.now ≡ keys_in named.now }
     requires slots { length taken.old ≡ 61 }
     requires earlier { AreTaken keys.now number taken.old }
     ensures repeated { IsTrue result
-        ↔ IsRepeated (names_in named.now) number (get_or (names_in named.now) number []) }
+        ↔ IsDuplicate (names_in named.now) number (get_or (names_in named.now) number []) }
     ensures slots { length taken.new ≡ 61 }
     ensures takes { AreTaken keys.now (number + 1) taken.new }
 {
@@ -96,30 +100,30 @@ fn is_repeated(named: &[Named<'_>], keys: &[u64], taken: &mut [bool], number: us
 }
 
 /// Notes the names that an earlier one has, pair by pair.
-fn note_repeats_by_pairs(
+fn note_duplicate_names_by_pairs(
     alloc: Global,
     named: &[Named<'_>],
     notes: &mut Vec<Note>,
 ) -> Result<(), AllocError>
-    ensures { OnOk result (Adds (Below (Repeated (names_in named.now) (offsets_in named.now)) (length named.now))
+    ensures { OnOk result (Adds (Below (DuplicateNameNote (names_in named.now) (offsets_in named.now)) (length named.now))
         notes.old.items notes.new.items) }
 {
     let keys = keys_of(alloc, named)?;
     let mut taken = [false; SLOTS];
     for i in 0..named.len() {
-        let repeated = is_repeated(named, &keys, &mut taken, i);
+        let repeated = is_duplicate(named, &keys, &mut taken, i);
         note_if(notes, repeated, NoteKind::DuplicateName, named[i].at)?;
     }
     Ok(())
 }
 
 /// Notes the names that an earlier one has, by a table of the names so far.
-fn note_repeats_by_table(
+fn note_duplicate_names_by_table(
     alloc: Global,
     named: &[Named<'_>],
     notes: &mut Vec<Note>,
 ) -> Result<(), AllocError>
-    ensures { OnOk result (Adds (Below (Repeated (names_in named.now) (offsets_in named.now)) (length named.now))
+    ensures { OnOk result (Adds (Below (DuplicateNameNote (names_in named.now) (offsets_in named.now)) (length named.now))
         notes.old.items notes.new.items) }
 {
     let mut seen: IndexSet<&[u8]> = IndexSet::new(alloc);
@@ -131,14 +135,18 @@ fn note_repeats_by_table(
 }
 
 /// Notes the names that an earlier one has: those of a short list pair by pair, which is faster there.
-fn note_repeats(alloc: Global, named: &[Named<'_>], notes: &mut Vec<Note>) -> Result<(), AllocError>
-    ensures { OnOk result (Adds (Below (Repeated (names_in named.now) (offsets_in named.now)) (length named.now))
+fn note_duplicate_names(
+    alloc: Global,
+    named: &[Named<'_>],
+    notes: &mut Vec<Note>,
+) -> Result<(), AllocError>
+    ensures { OnOk result (Adds (Below (DuplicateNameNote (names_in named.now) (offsets_in named.now)) (length named.now))
         notes.old.items notes.new.items) }
 {
     if named.len() <= SHORT {
-        return note_repeats_by_pairs(alloc, named, notes);
+        return note_duplicate_names_by_pairs(alloc, named, notes);
     }
-    note_repeats_by_table(alloc, named, notes)
+    note_duplicate_names_by_table(alloc, named, notes)
 }
 
 /// The notes on the names of a list.
@@ -150,7 +158,7 @@ pub fn note_names(
     ensures { OnOk result (Adds (NameNotes (names_in named.now) (offsets_in named.now))
         notes.old.items notes.new.items) }
 {
-    note_bad(alloc, named, notes)?;
-    note_repeats(alloc, named, notes)?;
+    note_name_rule(alloc, named, notes)?;
+    note_duplicate_names(alloc, named, notes)?;
     Ok(())
 }

@@ -5,7 +5,7 @@ ghost use Rattle.ncc_schema.specs.Names.{capped};
 ghost use Rattle.ncc_check.specs.Noting.{Adds, AttrNotes, AttrNotesAt, Below, DimNotes, GlobalNotes, VarAttrNotes, VarNotes, offsets_in, var_offsets};
 
 use crate::note::Note;
-use crate::notes::counting::note_lengths;
+use crate::notes::counting::note_large_lengths;
 use crate::notes::named::{Named, named_attrs, named_dims, named_vars};
 use crate::notes::names::note_names;
 use ncc_header::{Attr, Schema, Var, Version};
@@ -19,7 +19,7 @@ pub fn note_dims(alloc: Global, schema: &Schema, notes: &mut Vec<Note>) -> Resul
     let start = 2 * list_size(schema.version);
     let named = named_dims(alloc, schema.version, schema.dims.as_slice(), start)?;
     note_names(alloc, named.as_slice(), notes)?;
-    note_lengths(
+    note_large_lengths(
         schema.version,
         schema.dims.as_slice(),
         named.as_slice(),

@@ -5,8 +5,8 @@ ghost use Rattle.std.specs.List.{flat_map};
 ghost use Rattle.ncc_lines.specs.Words.{chars_word, values_text};
 ghost use Rattle.ncc_lines.specs.Sends.{Sends, Blames};
 
-use crate::halt::Halt;
 use crate::page::{send, turn_page};
+use crate::send_error::SendError;
 use crate::style::FloatStyle;
 use crate::values::printed::{PIECE, Printed};
 use ncc_header::{Sink, Values};
@@ -18,7 +18,7 @@ fn send_piece<T: Printed, W: Sink>(
     style: FloatStyle,
     page: &mut Vec<u8>,
     sink: &mut W,
-) -> Result<(), Halt>
+) -> Result<(), SendError>
     requires { length piece.now ≤ PIECE }
     ensures sent { Sends (W.put sink.old) (W.put sink.new)
         (page.old.items ++ flat_map (T.text style) piece.now) page.new.items result }
@@ -34,7 +34,7 @@ fn send_pieces<T: Printed, W: Sink>(
     style: FloatStyle,
     page: &mut Vec<u8>,
     sink: &mut W,
-) -> Result<(), Halt>
+) -> Result<(), SendError>
     ensures sent { Sends (W.put sink.old) (W.put sink.new)
         (page.old.items ++ flat_map (T.text style) values.now) page.new.items result }
     ensures count { Blames (W.failures sink.old) (W.failures sink.new) result }
@@ -49,7 +49,7 @@ fn send_pieces<T: Printed, W: Sink>(
 }
 
 /// Sends a text as one word.
-fn send_chars<W: Sink>(chars: &[Char], page: &mut Vec<u8>, sink: &mut W) -> Result<(), Halt>
+fn send_chars<W: Sink>(chars: &[Char], page: &mut Vec<u8>, sink: &mut W) -> Result<(), SendError>
     ensures sent { Sends (W.put sink.old) (W.put sink.new)
         (page.old.items ++ chars_word chars.now) page.new.items result }
     ensures count { Blames (W.failures sink.old) (W.failures sink.new) result }
@@ -67,7 +67,7 @@ pub fn send_values<W: Sink>(
     style: FloatStyle,
     page: &mut Vec<u8>,
     sink: &mut W,
-) -> Result<(), Halt>
+) -> Result<(), SendError>
     ensures sent { Sends (W.put sink.old) (W.put sink.new)
         (page.old.items ++ values_text style values.now) page.new.items result }
     ensures count { Blames (W.failures sink.old) (W.failures sink.new) result }

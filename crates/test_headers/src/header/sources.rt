@@ -2,7 +2,7 @@
 
 use super::helpers::length_of;
 use ncc_header::{
-    Failed, FuseSource, HeaderError, ReadSource, Sink, Source, WriteSink, read_header,
+    Device, FuseSource, HeaderError, ReadSource, Sink, Source, WriteSink, read_header,
 };
 use std::alloc::Global;
 use std::io;
@@ -56,11 +56,11 @@ impl Write for FailsOnce {
 fn errors_are_answered(rt: HostRuntime) {
     let mut source = ReadSource::new(errs_once());
     let mut room = [0; 4];
-    assert!(rt; source.read(&mut room) == Err(Failed));
+    assert!(rt; source.read(&mut room) == Err(Device));
     assert!(rt; source.read(&mut room) == Ok(1));
     for writer in [errs_once(), takes_nothing_once()] {
         let mut sink = WriteSink::new(writer);
-        assert!(rt; sink.write(b"ab") == Err(Failed));
+        assert!(rt; sink.write(b"ab") == Err(Device));
         assert!(rt; sink.write(b"ab") == Ok(1));
     }
 }

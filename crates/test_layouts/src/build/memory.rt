@@ -3,7 +3,7 @@
 
 use super::helpers::attr;
 use ncc_build::{SchemaBuilder, WriteFault};
-use ncc_values::{Few, Values, Version, XType};
+use ncc_values::{InlineList, Values, Version, XType};
 use std::alloc::Global;
 use std::test::*;
 
@@ -11,9 +11,14 @@ use std::test::*;
 fn calls(alloc: Global, builder: &mut SchemaBuilder) -> Result<(), WriteFault> {
     builder.dim(b"t", 0)?;
     builder.dim(b"x", 3)?;
-    builder.global(b"title", Values::Ints(Few::new(alloc)))?;
+    builder.global(b"title", Values::Ints(InlineList::new(alloc)))?;
     let number = builder.var(b"v", XType::Short, &[0, 1])?;
-    attr(builder, number, b"units", Values::Chars(Few::new(alloc)))?;
+    attr(
+        builder,
+        number,
+        b"units",
+        Values::Chars(InlineList::new(alloc)),
+    )?;
     builder.var(b"w", XType::Byte, &[1])?;
     Ok(())
 }
@@ -60,11 +65,21 @@ fn refused_var_without_memory(rt: HostRuntime) {
             return;
         }
     };
-    let values = Values::Ints(Few::new(alloc));
+    let values = Values::Ints(InlineList::new(alloc));
     if attr(&mut builder, first, b"a", values) == Err(WriteFault::Memory) {
-        let again = attr(&mut builder, first, b"a", Values::Ints(Few::new(alloc)));
+        let again = attr(
+            &mut builder,
+            first,
+            b"a",
+            Values::Ints(InlineList::new(alloc)),
+        );
         assert!(rt; again == Ok(()));
     }
-    let twice = attr(&mut builder, first, b"a", Values::Ints(Few::new(alloc)));
+    let twice = attr(
+        &mut builder,
+        first,
+        b"a",
+        Values::Ints(InlineList::new(alloc)),
+    );
     assert!(rt; twice == Err(WriteFault::DuplicateName));
 }

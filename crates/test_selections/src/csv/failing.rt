@@ -4,14 +4,14 @@ use super::helpers::{INTS, INTS_TEXT, slab};
 use ncc_check::open;
 use ncc_csv::send_sheet;
 use ncc_header::{FuseSink, WriteSink};
-use ncc_lines::{FloatStyle, Halt, Unshown};
+use ncc_lines::{FloatStyle, SendError, Unshown};
 use ncc_store::{FuseStore, MemStore};
 use std::alloc::{AllocError, Global};
 use std::test::*;
 use test_files::{LIMIT, bytes_of};
 
 /// The answer, and what was sent.
-type Sent = (Result<bool, Halt>, Vec<u8>);
+type Sent = (Result<bool, SendError>, Vec<u8>);
 
 /// What is sent where the sink passes so many calls of at most 5 bytes.
 fn sent_by_sink(alloc: Global, calls: u64) -> Result<Option<Sent>, AllocError> {
@@ -41,7 +41,7 @@ fn sent_by_sink(alloc: Global, calls: u64) -> Result<Option<Sent>, AllocError> {
 fn sinks_that_fail(rt: HostRuntime) -> Result<(), Fail> {
     for calls in 0..10 {
         let (answer, sent) = sent_by_sink(rt.alloc(), calls)?.expect(&rt, "it passes");
-        assert!(rt; answer == Err(Halt::Device), "after {calls}");
+        assert!(rt; answer == Err(SendError::Device), "after {calls}");
         assert!(rt; INTS_TEXT.as_bytes().starts_with(&sent), "after {calls}");
     }
     let (answer, sent) = sent_by_sink(rt.alloc(), 10)?.expect(&rt, "it passes");
@@ -86,7 +86,7 @@ const LEAPS: &str = "y,x,m\n0,0,1\n0,2,3\n1,0,4\n1,2,6\n";
 fn stores_that_fail(rt: HostRuntime) -> Result<(), Fail> {
     for calls in 2..5 {
         let (answer, sent) = sent_from_store(rt.alloc(), calls)?.expect(&rt, "it passes");
-        assert!(rt; answer == Err(Halt::Device), "after {calls}");
+        assert!(rt; answer == Err(SendError::Device), "after {calls}");
         assert!(rt; sent.as_slice() == NAMES.as_bytes(), "after {calls}");
     }
     let (answer, sent) = sent_from_store(rt.alloc(), 5)?.expect(&rt, "it passes");

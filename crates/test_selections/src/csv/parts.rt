@@ -4,7 +4,7 @@ use super::helpers::{TEXTS, slab};
 use ncc_check::open;
 use ncc_csv::send_sheet;
 use ncc_header::WriteSink;
-use ncc_lines::{FloatStyle, Halt, Progress};
+use ncc_lines::{FloatStyle, Progress, SendError};
 use ncc_store::MemStore;
 use std::alloc::{AllocError, Global};
 use std::test::*;
@@ -50,7 +50,7 @@ fn sheet_of(
     bytes: Vec<u8>,
     lists: [&[u64]; 3],
     texts: bool,
-) -> Result<Option<(Result<bool, Halt>, Told, Vec<u8>)>, AllocError> {
+) -> Result<Option<(Result<bool, SendError>, Told, Vec<u8>)>, AllocError> {
     let mut told = Told {
         times: 0,
         first: (0, 0),

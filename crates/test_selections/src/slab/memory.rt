@@ -5,7 +5,7 @@ use super::helpers::{read_next, slab};
 use ncc_check::NcFile;
 use ncc_slab::{Slab, SlabFault, SlabReader, read_slab, slab_of};
 use ncc_store::MemStore;
-use ncc_values::{Few, Values};
+use ncc_values::{InlineList, Values};
 use std::alloc::{AllocError, Global};
 use std::test::*;
 
@@ -54,7 +54,7 @@ fn refuses(alloc: Global, file: &mut NcFile<MemStore>, slab: &Slab) -> bool {
 
 /// Whether a part is the row, or memory was refused and no value is there.
 fn reads_part(alloc: Global, reader: &mut SlabReader<MemStore>) -> bool {
-    let mut values = Values::Ints(Few::new(alloc));
+    let mut values = Values::Ints(InlineList::new(alloc));
     match read_next(reader, &mut values) {
         Ok(count) => count == 3 && is_last(&values),
         Err(fault) => fault == SlabFault::Memory && values.is_empty(),

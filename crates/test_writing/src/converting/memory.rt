@@ -7,7 +7,7 @@ ghost use Rattle.ncc_write.specs.Planned.{IsPlanned};
 
 use ncc_check::{NcFile, open};
 use ncc_convert::convert;
-use ncc_lines::{Halt, Unshown};
+use ncc_lines::{SendError, Unshown};
 use ncc_schema::WriteSink;
 use ncc_store::MemStore;
 use ncc_values::Version;
@@ -51,7 +51,7 @@ fn converts_without_memory(rt: HostRuntime) {
     };
     let (sink, result) = convert(rt.alloc(), &mut file, built, sink, &mut Unshown);
     let out = sink.into_inner();
-    if result == Err(Halt::Memory) {
+    if result == Err(SendError::Memory) {
         assert!(rt; out.is_empty());
         return;
     }

@@ -4,15 +4,15 @@ use Rattle.ncc_c.proofs.CountsFit.{fits}
 use Rattle.ncc_c.proofs.Indexing.{short_as}
 use Rattle.ncc_c.proofs.index.put_found.Goals as goal
 
-pub counted-counts-requires-clause-attrs : goal.counted-counts-requires-clause-attrs
-counted-counts-requires-clause-attrs c =
+pub counts_of-counts-requires-clause-attrs : goal.counts_of-counts-requires-clause-attrs
+counts_of-counts-requires-clause-attrs c =
     let b = c.requires.begun in
     let h = c.args.found.now.header in
     let same = c.length_is_canonical.ensures b.0 b.1 h b.2 in
     (fits h.schema (places_of h.places) b.2.is_header.legal.number (omega (arith, same))).attr_count
 
-pub counted-counts-requires-clause-ids : goal.counted-counts-requires-clause-ids
-counted-counts-requires-clause-ids c =
+pub counts_of-counts-requires-clause-ids : goal.counts_of-counts-requires-clause-ids
+counts_of-counts-requires-clause-ids c =
     let b = c.requires.begun in
     let h = c.args.found.now.header in
     let same = c.length_is_canonical.ensures b.0 b.1 h b.2 in
@@ -20,7 +20,7 @@ counted-counts-requires-clause-ids c =
 
 pub returns-then-is_short-clause-puts : goal.returns-then-is_short-clause-puts
 returns-then-is_short-clause-puts c =
-    inr (c.counted-counts.ensures.outcome, short_as c.args.found.now.header.schema c.counted-counts.result _ _ _ _ c.counted-counts.ensures.counts c.if-is_short.ensures)
+    inr (c.counts_of-counts.ensures.outcome, short_as c.args.found.now.header.schema c.counts_of-counts.result _ _ _ _ c.counts_of-counts.ensures.counts c.if-is_short.ensures)
 
 pub put_rows-requires-clause-fits : goal.put_rows-requires-clause-fits
 put_rows-requires-clause-fits c =

@@ -2,7 +2,7 @@ use Rattle.std.proofs.Common.{◌≡◌, ◌⊎◌, ◌+◌, ◌%◌, ◌-◌, �
 use Rattle.std.specs.Prelude.{IsTrue, max}
 use Rattle.ncc_store.specs.Store.{Unmoved, KeepsImages}
 use Rattle.ncc_header.specs.Decoder.{Took, limit_of, HasFailed}
-use Rattle.ncc_header.specs.Standing.{GoesOn}
+use Rattle.ncc_header.specs.State.{GoesOn}
 use Rattle.ncc_header.specs.declared.fault.HeaderError.TheVariants.{Memory}
 use Rattle.ncc_check.specs.FromStore.{reads_for}
 use Rattle.ncc_check.proofs.reading.feed_front.Given as goal

@@ -13,8 +13,8 @@ use Rattle.ncc_write.specs.Writer.{schema_in, sink_in}
 use Rattle.ncc_write.specs.Writing.{starting}
 use Rattle.ncc_convert.specs.Copying.{Copies, HasFront}
 use Rattle.ncc_convert.specs.Converting.{ConvertCounts}
-use Rattle.ncc_lines.specs.declared.halt.Halt.{Halt}
-use Rattle.ncc_lines.specs.declared.halt.Halt.TheVariants.{Memory}
+use Rattle.ncc_lines.specs.declared.send_error.SendError.{SendError}
+use Rattle.ncc_lines.specs.declared.send_error.SendError.TheVariants.{Memory}
 use Rattle.ncc_convert.specs.Found.{IsOf}
 use Rattle.ncc_convert.proofs.Ending.{all_taken, is_the_file, not_unfinished, nothing_next, error_is, start_counts, start_failed, start_memory, reads_as}
 use Rattle.ncc_convert.proofs.PiecesLeft.{at_start}
@@ -42,7 +42,7 @@ returns-in-Err-clause-memory g c =
     let start = g.W.Sink.put c.args.sink in
     λ memory. (
       c.in-Err.ensures.untouched (start_memory start (g.W.Sink.put c.in-Err.sink) (g.W.Sink.failures c.args.sink) (g.W.Sink.failures c.in-Err.sink) (header_of t) c.in-Err.fault c.in-Err.ensures.refused
-          (sym c.halt_of.ensures ∙ error_is c.halt_of.result Memory memory)),
+          (sym c.send_error_of.ensures ∙ error_is c.send_error_of.result Memory memory)),
       refl,
     )
 
@@ -56,7 +56,7 @@ returns-in-Err-clause-file g c =
     let t = planned_schema c.args.built in
     let start = g.W.Sink.put c.args.sink in
     files_answered file file (λ before after. after ≡ before) _ true _ _ (files_still file _ _)
-    (subst (λ (f : Halt). ConvertCounts (g.S.Store.failures (store_of file)) (g.S.Store.failures (store_of file)) (g.W.Sink.failures c.args.sink) (g.W.Sink.failures c.in-Err.sink) (Err f)) (sym c.halt_of.ensures)
+    (subst (λ (f : SendError). ConvertCounts (g.S.Store.failures (store_of file)) (g.S.Store.failures (store_of file)) (g.W.Sink.failures c.args.sink) (g.W.Sink.failures c.in-Err.sink) (Err f)) (sym c.send_error_of.ensures)
     (start_counts start (g.W.Sink.put c.in-Err.sink) (g.S.Store.failures (store_of file)) (g.W.Sink.failures c.args.sink) (g.W.Sink.failures c.in-Err.sink) (header_of t) c.in-Err.fault c.in-Err.ensures.refused))
 
 pub returns-in-Ok-finish-clause-converts : goal.returns-in-Ok-finish-clause-converts
@@ -71,14 +71,14 @@ returns-in-Ok-finish-clause-converts g c =
     let x = c.in-Ok-start.writer in
     let stands = c.in-Ok-start.ensures.stands in
     let first : Copies tells bytes p start (g.W.Sink.put (sink_in x)) x = record {
-      standing = starting t;
+      state = starting t;
       stands = stands;
       goes = refl;
       front = λ told d is of. (data_of d, refl);
     } in
     let y = c.copy_all.new.writer in
     let last = c.in-Ok-copy_all.ensures.copies start first in
-    let w = last.standing in
+    let w = last.state in
     let schema_is : w.schema ≡ t = sym last.stands.schema ∙ c.copy_all.ensures.planned ∙ stands.schema in
     let none = nothing_next w last.goes (c.in-Ok-copy_all.ensures.all start w last.stands) in
     let went = c.in-Ok-finish.ensures.file start w last.stands in
@@ -101,14 +101,14 @@ returns-in-Ok-finish-clause-whole g c =
     let x = c.in-Ok-start.writer in
     let stands = c.in-Ok-start.ensures.stands in
     let first : Copies tells bytes p start (g.W.Sink.put (sink_in x)) x = record {
-      standing = starting t;
+      state = starting t;
       stands = stands;
       goes = refl;
       front = λ told d is of. (data_of d, refl);
     } in
     let y = c.copy_all.new.writer in
     let last = c.in-Ok-copy_all.ensures.copies start first in
-    let w = last.standing in
+    let w = last.state in
     let schema_is : w.schema ≡ t = sym last.stands.schema ∙ c.copy_all.ensures.planned ∙ stands.schema in
     let none = nothing_next w last.goes (c.in-Ok-copy_all.ensures.all start w last.stands) in
     let went = c.in-Ok-finish.ensures.file start w last.stands in (
@@ -130,14 +130,14 @@ returns-in-Ok-finish-clause-reads g c =
     let x = c.in-Ok-start.writer in
     let stands = c.in-Ok-start.ensures.stands in
     let first : Copies tells bytes p start (g.W.Sink.put (sink_in x)) x = record {
-      standing = starting t;
+      state = starting t;
       stands = stands;
       goes = refl;
       front = λ told d is of. (data_of d, refl);
     } in
     let y = c.copy_all.new.writer in
     let last = c.in-Ok-copy_all.ensures.copies start first in
-    let w = last.standing in
+    let w = last.state in
     let schema_is : w.schema ≡ t = sym last.stands.schema ∙ c.copy_all.ensures.planned ∙ stands.schema in
     let none = nothing_next w last.goes (c.in-Ok-copy_all.ensures.all start w last.stands) in
     let went = c.in-Ok-finish.ensures.file start w last.stands in
@@ -164,14 +164,14 @@ unreachable-requires g c =
     let x = c.in-Ok-start.writer in
     let stands = c.in-Ok-start.ensures.stands in
     let first : Copies tells bytes p start (g.W.Sink.put (sink_in x)) x = record {
-      standing = starting t;
+      state = starting t;
       stands = stands;
       goes = refl;
       front = λ told d is of. (data_of d, refl);
     } in
     let y = c.copy_all.new.writer in
     let last = c.in-Ok-copy_all.ensures.copies start first in
-    let w = last.standing in
+    let w = last.state in
     let schema_is : w.schema ≡ t = sym last.stands.schema ∙ c.copy_all.ensures.planned ∙ stands.schema in
     let none = nothing_next w last.goes (c.in-Ok-copy_all.ensures.all start w last.stands) in
     not_unfinished _ w (λ e. e.1) c.in-Err-finish.field-0 last.goes none (c.in-Err-finish.ensures.answer start w last.stands)
@@ -188,7 +188,7 @@ returns-clause-converts g c =
     let x = c.in-Ok-start.writer in
     let stands = c.in-Ok-start.ensures.stands in
     let first : Copies tells bytes p start (g.W.Sink.put (sink_in x)) x = record {
-      standing = starting t;
+      state = starting t;
       stands = stands;
       goes = refl;
       front = λ told d is of. (data_of d, refl);

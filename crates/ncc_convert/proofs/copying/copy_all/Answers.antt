@@ -1,6 +1,6 @@
 use Rattle.std.proofs.Common.{true, false, refl, ◌≡◌, None, Result, Err, OnErr, sym, ap, subst, ◌∙◌, arith, rules}
 use Rattle.ncc_layout.specs.Placed.{file_length_of}
-use Rattle.ncc_schema.specs.declared.failed.Failed.{Failed}
+use Rattle.ncc_values.specs.declared.failures.Device.{Device}
 use Rattle.ncc_convert.specs.Copying.{HasFront}
 use Rattle.ncc_check.specs.Files.{store_of, placed_of}
 use Rattle.ncc_check.proofs.ReadFiles.{files_join, files_bounded, files_answered, files_loose}
@@ -60,7 +60,7 @@ returns-in_err-copy_piece-clause-stops g c = λ start copies.
     at.file.reads.unmoved.same at.file.placed start (g.W.Sink.put (sink_in c.copy_piece.new.writer))
     (schema_in c.args.writer.now) (schema_in c.loop-var.writer) at.planned
     (c.in_err-copy_piece.ensures.stops start there) in
-    subst (λ (r : Result (Unit {0}) Failed). OnErr r (HasFront g.S.Store.tells_bytes (g.S.Store.bytes (store_of c.args.file.now))
+    subst (λ (r : Result (Unit {0}) Device). OnErr r (HasFront g.S.Store.tells_bytes (g.S.Store.bytes (store_of c.args.file.now))
     (placed_of c.args.file.now) (schema_in c.args.writer.now) start (g.W.Sink.put (sink_in c.copy_piece.new.writer))))
     (sym is) front
 

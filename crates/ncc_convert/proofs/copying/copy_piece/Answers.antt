@@ -16,7 +16,7 @@ use Rattle.ncc_build.specs.declared.fault.WriteFault.{WriteFault}
 use Rattle.ncc_build.specs.declared.fault.WriteFault.TheVariants.{Device}
 use Rattle.ncc_write.specs.Holds.{bytes_at}
 use Rattle.ncc_write.specs.Writer.{sink_in, taken_in}
-use Rattle.ncc_write.specs.Writing.{CountsFailure, IsFront, Standing, StandsAfter, as_failed, with_values}
+use Rattle.ncc_write.specs.Writing.{CountsFailure, IsFront, WriterState, StandsAfter, as_failed, with_values}
 use Rattle.ncc_write.proofs.TakenIn.{taken_is}
 use Rattle.ncc_convert.specs.Found.{IsOf}
 use Rattle.ncc_convert.proofs.Facing.{before, faces}
@@ -109,7 +109,7 @@ returns-in-Err-clause-some g c =
     let copies = c.requires.copies.1 in
     let put = g.W.Sink.put (sink_in x) in
     let at = faces (tells_header g.S.Store.tells_bytes (must_reopen file)) g.S.Store.tells_bytes (g.S.Store.bytes (store_of file)) (schema_of file) (placed_of file) start put x c.open_file_stands.ensures c.requires.planned copies c.args.var c.args.number c.args.left c.requires.next in
-    one_left start put x copies.standing copies.stands copies.goes at.n at.next_is
+    one_left start put x copies.state copies.stands copies.goes at.n at.next_is
 
 pub returns-in-Ok-put_bytes-clause-some : goal.returns-in-Ok-put_bytes-clause-some
 returns-in-Ok-put_bytes-clause-some g c =
@@ -119,7 +119,7 @@ returns-in-Ok-put_bytes-clause-some g c =
     let copies = c.requires.copies.1 in
     let put = g.W.Sink.put (sink_in x) in
     let at = faces (tells_header g.S.Store.tells_bytes (must_reopen file)) g.S.Store.tells_bytes (g.S.Store.bytes (store_of file)) (schema_of file) (placed_of file) start put x c.open_file_stands.ensures c.requires.planned copies c.args.var c.args.number c.args.left c.requires.next in
-    one_left start put x copies.standing copies.stands copies.goes at.n at.next_is
+    one_left start put x copies.state copies.stands copies.goes at.n at.next_is
 
 pub returns-in-Err-put_bytes-clause-some : goal.returns-in-Err-put_bytes-clause-some
 returns-in-Err-put_bytes-clause-some g c =
@@ -129,7 +129,7 @@ returns-in-Err-put_bytes-clause-some g c =
     let copies = c.requires.copies.1 in
     let put = g.W.Sink.put (sink_in x) in
     let at = faces (tells_header g.S.Store.tells_bytes (must_reopen file)) g.S.Store.tells_bytes (g.S.Store.bytes (store_of file)) (schema_of file) (placed_of file) start put x c.open_file_stands.ensures c.requires.planned copies c.args.var c.args.number c.args.left c.requires.next in
-    one_left start put x copies.standing copies.stands copies.goes at.n at.next_is
+    one_left start put x copies.state copies.stands copies.goes at.n at.next_is
 
 -- the piece that was read is as long as was asked for
 piece_is_long : (g : given.Over) (c : goal.In-Ok-put_bytes g) → length c.fetch.new.out ≡ c.min-count.result * size_of c.xtype-xtype.result
@@ -146,7 +146,7 @@ returns-in-Ok-put_bytes-clause-copies g c =
     let tells = g.S.Store.tells_bytes in
     let b = tells_header tells (must_reopen file) in
     let put = g.W.Sink.put (sink_in x) in
-    let w = copies.standing in
+    let w = copies.state in
     let at = faces b tells bytes s p start put x c.open_file_stands.ensures c.requires.planned copies c.args.var c.args.number c.args.left c.requires.next in
     let y = var_at (vars_of p) c.args.var in
     let t = c.xtype-xtype.result in
@@ -162,11 +162,11 @@ returns-in-Ok-put_bytes-clause-copies g c =
     let fits : at.offset + length piece ≤ y.extent.slab = omega (arith, left_are, long, mul-le k (size_of t) c.args.left (size_of t) few (omega arith)) in
     let after = c.in-Ok-put_bytes.ensures.stands start w copies.stands in
     record {
-      standing = after.0;
+      state = after.0;
       stands = after.1;
-      goes = ap (λ (u : Standing). u.failed) after.2 ∙ copies.goes;
+      goes = ap (λ (u : WriterState). u.failed) after.2 ∙ copies.goes;
       front = λ told d is of.
-          let of_w = subst (λ (u : Standing). IsOf bytes p u.schema d) after.2 of in
+          let of_w = subst (λ (u : WriterState). IsOf bytes p u.schema d) after.2 of in
           let place_is : c.in-Some.place ≡ slab_begin (record_size_of_file p) y c.args.number = search rules in
           let inside : c.in-Some.place + y.extent.slab ≤ file_length_of p = search rules in
           let room : slab_begin (record_size_of_file p) y c.args.number + y.extent.slab ≤ length bytes = omega (arith, place_is, inside, c.open_file_is_long.ensures told) in
@@ -177,7 +177,7 @@ returns-in-Ok-put_bytes-clause-copies g c =
           let piece_at : piece ≡ bytes_at bytes (slab_begin (record_size_of_file p) y c.args.number + at.offset) (length piece) =
           told_is ∙ ap₂ (λ (m n : ℕ). take m (drop n bytes)) taken from_is in
           let front : IsFront (w.taken ++ bytes_of v) (data_of d) = next_front b tells bytes s p start put x c.open_file_stands.ensures c.requires.planned copies c.args.var c.args.number c.args.left c.requires.next d is of_w room told t k piece long fits piece_at in
-          subst (λ (u : Standing). IsFront u.taken (data_of d)) (sym after.2) front;
+          subst (λ (u : WriterState). IsFront u.taken (data_of d)) (sym after.2) front;
     }
 
 pub returns-in-Ok-put_bytes-clause-more : goal.returns-in-Ok-put_bytes-clause-more
@@ -192,7 +192,7 @@ returns-in-Ok-put_bytes-clause-more g c =
     let put = g.W.Sink.put (sink_in x) in
     let start = c.requires.copies.0 in
     let copies = c.requires.copies.1 in
-    let w = copies.standing in
+    let w = copies.state in
     let at = faces b tells bytes s p start put x c.open_file_stands.ensures c.requires.planned copies c.args.var c.args.number c.args.left c.requires.next in
     let y = var_at (vars_of p) c.args.var in
     let t = c.xtype-xtype.result in
@@ -208,10 +208,10 @@ returns-in-Ok-put_bytes-clause-more g c =
     let fits : at.offset + length piece ≤ y.extent.slab = omega (arith, left_are, long, mul-le k (size_of t) c.args.left (size_of t) few (omega arith)) in
     let after = c.in-Ok-put_bytes.ensures.stands start w copies.stands in
     let x' = c.put_bytes.new.self in
-    let goes : after.0.failed ≡ false = ap (λ (u : Standing). u.failed) after.2 ∙ copies.goes in
+    let goes : after.0.failed ≡ false = ap (λ (u : WriterState). u.failed) after.2 ∙ copies.goes in
     let old : taken_in x ≡ length w.taken = taken_is start put x w copies.stands copies.goes in
     let new : taken_in x' ≡ length after.0.taken = taken_is start (g.W.Sink.put (sink_in x')) x' after.0 after.1 goes in
-    let grown : length after.0.taken ≡ length w.taken + length piece = ap (λ (u : Standing). length u.taken) after.2 ∙ length-append w.taken (bytes_of v)
+    let grown : length after.0.taken ≡ length w.taken + length piece = ap (λ (u : WriterState). length u.taken) after.2 ∙ length-append w.taken (bytes_of v)
     ∙ ap (λ (n : ℕ). length w.taken + n) (piece_long t k piece long) in
     let one : 1 ≤ k = omega (arith, c.min-count.ensures, at.some, room_for t, ap (λ (n : ℕ). 65536 / n) size_is, ap (λ (n : ℕ). n / c.size-size.result) c.requires.room) in
     let some : 0 < length piece = omega (arith, long, mul-le 1 (size_of t) k (size_of t) one (omega arith), positive t) in
@@ -229,7 +229,7 @@ returns-in-Ok-put_bytes-clause-fewer g c =
     let put = g.W.Sink.put (sink_in x) in
     let start = c.requires.copies.0 in
     let copies = c.requires.copies.1 in
-    let w = copies.standing in
+    let w = copies.state in
     let at = faces b tells bytes s p start put x c.open_file_stands.ensures c.requires.planned copies c.args.var c.args.number c.args.left c.requires.next in
     let y = var_at (vars_of p) c.args.var in
     let t = c.xtype-xtype.result in
@@ -245,8 +245,8 @@ returns-in-Ok-put_bytes-clause-fewer g c =
     let fits : at.offset + length piece ≤ y.extent.slab = omega (arith, left_are, long, mul-le k (size_of t) c.args.left (size_of t) few (omega arith)) in
     let after = c.in-Ok-put_bytes.ensures.stands start w copies.stands in
     let x' = c.put_bytes.new.self in
-    let goes : after.0.failed ≡ false = ap (λ (u : Standing). u.failed) after.2 ∙ copies.goes in
-    let grown : length after.0.taken ≡ length w.taken + length piece = ap (λ (u : Standing). length u.taken) after.2 ∙ length-append w.taken (bytes_of v)
+    let goes : after.0.failed ≡ false = ap (λ (u : WriterState). u.failed) after.2 ∙ copies.goes in
+    let grown : length after.0.taken ≡ length w.taken + length piece = ap (λ (u : WriterState). length u.taken) after.2 ∙ length-append w.taken (bytes_of v)
     ∙ ap (λ (n : ℕ). length w.taken + n) (piece_long t k piece long) in
     let by : XType → ℕ = λ u. k * size_of u in
     let typed : t ≡ at.n.slab.var.xtype = type_is ∙ at.xtype_is in
@@ -255,7 +255,7 @@ returns-in-Ok-put_bytes-clause-fewer g c =
     let room_is : room ≡ 65536 / size_of at.n.slab.var.xtype = ap (λ (n : ℕ). n / c.size-size.result) c.requires.room
     ∙ ap (λ (n : ℕ). 65536 / n) size_is ∙ ap (λ (u : XType). 65536 / size_of u) typed in
     let ends = least_ends at.n.slab.var.xtype k at.n.left room (c.min-count.ensures ∙ ap (λ (n : ℕ). min n room) at.left_is) room_is in
-    fewer start put x w copies.stands copies.goes at.n at.next_is k (g.W.Sink.put (sink_in x')) x' after.0 after.1 goes (ap (λ (u : Standing). u.schema) after.2) taken (omega (arith, few, at.left_is)) ends
+    fewer start put x w copies.stands copies.goes at.n at.next_is k (g.W.Sink.put (sink_in x')) x' after.0 after.1 goes (ap (λ (u : WriterState). u.schema) after.2) taken (omega (arith, few, at.left_is)) ends
 
 pub returns-in-Ok-put_bytes-clause-planned : goal.returns-in-Ok-put_bytes-clause-planned
 returns-in-Ok-put_bytes-clause-planned g c =
@@ -269,9 +269,9 @@ returns-in-Ok-put_bytes-clause-planned g c =
     let put = g.W.Sink.put (sink_in x) in
     let start = c.requires.copies.0 in
     let copies = c.requires.copies.1 in
-    let w = copies.standing in
+    let w = copies.state in
     let after = c.in-Ok-put_bytes.ensures.stands start w copies.stands in
-    after.1.schema ∙ ap (λ (u : Standing). u.schema) after.2 ∙ sym copies.stands.schema
+    after.1.schema ∙ ap (λ (u : WriterState). u.schema) after.2 ∙ sym copies.stands.schema
 
 pub returns-in-Err-clause-stops : goal.returns-in-Err-clause-stops
 returns-in-Err-clause-stops g c =
@@ -285,7 +285,7 @@ returns-in-Err-clause-stops g c =
           let tells = g.S.Store.tells_bytes in
           let b = tells_header tells (must_reopen file) in
           let put = g.W.Sink.put (sink_in x) in
-          let w = copies.standing in
+          let w = copies.state in
           let of_w = subst (λ (u : Schema). IsOf bytes p u d) copies.stands.schema of in
           went_so_far start put x w copies.stands d is of_w.schema_is (copies.front told d is of_w) copies.goes c.out_is_in_files.ensures;
     }
@@ -315,7 +315,7 @@ returns-in-Err-put_bytes-clause-stops g c =
     let taken : length (take (k * c.size-size.result) c.args.buffer.now) ≡ length piece = search rules in
     λ start copies. record {
       is = λ told d is of.
-          let w = copies.standing in
+          let w = copies.state in
           let of_w = subst (λ (u : Schema). IsOf bytes p u d) copies.stands.schema of in
           let at = faces b tells bytes s p start put x c.open_file_stands.ensures c.requires.planned copies c.args.var c.args.number c.args.left c.requires.next in
           let left_are : at.offset + c.args.left * size_of t ≡ y.extent.slab = ap (λ (u : XType). at.offset + c.args.left * size_of u) type_is ∙ at.left_are in
@@ -332,9 +332,9 @@ returns-in-Err-put_bytes-clause-stops g c =
           let device : e ≡ Device = device_is w t k piece at.n copies.goes at.next_is (type_is ∙ at.xtype_is) long (omega (arith, few, at.left_is)) e (c.in-Err-put_bytes.ensures.answer start w copies.stands) in
           let failed : after.0 ≡ as_failed (with_values w v) = subst (λ (f : WriteFault). StandsAfter w (with_values w v) after.0 (Err f)) device after.2 in
           let x' = c.put_bytes.new.self in
-          let schema_is : after.0.schema ≡ w.schema = ap (λ (u : Standing). u.schema) failed in
+          let schema_is : after.0.schema ≡ w.schema = ap (λ (u : WriterState). u.schema) failed in
           went_failed start (g.W.Sink.put (sink_in x')) x' after.0 after.1 d is (of_w.schema_is ∙ sym schema_is)
-          (subst (λ (u : Standing). IsFront u.taken (data_of d)) (sym failed) front) (ap (λ (u : Standing). u.failed) failed);
+          (subst (λ (u : WriterState). IsFront u.taken (data_of d)) (sym failed) front) (ap (λ (u : WriterState). u.failed) failed);
     }
 
 pub returns-in-Err-put_bytes-clause-planned : goal.returns-in-Err-put_bytes-clause-planned
@@ -349,7 +349,7 @@ returns-in-Err-put_bytes-clause-planned g c =
     let put = g.W.Sink.put (sink_in x) in
     let start = c.requires.copies.0 in
     let copies = c.requires.copies.1 in
-    let w = copies.standing in
+    let w = copies.state in
     let at = faces b tells bytes s p start put x c.open_file_stands.ensures c.requires.planned copies c.args.var c.args.number c.args.left c.requires.next in
     let y = var_at (vars_of p) c.args.var in
     let t = c.xtype-xtype.result in
@@ -367,7 +367,7 @@ returns-in-Err-put_bytes-clause-planned g c =
     let e = c.in-Err-put_bytes.field-0 in
     let device : e ≡ Device = device_is w t k piece at.n copies.goes at.next_is (type_is ∙ at.xtype_is) long (omega (arith, few, at.left_is)) e (c.in-Err-put_bytes.ensures.answer start w copies.stands) in
     let failed : after.0 ≡ as_failed (with_values w v) = subst (λ (f : WriteFault). StandsAfter w (with_values w v) after.0 (Err f)) device after.2 in
-    after.1.schema ∙ ap (λ (u : Standing). u.schema) failed ∙ sym copies.stands.schema
+    after.1.schema ∙ ap (λ (u : WriterState). u.schema) failed ∙ sym copies.stands.schema
 
 pub returns-in-Err-clause-file : goal.returns-in-Err-clause-file
 returns-in-Err-clause-file g c =
@@ -381,7 +381,7 @@ returns-in-Err-clause-file g c =
     let put = g.W.Sink.put (sink_in x) in
     let start = c.requires.copies.0 in
     let copies = c.requires.copies.1 in
-    let w = copies.standing in
+    let w = copies.state in
     let at = faces b tells bytes s p start put x c.open_file_stands.ensures c.requires.planned copies c.args.var c.args.number c.args.left c.requires.next in
     let y = var_at (vars_of p) c.args.var in
     let size_is : c.size-size.result ≡ size_of y.xtype = search rules in
@@ -406,7 +406,7 @@ returns-in-Ok-put_bytes-clause-file g c =
     let put = g.W.Sink.put (sink_in x) in
     let start = c.requires.copies.0 in
     let copies = c.requires.copies.1 in
-    let w = copies.standing in
+    let w = copies.state in
     let at = faces b tells bytes s p start put x c.open_file_stands.ensures c.requires.planned copies c.args.var c.args.number c.args.left c.requires.next in
     let y = var_at (vars_of p) c.args.var in
     let size_is : c.size-size.result ≡ size_of y.xtype = search rules in
@@ -431,7 +431,7 @@ returns-in-Err-put_bytes-clause-file g c =
     let put = g.W.Sink.put (sink_in x) in
     let start = c.requires.copies.0 in
     let copies = c.requires.copies.1 in
-    let w = copies.standing in
+    let w = copies.state in
     let at = faces b tells bytes s p start put x c.open_file_stands.ensures c.requires.planned copies c.args.var c.args.number c.args.left c.requires.next in
     let y = var_at (vars_of p) c.args.var in
     let size_is : c.size-size.result ≡ size_of y.xtype = search rules in

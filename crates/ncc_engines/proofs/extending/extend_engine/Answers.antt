@@ -315,7 +315,7 @@ pub returns-in-Fault-clause-extends : goal.returns-in-Fault-clause-extends
 returns-in-Fault-clause-extends g c = λ told.
     let fails = subst (λ (r : Refusal). Refuses (g.S.Store.bytes c.args.store) c.args.limit r) c.in-Fault.is (c.in-Err.ensures.refused told) in
     fault_went (g.S.Store.bytes c.args.store) c.args.limit c.args.more (g.W.Sink.put c.args.sink.now) (g.W.Sink.put c.send_file_fault.new.sink)
-    c.in-Fault.fault c.answered.result c.send_file_fault.result fails c.send_file_fault.ensures.sent c.answered.ensures
+    c.in-Fault.fault c.answer_of_sent.result c.send_file_fault.result fails c.send_file_fault.ensures.sent c.answer_of_sent.ensures
 
 pub returns-in-Fault-clause-counted : goal.returns-in-Fault-clause-counted
 returns-in-Fault-clause-counted g c = λ told.

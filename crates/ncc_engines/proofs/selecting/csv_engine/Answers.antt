@@ -26,8 +26,8 @@ pub returns-in-Fault-clause-selects : goal.returns-in-Fault-clause-selects
 returns-in-Fault-clause-selects g c = λ told.
     let fails = subst (λ (r : Refusal). Refuses (g.S.Store.bytes c.args.store) c.args.limit r) c.in-Fault.is (c.in-Err.ensures.refused told) in
     let one : OneAnswer (IsCsvText (g.S.Store.bytes c.args.store) c.args.limit c.args.name.now c.args.pick c.args.style c.args.texts) = λ a b t u x y. c.one_csv_text.ensures (g.S.Store.bytes c.args.store) c.args.limit c.args.name.now c.args.pick c.args.style c.args.texts a b t u x y in
-    sent_fault (g.S.Store.bytes c.args.store) c.args.limit c.args.name.now c.args.pick c.args.style c.args.texts one (g.W.Sink.put c.args.sink.now) (g.W.Sink.put c.send_file_fault.new.sink) c.in-Fault.fault c.answered.result c.send_file_fault.result
-    fails c.send_file_fault.ensures.sent c.answered.ensures
+    sent_fault (g.S.Store.bytes c.args.store) c.args.limit c.args.name.now c.args.pick c.args.style c.args.texts one (g.W.Sink.put c.args.sink.now) (g.W.Sink.put c.send_file_fault.new.sink) c.in-Fault.fault c.answer_of_sent.result c.send_file_fault.result
+    fails c.send_file_fault.ensures.sent c.answer_of_sent.ensures
 
 pub returns-in-Ok-clause-calls : goal.returns-in-Ok-clause-calls
 returns-in-Ok-clause-calls g c = λ told checked by.

@@ -7,7 +7,7 @@ use Rattle.ncc_layout.specs.declared.placed_file.Placed.{Placed}
 use Rattle.ncc_values.specs.XType.{size_of}
 use Rattle.ncc_layout.specs.Placed.{record_size_of_file, vars_of}
 use Rattle.ncc_check.specs.Files.{store_of, schema_of, placed_of}
-use Rattle.ncc_lines.specs.declared.halt.Halt.{Halt}
+use Rattle.ncc_lines.specs.declared.send_error.SendError.{SendError}
 use Rattle.ncc_slab.specs.Refusals.{slab_fault}
 use Rattle.ncc_slab.specs.Selected.{places_of}
 use Rattle.ncc_slab.specs.Stretches.{all_stretches}
@@ -48,7 +48,7 @@ returns-else-eq-clause-selects g c = λ told.
     let picks : PicksAs (var_at vars var).shape c.args.pick (Err c.in-Err.fault) =
     subst (λ (l : List ℕ). PicksAs l c.args.pick (Err c.in-Err.fault)) (c.shape.ensures ∙ ap (λ (p : Placed). (var_at (vars_of p) var).shape) c.placed.ensures) c.in-Err.ensures in
     sent_refusal (contents_in (g.S.Store.bytes (store_of f)) (schema_of f) (placed_of f)) c.args.name.now c.args.pick c.args.style c.args.texts (g.W.Sink.put c.args.sink.now) (g.W.Sink.put c.send_refusal-in-Err.new.sink) (Some var) c.in-Err.fault
-    c.answered-in-Err.result c.send_refusal-in-Err.result named (pick_refused c.pick_fault_is_shape_fault.ensures vars var c.args.pick c.in-Err.fault there (search rules) picks) c.send_refusal-in-Err.ensures.sent c.answered-in-Err.ensures
+    c.answer_of_sent-in-Err.result c.send_refusal-in-Err.result named (pick_refused c.pick_fault_is_shape_fault.ensures vars var c.args.pick c.in-Err.fault there (search rules) picks) c.send_refusal-in-Err.ensures.sent c.answer_of_sent-in-Err.ensures
 
 pub returns-in-Ok-clause-selects : goal.returns-in-Ok-clause-selects
 returns-in-Ok-clause-selects g c = λ told.
@@ -64,8 +64,8 @@ returns-in-Ok-clause-selects g c = λ told.
     let slab : c.in-Ok.slab ≡ picked (var_at vars var).shape c.args.pick = c.in-Ok.ensures.1 ∙ ap (λ (l : List ℕ). picked l c.args.pick) shape in
     let sent = subst (λ (s : Slab). SendsSheet (slab_fault vars var s) old new (sheet_text c.args.style c.args.texts bytes (schema_of f) (placed_of f) var s) c.send_sheet.result) slab (c.send_sheet.ensures.sent told) in
     let answer = subst (λ (s : Slab). (b : Bool) → c.send_sheet.result ≡ Ok b → b ≡ is_none (slab_fault vars var s)) slab
-    (λ b is. subst (λ (r : Result Bool Halt). IfOk r (λ (x : Bool). x ≡ is_none (slab_fault vars var c.in-Ok.slab))) is c.send_sheet.ensures.answer) in
-    sent_sheet (contents_in bytes (schema_of f) (placed_of f)) c.args.name.now c.args.pick c.args.style c.args.texts old new (Some var) c.told.result c.send_sheet.result named sent answer c.told.ensures
+    (λ b is. subst (λ (r : Result Bool SendError). IfOk r (λ (x : Bool). x ≡ is_none (slab_fault vars var c.in-Ok.slab))) is c.send_sheet.ensures.answer) in
+    sent_sheet (contents_in bytes (schema_of f) (placed_of f)) c.args.name.now c.args.pick c.args.style c.args.texts old new (Some var) c.answer_of_sheet.result c.send_sheet.result named sent answer c.answer_of_sheet.ensures
 
 pub returns-in-Ok-clause-calls : goal.returns-in-Ok-clause-calls
 returns-in-Ok-clause-calls g c = λ number is.
@@ -97,7 +97,7 @@ returns-in-Ok-clause-memory g c = λ text is memory.
     let number = one_number (schema_of f).vars c.args.name.now is.number (Some var) is.named named in
     let refused = subst (λ (n : Option ℕ). refusal contents c.args.pick n ≡ Some cause.0) number cause.1 in
     let picked_so = subst (λ (s : Slab). slab_fault vars var s ≡ Some cause.0) (sym slab) refused in
-    absurd (not_memory c.send_sheet.result (c.send_sheet.ensures.refused cause.0 picked_so).2 (sym c.told.ensures ∙ memory))
+    absurd (not_memory c.send_sheet.result (c.send_sheet.ensures.refused cause.0 picked_so).2 (sym c.answer_of_sheet.ensures ∙ memory))
 
 pub returns-in-Ok-clause-refused : goal.returns-in-Ok-clause-refused
 returns-in-Ok-clause-refused g c = λ number is fault refused.

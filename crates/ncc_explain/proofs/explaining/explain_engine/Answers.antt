@@ -1,6 +1,6 @@
 use Rattle.std.proofs.Common.{◌≡◌, Result, Ok, Err, sym, subst, ◌∙◌}
-use Rattle.ncc_lines.specs.declared.halt.Halt.{Halt}
-use Rattle.ncc_lines.specs.declared.halt.Halt.TheVariants as halts
+use Rattle.ncc_lines.specs.declared.send_error.SendError.{SendError}
+use Rattle.ncc_lines.specs.declared.send_error.SendError.TheVariants as send_errors
 use Rattle.ncc_lines.specs.Sends.{SendsAll}
 use Rattle.ncc_answers.specs.declared.answer.Answer.{Answer}
 use Rattle.ncc_answers.specs.declared.answer.Answer.TheVariants.{Passed}
@@ -18,14 +18,14 @@ returns-in-Ok-told_of-clause-explains g c = λ told.
     let text = c.in-Ok-told_of.text.items in
     let is = c.in-Ok-told_of.ensures.told bytes (c.in-Ok.ensures.examines told) in
     let all : SendsAll old new text c.send_text.result = subst (λ t. SendsAll old new t c.send_text.result) c.deref.ensures.value c.send_text.ensures.sent in
-    subst (Gone c.args.wording bytes limit strict old new) (sym c.answered.ensures)
+    subst (Gone c.args.wording bytes limit strict old new) (sym c.answer_of_sent.ensures)
     (gone c.args.wording bytes limit strict old new text c.in-Ok-told_of.answer c.send_text.result c.send_text.ensures.never is all)
 
 -- an answer stays, where it passed
-passed_before : (r : Result (Unit {0}) Halt) (a : Answer) → answer_of r a ≡ Passed → a ≡ Passed
+passed_before : (r : Result (Unit {0}) SendError) (a : Answer) → answer_of r a ≡ Passed → a ≡ Passed
 passed_before (Ok x) a e = e
-passed_before (Err halts.Device) a e = absurd cc
-passed_before (Err halts.Memory) a e = absurd cc
+passed_before (Err send_errors.Device) a e = absurd cc
+passed_before (Err send_errors.Memory) a e = absurd cc
 
 pub returns-in-Ok-told_of-clause-own : goal.returns-in-Ok-told_of-clause-own
 returns-in-Ok-told_of-clause-own g c = λ told passed.
@@ -33,5 +33,5 @@ returns-in-Ok-told_of-clause-own g c = λ told passed.
     let limit = c.args.limit in
     let answer = c.in-Ok-told_of.answer in
     let is = c.in-Ok-told_of.ensures.told bytes (c.in-Ok.ensures.examines told) in
-    let before = passed_before c.send_text.result answer (sym c.answered.ensures ∙ passed) in
+    let before = passed_before c.send_text.result answer (sym c.answer_of_sent.ensures ∙ passed) in
     c.passing_elements_are_apart.ensures bytes limit (passes c.args.wording bytes limit c.args.strict answer c.in-Ok-told_of.text.items before is)

@@ -1,6 +1,6 @@
 use Rattle.std.proofs.Common.{◌≡◌, false, true, ◌++◌, Ok, length, take, subst, ◌∙◌, refl, arith}
 use Rattle.std.proofs.lemmas.List.{length-take}
-use Rattle.ncc_header.specs.Standing.{IsSettled}
+use Rattle.ncc_header.specs.State.{IsSettled}
 use Rattle.ncc_check.proofs.FromStore.{more_taken, one_more_read, same_piece, still_whole}
 use Rattle.ncc_explain.proofs.Fronts.{front_taken_on}
 use Rattle.ncc_explain.proofs.front.feed_front.Goals as goal

@@ -1,6 +1,6 @@
 use Rattle.std.proofs.Common.{ℕ, [], Ok, Err, subst, ◌∙◌}
 use Rattle.ncc_header.specs.Answers.{Answers}
-use Rattle.ncc_header.specs.Standing.{FailedOn, Feeds, front_taken}
+use Rattle.ncc_header.specs.State.{FailedOn, Feeds, front_taken}
 use Rattle.ncc_header.proofs.Deciding.{header_or_memory, fault_or_memory, fed_answers, failed_answers}
 use Rattle.ncc_header.proofs.decoding.decode.Goals as goal
 

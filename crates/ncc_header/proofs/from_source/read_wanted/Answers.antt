@@ -3,7 +3,7 @@ use Rattle.std.proofs.lemmas.List.{length-take}
 use Rattle.std.proofs.lemmas.Result.{err_from_is_err_and}
 use Rattle.ncc_header.specs.declared.fault.HeaderError.TheVariants as errors
 use Rattle.ncc_header.specs.FromSource.{HasRead}
-use Rattle.ncc_header.specs.Standing.{IsSettled}
+use Rattle.ncc_header.specs.State.{IsSettled}
 use Rattle.ncc_header.proofs.FromSource.{has_read_none, has_read_more, failed_source, read_most, read_few, failed_most, failed_few, failed_memory, wanted_within}
 use Rattle.ncc_header.proofs.from_source.read_wanted.Goals as goal
 

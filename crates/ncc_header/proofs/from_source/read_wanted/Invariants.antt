@@ -3,7 +3,7 @@ use Rattle.std.specs.Prelude.{◌==◌}
 use Rattle.ncc_header.specs.declared.fault.HeaderError.TheVariants.{Memory}
 use Rattle.ncc_header.specs.Decoder.{Took, HasFailed, limit_of}
 use Rattle.ncc_header.specs.FromSource.{HasRead, IsOver}
-use Rattle.ncc_header.specs.Standing.{IsWhole}
+use Rattle.ncc_header.specs.State.{IsWhole}
 use Rattle.ncc_header.proofs.from_source.read_wanted.Given as goal
 
 abbrev pub invariant-loop-wanted : goal.invariant-loop-wanted

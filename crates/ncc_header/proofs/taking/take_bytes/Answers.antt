@@ -10,7 +10,7 @@ returns-in-Ok-clause-takes c =
 
 pub returns-in-Err-clause-fails : goal.returns-in-Err-clause-fails
 returns-in-Err-clause-fails c =
-    rw c.told.ensures (fails_bytes c.args.reading.now c.marked_step.new.built c.args.size c.args.bytes.now c.in-Err.error c.requires.size c.requires.within c.requires.last c.requires.none c.in-Err.ensures.steps)
+    rw c.error_at.ensures (fails_bytes c.args.reading.now c.marked_step.new.partial c.args.size c.args.bytes.now c.in-Err.error c.requires.size c.requires.within c.requires.last c.requires.none c.in-Err.ensures.steps)
 
 pub returns-in-Ok-clause-less : goal.returns-in-Ok-clause-less
 returns-in-Ok-clause-less c =

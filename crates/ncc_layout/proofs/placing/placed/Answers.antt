@@ -36,7 +36,7 @@ returns-in-Some-clause-placed c =
     let header = c.args.header.now in
     let is = c.deref-2.ensures.value ∙ c.in_ok-extents.ensures.extents in
     let found = fault_found header.schema (places_of header.places) header.length c.args.file_length c.deref-2.result.now c.frame_of-frame.result c.frame_of-frame.ensures is
-    c.requires.sizes.fit c.in_ok-kind.field-0 c.in-Some.kind c.in-Some.variable c.in_ok-kind.ensures.judged c.in-Some.is in
+    c.requires.sizes.none_too_large c.in_ok-kind.field-0 c.in-Some.kind c.in-Some.variable c.in_ok-kind.ensures.judged c.in-Some.is in
     let there = fault_there header.schema (places_of header.places) header.length c.args.file_length c.deref-2.result.now c.frame_of-frame.result c.frame_of-frame.ensures is
     c.requires.legal.number c.in_ok-kind.field-0 c.in-Some.kind c.in-Some.variable c.in_ok-kind.ensures.judged c.in-Some.is in
     let same = c.fault_at.ensures ∙ ap (λ (l : List VarPlace). fault_at l c.in-Some.kind c.in-Some.variable) c.as_slice.ensures in
@@ -55,7 +55,7 @@ lay-requires c =
       laid = subst (λ (es : List Extent). AreLaid f.header_length f.file_length f.record_size f.records (placed_on header.schema.dims f.records header.schema.vars es)) again
           (laid_so header.schema (places_of header.places) header.length c.args.file_length c.deref-2.result.now f c.frame_of-frame.ensures is c.in_ok-kind.field-0 c.in_ok-kind.ensures.judged c.in-None.is);
       sized = subst (λ (es : List Extent). AreSized f.record_size (placed_on header.schema.dims f.records header.schema.vars es)) again
-          (sized_so header.schema (places_of header.places) header.length c.args.file_length c.deref-2.result.now f c.frame_of-frame.ensures is c.requires.legal.number c.requires.sizes.fit);
+          (sized_so header.schema (places_of header.places) header.length c.args.file_length c.deref-2.result.now f c.frame_of-frame.ensures is c.requires.legal.number c.requires.sizes.none_too_large);
     }
 
 pub returns-clause-placed : goal.returns-clause-placed
@@ -65,7 +65,7 @@ returns-clause-placed c =
     let is = c.deref-2.ensures.value ∙ c.in_ok-extents.ensures.extents in
     let back = c.deref-in-None.ensures.value ∙ sym c.deref-2.ensures.value in (
       record {
-        fit = c.requires.sizes.fit;
+        none_too_large = c.requires.sizes.none_too_large;
         rules = rules_hold header.schema (places_of header.places) header.length c.args.file_length c.deref-2.result.now f c.frame_of-frame.ensures is c.in_ok-kind.field-0 c.in_ok-kind.ensures.judged c.in-None.is;
       },
       holds header.schema (places_of header.places) header.length c.args.file_length c.deref-2.result.now f c.frame_of-frame.ensures is c.in_ok-lay-in-None.field-0

@@ -1,6 +1,6 @@
 use Rattle.std.proofs.Common.{ap, sym, ◌∙◌}
 use Rattle.ncc_layout.specs.declared.extent.Extent.{Extent}
-use Rattle.ncc_layout.specs.Extents.{records_of, counted}
+use Rattle.ncc_layout.specs.Extents.{records_of, number_of_records}
 use Rattle.ncc_layout.specs.Bounds.{HasBytes}
 use Rattle.ncc_layout.proofs.Membership.{all_filter}
 use Rattle.ncc_layout.proofs.Counting.{streamed_is, last_positive, stride_positive}
@@ -18,4 +18,4 @@ pub returns-in-Some : goal.returns-in-Some
 returns-in-Some c =
     c.whole_records.ensures
     ∙ streamed_is c.args.record_size c.args.length (records_of c.args.extents.now) c.in-Some.end (sym c.last_end-last.ensures ∙ c.in-Some.is)
-    ∙ ap (counted c.args.record_size c.args.length c.args.extents.now) (sym c.in-Streaming.is)
+    ∙ ap (number_of_records c.args.record_size c.args.length c.args.extents.now) (sym c.in-Streaming.is)

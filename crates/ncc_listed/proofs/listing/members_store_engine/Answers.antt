@@ -8,8 +8,8 @@ use Rattle.ncc_listed.proofs.listing.members_store_engine.Goals as goal
 pub returns-in-Ok-clause-lists : goal.returns-in-Ok-clause-lists
 returns-in-Ok-clause-lists g c = λ told.
     let laws : Laws = record { apart = c.header_or_stop.ensures.apart; one_header = c.header_or_stop.ensures.one_header; one_stop = c.header_or_stop.ensures.one_stop } in
-    listed laws c.args.style c.args.limit (Some (g.S.Store.bytes c.args.store.now)) (g.W.Sink.put c.args.sink.now) (g.W.Sink.put c.send_members.new.sink) c.in-Ok.header c.send_members.result c.answered.result
-    (c.in-Ok.ensures.reads told) c.send_members.ensures.sent c.answered.ensures
+    listed laws c.args.style c.args.limit (Some (g.S.Store.bytes c.args.store.now)) (g.W.Sink.put c.args.sink.now) (g.W.Sink.put c.send_members.new.sink) c.in-Ok.header c.send_members.result c.answer_of_sent.result
+    (c.in-Ok.ensures.reads told) c.send_members.ensures.sent c.answer_of_sent.ensures
 
 pub returns-in-Err-Fault-clause-lists : goal.returns-in-Err-Fault-clause-lists
 returns-in-Err-Fault-clause-lists g c = λ told.
@@ -17,5 +17,5 @@ returns-in-Err-Fault-clause-lists g c = λ told.
     let bytes = g.S.Store.bytes c.args.store.now in
     let stops = subst (λ (r : Refusal). ReadsHeader bytes c.args.limit (Err r)) c.in-Err-Fault.field-0-is (c.in-Err-Fault.ensures.reads told) in
     let sent : SendsAll (g.W.Sink.put c.args.sink.now) (g.W.Sink.put c.send_fault.new.sink) (fault_text c.in-Err-Fault.fault) c.send_fault.result = search rules in
-    refused_store laws c.args.style c.args.limit bytes (g.W.Sink.put c.args.sink.now) (g.W.Sink.put c.send_fault.new.sink) c.in-Err-Fault.fault c.send_fault.result c.answered-in-Err-Fault.result
-    stops sent c.answered-in-Err-Fault.ensures
+    refused_store laws c.args.style c.args.limit bytes (g.W.Sink.put c.args.sink.now) (g.W.Sink.put c.send_fault.new.sink) c.in-Err-Fault.fault c.send_fault.result c.answer_of_sent-in-Err-Fault.result
+    stops sent c.answer_of_sent-in-Err-Fault.ensures

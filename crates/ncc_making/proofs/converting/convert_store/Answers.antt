@@ -156,7 +156,7 @@ returns-in-Err-clause-named g c = λ told tells. record {
       refusal_is c.in-Err.refusal _
       (λ f e. absurd (unrefused (file_fault_line f, inl (f, subst (λ (r : Refusal). Refuses (g.S.Store.bytes c.args.store) c.args.limit r) e (c.in-Err.ensures.refused told), refl))))
       (λ e. absurd (store (rw e at c.in-Err.ensures.store.counted)))
-      (λ e. absurd (cc (sym is ∙ (c.refused-answer.ensures.memory e).0)));
+      (λ e. absurd (cc (sym is ∙ (c.print_refusal-answer.ensures.memory e).0)));
 }
 
 pub returns-in-Err-clause-lasts : goal.returns-in-Err-clause-lasts
@@ -167,7 +167,7 @@ returns-in-Err-clause-lasts g c = record {
       refusal_is c.in-Err.refusal _
       (λ f e. absurd (unrefused (file_fault_line f, inl (f, subst (λ (r : Refusal). Refuses (g.S.Store.bytes c.args.store) c.args.limit r) e (c.in-Err.ensures.refused told), refl))))
       (λ e. absurd (store (rw e at c.in-Err.ensures.store.counted)))
-      (λ e. absurd (cc (sym is ∙ (c.refused-answer.ensures.memory e).0)));
+      (λ e. absurd (cc (sym is ∙ (c.print_refusal-answer.ensures.memory e).0)));
 }
 
 pub returns-in-Err-clause-prints : goal.returns-in-Err-clause-prints
@@ -175,7 +175,7 @@ returns-in-Err-clause-prints g c = record {
   passed = search rules;
   printed = search rules;
   refused = search rules;
-  memory = c.refused-answer.ensures.still;
+  memory = c.print_refusal-answer.ensures.still;
   halted = λ told is.
       ⊎_elim (λ none. inl none)
       (λ line. inr (inl (
@@ -183,7 +183,7 @@ returns-in-Err-clause-prints g c = record {
         inl (line.0, subst (λ (r : Refusal). Refuses (g.S.Store.bytes c.args.store) c.args.limit r) line.1 (c.in-Err.ensures.refused told), refl),
         line.2,
       )))
-      (c.refused-answer.ensures.halted (λ refused. cc (sym is ∙ refused)));
+      (c.print_refusal-answer.ensures.halted (λ refused. cc (sym is ∙ refused)));
 }
 
 pub returns-in-Err-clause-calls : goal.returns-in-Err-clause-calls

@@ -24,7 +24,7 @@ returns-in-Ok-picture_text-clause-pictures g c = λ told.
     let text = c.in-Ok-picture_text.text.items in
     let is = laid picture_text bytes limit c.in-Ok.file text (c.in-Ok.ensures.measures told) c.in-Ok-picture_text.ensures in
     let all : SendsAll old new text c.send_text.result = subst (λ t. SendsAll old new t c.send_text.result) c.deref.ensures.value c.send_text.ensures.sent in
-    subst (Gone (IsPictureText bytes limit) old new) (sym c.answered.ensures)
+    subst (Gone (IsPictureText bytes limit) old new) (sym c.answer_of_sent.ensures)
     (sent (IsPictureText bytes limit) (one_text laws picture_text file_fault_line bytes limit) old new text Passed c.send_text.result is is all)
 
 pub returns-in-Err-Fault-clause-pictures : goal.returns-in-Err-Fault-clause-pictures
@@ -42,5 +42,5 @@ returns-in-Err-Fault-clause-pictures g c = λ told.
     let fails = subst (λ (r : Refusal). Measures bytes limit (Err r)) c.in-Err-Fault.field-0-is (c.in-Err-Fault.ensures.measures told) in
     let is = faulty file_fault_line bytes limit fault fails in
     let all : SendsAll old new (file_fault_line fault) c.send_file_fault.result = search rules in
-    subst (Gone (IsPictureText bytes limit) old new) (sym c.answered-in-Err-Fault.ensures)
+    subst (Gone (IsPictureText bytes limit) old new) (sym c.answer_of_sent-in-Err-Fault.ensures)
     (sent (IsPictureText bytes limit) (one_text laws picture_text file_fault_line bytes limit) old new (file_fault_line fault) Refused c.send_file_fault.result is is all)

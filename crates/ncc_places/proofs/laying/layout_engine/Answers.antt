@@ -24,7 +24,7 @@ returns-in-Ok-layout_told-clause-lays g c = λ told.
     let text = c.in-Ok-layout_told.text.items in
     let is = laid (layout_told wording) bytes limit c.in-Ok.file text (c.in-Ok.ensures.measures told) c.in-Ok-layout_told.ensures in
     let all : SendsAll old new text c.send_text.result = subst (λ t. SendsAll old new t c.send_text.result) c.deref.ensures.value c.send_text.ensures.sent in
-    subst (Gone (IsLayoutText wording bytes limit) old new) (sym c.answered.ensures)
+    subst (Gone (IsLayoutText wording bytes limit) old new) (sym c.answer_of_sent.ensures)
     (sent (IsLayoutText wording bytes limit) (one_text laws (layout_told wording) (fault_told wording) bytes limit) old new text Passed c.send_text.result is is all)
 
 pub returns-in-Err-Fault-clause-lays : goal.returns-in-Err-Fault-clause-lays
@@ -42,5 +42,5 @@ returns-in-Err-Fault-clause-lays g c = λ told.
     let new = g.W.Sink.put c.send_fault.new.sink in
     let fails = subst (λ (r : Refusal). Measures bytes limit (Err r)) c.in-Err-Fault.field-0-is (c.in-Err-Fault.ensures.measures told) in
     let is = faulty (fault_told wording) bytes limit fault fails in
-    subst (Gone (IsLayoutText wording bytes limit) old new) (sym c.answered-in-Err-Fault.ensures)
+    subst (Gone (IsLayoutText wording bytes limit) old new) (sym c.answer_of_sent-in-Err-Fault.ensures)
     (sent (IsLayoutText wording bytes limit) (one_text laws (layout_told wording) (fault_told wording) bytes limit) old new (fault_told wording fault) Refused c.send_fault.result is is c.send_fault.ensures.sent)

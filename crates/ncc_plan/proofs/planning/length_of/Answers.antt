@@ -20,7 +20,7 @@ unreachable-requires c =
     let found : FirstTooLarge c.schema-schema.result.now n =
     subst (λ (e : SizeError). IsSizes c.schema-schema.result.now (Err e)) c.in-Err-TooLarge.field-0-is c.in-Err-TooLarge.ensures.sizes in
     let first : FirstTooLarge s n = subst (λ (t : Schema). FirstTooLarge t n) c.schema-schema.ensures found in
-    not_fit s n first (fits_of s c.built_is_writable.ensures.writable).fit
+    not_fit s n first (fits_of s c.built_is_writable.ensures.writable).none_too_large
 
 pub records_begin-begin-requires-clause-sound : goal.records_begin-begin-requires-clause-sound
 records_begin-begin-requires-clause-sound c = rw c.schema-schema.ensures (sound_of (schema_of c.args.built.now) c.built_is_writable.ensures.built)

@@ -9,7 +9,7 @@ use Rattle.ncc_layout.specs.Sizes.{record_vars}
 use Rattle.ncc_build.specs.Dataset.{AreSlabsOf, IsSlabOf}
 use Rattle.ncc_write.specs.Holds.{no_slab}
 use Rattle.ncc_write.specs.Records.{whole_size, bytes_of_record, in_turn}
-use Rattle.ncc_write.specs.Turns.{no_var}
+use Rattle.ncc_write.specs.VarSlabs.{no_var}
 use Rattle.ncc_write.proofs.FileLengths.{one_record_is}
 use Rattle.ncc_write.proofs.RecordParts.{at_number, bytes_more, first_slab, more_vars, same_item}
 use Rattle.ncc_write.proofs.image.put_slabs.Goals as goal

@@ -1,7 +1,7 @@
 use Rattle.std.proofs.Common.{◌<◌, ◌≤◌, length, drop, ap, sym, ◌∙◌, arith}
 use Rattle.std.proofs.Math.ListN.{drop_of_length-le}
 use Rattle.ncc_layout.specs.Sizes.{record_vars, slab}
-use Rattle.ncc_write.specs.Turns.{no_var}
+use Rattle.ncc_write.specs.VarSlabs.{no_var}
 use Rattle.ncc_write.proofs.RecordParts.{same_item, slab_of_sizes, wrong_past}
 use Rattle.ncc_write.proofs.image.wrong_at.Goals as goal
 

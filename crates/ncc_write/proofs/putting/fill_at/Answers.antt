@@ -4,8 +4,8 @@ use Rattle.std.proofs.lemmas.Nat.{mul-le}
 use Rattle.ncc_write.proofs.ManyFills.{more_fills}
 use Rattle.ncc_write.proofs.putting.fill_at.Goals as goal
 
-pub copy_on-requires-clause-room : goal.copy_on-requires-clause-room
-copy_on-requires-clause-room c =
+pub copy_again-requires-clause-room : goal.copy_again-requires-clause-room
+copy_again-requires-clause-room c =
     let at = c.loop-done.invariant in
     let size = length c.args.fill.now in
     let done = c.loop-done.done in
@@ -20,7 +20,7 @@ loop-done-preserved c =
     record {
       within = omega (arith, c.min-more.ensures, c.loop-done-test.true);
       some = λ less. omega (arith, at.some c.loop-done-test.true);
-      bytes = more_fills c.args.place c.loop-done.done c.min-more.result c.args.fill.now c.args.buffer.now c.loop-done.buffer c.copy_on.new.buffer
-          place_in (omega (arith, c.min-more.ensures)) at.bytes c.copy_on.ensures.bytes;
-      room = c.copy_on.ensures.room ∙ at.room;
+      bytes = more_fills c.args.place c.loop-done.done c.min-more.result c.args.fill.now c.args.buffer.now c.loop-done.buffer c.copy_again.new.buffer
+          place_in (omega (arith, c.min-more.ensures)) at.bytes c.copy_again.ensures.bytes;
+      room = c.copy_again.ensures.room ∙ at.room;
     }

@@ -47,9 +47,9 @@ all_same-requires-clause-reads c =
     let opens : Opens file c.args.limit t p =
     subst (λ (l : List ℕ). Opens l c.args.limit t p) c.passes.ensures.bytes (c.in-Ok.ensures.passes refl) in
     let same : (store_of c.in-Ok.file).bytes.items ≡ file = c.in-Ok.ensures.store.unmoved.same ∙ c.passes.ensures.bytes in
-    subst (λ (l : List ℕ). AllRead l p c.in_ok-course.course bytes) (sym same) (record {
+    subst (λ (l : List ℕ). AllRead l p c.in_ok-slab_order.slab_order bytes) (sym same) (record {
       schema = s;
-      course = c.in_ok-course.ensures;
+      slab_order = c.in_ok-slab_order.ensures;
       each = λ k less. reads_there c.header_or_stop.ensures.one_header s bytes file c.args.limit p
           (c.placed_file_keeps_all_rules.ensures p) done within t opens k less;
     })

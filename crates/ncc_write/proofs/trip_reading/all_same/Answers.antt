@@ -4,8 +4,8 @@ use Rattle.ncc_layout.specs.Elements.{var_at}
 use Rattle.ncc_layout.specs.Placed.{vars_of}
 use Rattle.ncc_layout.specs.declared.placed_file.Placed.{Placed}
 use Rattle.ncc_write.specs.Positions.{slab_at}
-use Rattle.ncc_write.specs.declared.turn.Turn.{Turn}
-use Rattle.ncc_write.proofs.Courses.{record_is, turn_is}
+use Rattle.ncc_write.specs.declared.var_slab.VarSlab.{VarSlab}
+use Rattle.ncc_write.proofs.SlabOrders.{record_is, var_slab_is}
 use Rattle.ncc_write.proofs.TripNext.{fits, has_next, next_rest, there_next, whole_next}
 use Rattle.ncc_write.proofs.trip_reading.all_same.Goals as goal
 
@@ -13,38 +13,38 @@ pub slab-size-requires : goal.slab-size-requires
 slab-size-requires g c =
     let r = c.requires.reads in
     let k = c.loop-slab.slab in
-    let turns : k < c.args.course.now.slabs = omega (arith, c.loop-slab-test.true, c.slabs-slab-end.ensures) in
-    let at = r.each k (omega (arith, turns, r.course.slabs)) in
+    let var_slabs : k < c.args.slab_order.now.slabs = omega (arith, c.loop-slab-test.true, c.slabs-slab-end.ensures) in
+    let at = r.each k (omega (arith, var_slabs, r.slab_order.slabs)) in
     let old = g.S.Store.bytes (store_of c.args.file.now) in
     let new = g.S.Store.bytes (store_of c.loop-slab.file) in
     let q = placed_of c.args.file.now in
     let p = placed_of c.loop-slab.file in
     let inv = c.loop-slab.invariant in
-    let var = c.turn-record.result.0.var in
-    let number = c.turn-record.result.1 in
+    let var = c.var_slab-record.result.0.var in
+    let number = c.var_slab-record.result.1 in
     let var_is : var ≡ (slab_at r.schema k).number =
-    ap (λ (t : Turn). t.var) (c.turn-record.ensures.turn ∙ turn_is r.schema c.args.course.now r.course k turns) in
+    ap (λ (t : VarSlab). t.var) (c.var_slab-record.ensures.var_slab ∙ var_slab_is r.schema c.args.slab_order.now r.slab_order k var_slabs) in
     let number_is : number ≡ (slab_at r.schema k).in_record =
-    c.turn-record.ensures.record ∙ record_is r.schema c.args.course.now r.course k turns in
+    c.var_slab-record.ensures.record ∙ record_is r.schema c.args.slab_order.now r.slab_order k var_slabs in
     subst (λ (z : Placed). var < length (vars_of z)) (sym c.placed.ensures) (has_next old new q p r.schema c.args.bytes.now k at inv.bytes inv.placed var number var_is number_is).there
 
 pub split_at-requires : goal.split_at-requires
 split_at-requires g c =
     let r = c.requires.reads in
     let k = c.loop-slab.slab in
-    let turns : k < c.args.course.now.slabs = omega (arith, c.loop-slab-test.true, c.slabs-slab-end.ensures) in
-    let at = r.each k (omega (arith, turns, r.course.slabs)) in
+    let var_slabs : k < c.args.slab_order.now.slabs = omega (arith, c.loop-slab-test.true, c.slabs-slab-end.ensures) in
+    let at = r.each k (omega (arith, var_slabs, r.slab_order.slabs)) in
     let old = g.S.Store.bytes (store_of c.args.file.now) in
     let new = g.S.Store.bytes (store_of c.loop-slab.file) in
     let q = placed_of c.args.file.now in
     let p = placed_of c.loop-slab.file in
     let inv = c.loop-slab.invariant in
-    let var = c.turn-record.result.0.var in
-    let number = c.turn-record.result.1 in
+    let var = c.var_slab-record.result.0.var in
+    let number = c.var_slab-record.result.1 in
     let var_is : var ≡ (slab_at r.schema k).number =
-    ap (λ (t : Turn). t.var) (c.turn-record.ensures.turn ∙ turn_is r.schema c.args.course.now r.course k turns) in
+    ap (λ (t : VarSlab). t.var) (c.var_slab-record.ensures.var_slab ∙ var_slab_is r.schema c.args.slab_order.now r.slab_order k var_slabs) in
     let number_is : number ≡ (slab_at r.schema k).in_record =
-    c.turn-record.ensures.record ∙ record_is r.schema c.args.course.now r.course k turns in
+    c.var_slab-record.ensures.record ∙ record_is r.schema c.args.slab_order.now r.slab_order k var_slabs in
     let size_is : c.slab-size.result ≡ (var_at (vars_of p) var).extent.slab =
     c.slab-size.ensures ∙ ap (λ (z : Placed). (var_at (vars_of z) var).extent.slab) c.placed.ensures in
     fits old new q p r.schema c.args.bytes.now k at inv.bytes inv.placed var number var_is number_is c.slab-size.result size_is c.loop-slab.rest.now (inv.rest r)
@@ -53,38 +53,38 @@ pub same_slab-requires-clause-has : goal.same_slab-requires-clause-has
 same_slab-requires-clause-has g c =
     let r = c.requires.reads in
     let k = c.loop-slab.slab in
-    let turns : k < c.args.course.now.slabs = omega (arith, c.loop-slab-test.true, c.slabs-slab-end.ensures) in
-    let at = r.each k (omega (arith, turns, r.course.slabs)) in
+    let var_slabs : k < c.args.slab_order.now.slabs = omega (arith, c.loop-slab-test.true, c.slabs-slab-end.ensures) in
+    let at = r.each k (omega (arith, var_slabs, r.slab_order.slabs)) in
     let old = g.S.Store.bytes (store_of c.args.file.now) in
     let new = g.S.Store.bytes (store_of c.loop-slab.file) in
     let q = placed_of c.args.file.now in
     let p = placed_of c.loop-slab.file in
     let inv = c.loop-slab.invariant in
-    let var = c.turn-record.result.0.var in
-    let number = c.turn-record.result.1 in
+    let var = c.var_slab-record.result.0.var in
+    let number = c.var_slab-record.result.1 in
     let var_is : var ≡ (slab_at r.schema k).number =
-    ap (λ (t : Turn). t.var) (c.turn-record.ensures.turn ∙ turn_is r.schema c.args.course.now r.course k turns) in
+    ap (λ (t : VarSlab). t.var) (c.var_slab-record.ensures.var_slab ∙ var_slab_is r.schema c.args.slab_order.now r.slab_order k var_slabs) in
     let number_is : number ≡ (slab_at r.schema k).in_record =
-    c.turn-record.ensures.record ∙ record_is r.schema c.args.course.now r.course k turns in
+    c.var_slab-record.ensures.record ∙ record_is r.schema c.args.slab_order.now r.slab_order k var_slabs in
     has_next old new q p r.schema c.args.bytes.now k at inv.bytes inv.placed var number var_is number_is
 
 pub same_slab-requires-clause-whole : goal.same_slab-requires-clause-whole
 same_slab-requires-clause-whole g c =
     let r = c.requires.reads in
     let k = c.loop-slab.slab in
-    let turns : k < c.args.course.now.slabs = omega (arith, c.loop-slab-test.true, c.slabs-slab-end.ensures) in
-    let at = r.each k (omega (arith, turns, r.course.slabs)) in
+    let var_slabs : k < c.args.slab_order.now.slabs = omega (arith, c.loop-slab-test.true, c.slabs-slab-end.ensures) in
+    let at = r.each k (omega (arith, var_slabs, r.slab_order.slabs)) in
     let old = g.S.Store.bytes (store_of c.args.file.now) in
     let new = g.S.Store.bytes (store_of c.loop-slab.file) in
     let q = placed_of c.args.file.now in
     let p = placed_of c.loop-slab.file in
     let inv = c.loop-slab.invariant in
-    let var = c.turn-record.result.0.var in
-    let number = c.turn-record.result.1 in
+    let var = c.var_slab-record.result.0.var in
+    let number = c.var_slab-record.result.1 in
     let var_is : var ≡ (slab_at r.schema k).number =
-    ap (λ (t : Turn). t.var) (c.turn-record.ensures.turn ∙ turn_is r.schema c.args.course.now r.course k turns) in
+    ap (λ (t : VarSlab). t.var) (c.var_slab-record.ensures.var_slab ∙ var_slab_is r.schema c.args.slab_order.now r.slab_order k var_slabs) in
     let number_is : number ≡ (slab_at r.schema k).in_record =
-    c.turn-record.ensures.record ∙ record_is r.schema c.args.course.now r.course k turns in
+    c.var_slab-record.ensures.record ∙ record_is r.schema c.args.slab_order.now r.slab_order k var_slabs in
     let size_is : c.slab-size.result ≡ (var_at (vars_of p) var).extent.slab =
     c.slab-size.ensures ∙ ap (λ (z : Placed). (var_at (vars_of z) var).extent.slab) c.placed.ensures in
     let piece : c.split_at.result.0.now ≡ take c.slab-size.result c.loop-slab.rest.now = search rules in
@@ -94,19 +94,19 @@ pub same_slab-requires-clause-there : goal.same_slab-requires-clause-there
 same_slab-requires-clause-there g c =
     let r = c.requires.reads in
     let k = c.loop-slab.slab in
-    let turns : k < c.args.course.now.slabs = omega (arith, c.loop-slab-test.true, c.slabs-slab-end.ensures) in
-    let at = r.each k (omega (arith, turns, r.course.slabs)) in
+    let var_slabs : k < c.args.slab_order.now.slabs = omega (arith, c.loop-slab-test.true, c.slabs-slab-end.ensures) in
+    let at = r.each k (omega (arith, var_slabs, r.slab_order.slabs)) in
     let old = g.S.Store.bytes (store_of c.args.file.now) in
     let new = g.S.Store.bytes (store_of c.loop-slab.file) in
     let q = placed_of c.args.file.now in
     let p = placed_of c.loop-slab.file in
     let inv = c.loop-slab.invariant in
-    let var = c.turn-record.result.0.var in
-    let number = c.turn-record.result.1 in
+    let var = c.var_slab-record.result.0.var in
+    let number = c.var_slab-record.result.1 in
     let var_is : var ≡ (slab_at r.schema k).number =
-    ap (λ (t : Turn). t.var) (c.turn-record.ensures.turn ∙ turn_is r.schema c.args.course.now r.course k turns) in
+    ap (λ (t : VarSlab). t.var) (c.var_slab-record.ensures.var_slab ∙ var_slab_is r.schema c.args.slab_order.now r.slab_order k var_slabs) in
     let number_is : number ≡ (slab_at r.schema k).in_record =
-    c.turn-record.ensures.record ∙ record_is r.schema c.args.course.now r.course k turns in
+    c.var_slab-record.ensures.record ∙ record_is r.schema c.args.slab_order.now r.slab_order k var_slabs in
     let size_is : c.slab-size.result ≡ (var_at (vars_of p) var).extent.slab =
     c.slab-size.ensures ∙ ap (λ (z : Placed). (var_at (vars_of z) var).extent.slab) c.placed.ensures in
     let piece : c.split_at.result.0.now ≡ take c.slab-size.result c.loop-slab.rest.now = search rules in
@@ -117,19 +117,19 @@ loop-slab-preserved g c = record {
   rest = λ reads.
       let r = reads in
       let k = c.loop-slab.slab in
-      let turns : k < c.args.course.now.slabs = omega (arith, c.loop-slab-test.true, c.slabs-slab-end.ensures) in
-      let at = r.each k (omega (arith, turns, r.course.slabs)) in
+      let var_slabs : k < c.args.slab_order.now.slabs = omega (arith, c.loop-slab-test.true, c.slabs-slab-end.ensures) in
+      let at = r.each k (omega (arith, var_slabs, r.slab_order.slabs)) in
       let old = g.S.Store.bytes (store_of c.args.file.now) in
       let new = g.S.Store.bytes (store_of c.loop-slab.file) in
       let q = placed_of c.args.file.now in
       let p = placed_of c.loop-slab.file in
       let inv = c.loop-slab.invariant in
-      let var = c.turn-record.result.0.var in
-      let number = c.turn-record.result.1 in
+      let var = c.var_slab-record.result.0.var in
+      let number = c.var_slab-record.result.1 in
       let var_is : var ≡ (slab_at r.schema k).number =
-      ap (λ (t : Turn). t.var) (c.turn-record.ensures.turn ∙ turn_is r.schema c.args.course.now r.course k turns) in
+      ap (λ (t : VarSlab). t.var) (c.var_slab-record.ensures.var_slab ∙ var_slab_is r.schema c.args.slab_order.now r.slab_order k var_slabs) in
       let number_is : number ≡ (slab_at r.schema k).in_record =
-      c.turn-record.ensures.record ∙ record_is r.schema c.args.course.now r.course k turns in
+      c.var_slab-record.ensures.record ∙ record_is r.schema c.args.slab_order.now r.slab_order k var_slabs in
       let size_is : c.slab-size.result ≡ (var_at (vars_of p) var).extent.slab =
       c.slab-size.ensures ∙ ap (λ (z : Placed). (var_at (vars_of z) var).extent.slab) c.placed.ensures in
       let after : c.split_at.result.1.now ≡ drop c.slab-size.result c.loop-slab.rest.now = search rules in

@@ -4,7 +4,7 @@ use Rattle.ncc_schema.specs.declared.schema.Schema.{Schema}
 use Rattle.ncc_schema.specs.Schema.{places_of}
 use Rattle.ncc_layout.specs.Extents.{extents_of}
 use Rattle.ncc_layout.specs.Plans.{IsKnown}
-use Rattle.ncc_layout.specs.Rules.{Within}
+use Rattle.ncc_layout.specs.Rules.Truncated.{NotTruncated}
 use Rattle.ncc_layout.specs.Sizes.{record_size_of}
 use Rattle.ncc_write.proofs.FoundDatasets.{HasRoom, count_is, dataset_in, is_dataset}
 use Rattle.ncc_write.proofs.FoundValues.{values_held}
@@ -22,10 +22,10 @@ returns c = λ bytes limit s p opens are known_count.
       typed = begun.typed;
       counted = counted;
       many = begun.legal.number;
-      within = subst (λ (n : ℕ). AllByRecursion (Within (length bytes) (record_size_of h.schema) n)
+      within = subst (λ (n : ℕ). AllByRecursion (NotTruncated (length bytes) (record_size_of h.schema) n)
           (extents_of h.schema places)) (count_is (record_size_of h.schema) (length bytes)
           (extents_of h.schema places) h.schema.count counted)
-          opens.passes.placed.rules.within;
+          opens.passes.placed.rules.not_truncated;
     } in (
       dataset_in h.schema places bytes,
       is_dataset h.schema places bytes room,

@@ -1,6 +1,6 @@
 use Rattle.std.proofs.Common.{◌≡◌, ◌<◌, false, refl, sym, subst, ◌∙◌, arith}
 use Rattle.ncc_schema.specs.declared.schema.Schema.{Schema}
-use Rattle.ncc_write.specs.Turns.{IsCourse}
+use Rattle.ncc_write.specs.VarSlabs.{IsSlabOrder}
 use Rattle.ncc_write.specs.Writing.{as_failed, with_fills}
 use Rattle.ncc_write.proofs.AllFills.{fills_end, fills_from}
 use Rattle.ncc_write.proofs.Positions.{next_open}
@@ -15,16 +15,16 @@ returns-then-self-slabs-clause-stands g c = λ start w at.
 pub returns-in-Ok-clause-complete : goal.returns-in-Ok-clause-complete
 returns-in-Ok-clause-complete g c = λ start w at stands none.
     let x = c.args.self.now in
-    let planned : IsCourse w.schema x.course = subst (λ (u : Schema). IsCourse u x.course) at.schema x.planned in
-    let less : x.slab < x.course.slabs = omega (arith, c.if-self-slabs.false, c.slabs.ensures, x.within) in
+    let planned : IsSlabOrder w.schema x.slab_order = subst (λ (u : Schema). IsSlabOrder u x.slab_order) at.schema x.planned in
+    let less : x.slab < x.slab_order.slabs = omega (arith, c.if-self-slabs.false, c.slabs.ensures, x.within) in
     let some = next_open w.schema w.taken x.slab x.left (at.at stands) (omega (arith, less, planned.slabs)) in
     absurd (cc (some, none))
 
 pub returns-in-Err-clause-complete : goal.returns-in-Err-clause-complete
 returns-in-Err-clause-complete g c = λ start w at stands none.
     let x = c.args.self.now in
-    let planned : IsCourse w.schema x.course = subst (λ (u : Schema). IsCourse u x.course) at.schema x.planned in
-    let less : x.slab < x.course.slabs = omega (arith, c.if-self-slabs.false, c.slabs.ensures, x.within) in
+    let planned : IsSlabOrder w.schema x.slab_order = subst (λ (u : Schema). IsSlabOrder u x.slab_order) at.schema x.planned in
+    let less : x.slab < x.slab_order.slabs = omega (arith, c.if-self-slabs.false, c.slabs.ensures, x.within) in
     let some = next_open w.schema w.taken x.slab x.left (at.at stands) (omega (arith, less, planned.slabs)) in
     absurd (cc (some, none))
 

@@ -1,9 +1,9 @@
 use Rattle.std.proofs.Common.{◌≡◌, ◌<◌, false, refl, ap, sym, subst, ◌∙◌, arith, rules}
 use Rattle.ncc_schema.specs.declared.schema.Schema.{Schema}
 use Rattle.ncc_values.specs.Values.{type_of}
-use Rattle.ncc_write.specs.Turns.{IsCourse}
+use Rattle.ncc_write.specs.VarSlabs.{IsSlabOrder}
 use Rattle.ncc_write.specs.Writing.{with_values, as_failed}
-use Rattle.ncc_write.specs.declared.turn.Turn.{Turn}
+use Rattle.ncc_write.specs.declared.var_slab.VarSlab.{VarSlab}
 use Rattle.ncc_write.proofs.Facing.{faces_other, faces_fewer, faces_room, faces_failure}
 use Rattle.ncc_write.proofs.Positions.{next_done}
 use Rattle.ncc_write.proofs.Refusing.{complete}
@@ -13,40 +13,40 @@ pub returns-then-self-slabs-clause-answer : goal.returns-then-self-slabs-clause-
 returns-then-self-slabs-clause-answer g c = λ start w at.
     let x = c.args.self.now in
     let stands : w.failed ≡ false = sym at.failed ∙ c.if-self.false in
-    let planned : IsCourse w.schema x.course = subst (λ (u : Schema). IsCourse u x.course) at.schema x.planned in
+    let planned : IsSlabOrder w.schema x.slab_order = subst (λ (u : Schema). IsSlabOrder u x.slab_order) at.schema x.planned in
     complete w c.args.values.now stands (next_done w.schema w.taken x.slab x.left (at.at stands) (omega (arith, c.if-self-slabs.true, c.slabs.ensures, planned.slabs)))
 
 pub returns-then-ne-clause-answer : goal.returns-then-ne-clause-answer
 returns-then-ne-clause-answer g c = λ start w at.
     let x = c.args.self.now in
     let stands : w.failed ≡ false = sym at.failed ∙ c.if-self.false in
-    let less : x.slab < x.course.slabs = omega (arith, c.if-self-slabs.false, c.slabs.ensures, x.within) in
-    let other : type_of c.args.values.now ≡ c.turn.result.0.xtype → ⊥ = search rules in
-    faces_other start _ x w at stands less c.args.values.now (λ e. other (e ∙ ap (λ (t : Turn). t.xtype) (sym c.turn.ensures.turn)))
+    let less : x.slab < x.slab_order.slabs = omega (arith, c.if-self-slabs.false, c.slabs.ensures, x.within) in
+    let other : type_of c.args.values.now ≡ c.var_slab.result.0.xtype → ⊥ = search rules in
+    faces_other start _ x w at stands less c.args.values.now (λ e. other (e ∙ ap (λ (t : VarSlab). t.xtype) (sym c.var_slab.ensures.var_slab)))
 
 pub returns-then-len-self-clause-answer : goal.returns-then-len-self-clause-answer
 returns-then-len-self-clause-answer g c = λ start w at.
     let x = c.args.self.now in
     let stands : w.failed ≡ false = sym at.failed ∙ c.if-self.false in
-    let less : x.slab < x.course.slabs = omega (arith, c.if-self-slabs.false, c.slabs.ensures, x.within) in
-    let same : type_of c.args.values.now ≡ c.turn.result.0.xtype = search rules in
-    faces_fewer start _ x w at stands less c.args.values.now (same ∙ ap (λ (t : Turn). t.xtype) c.turn.ensures.turn) (omega (arith, c.if-len-self.true, c.len.ensures))
+    let less : x.slab < x.slab_order.slabs = omega (arith, c.if-self-slabs.false, c.slabs.ensures, x.within) in
+    let same : type_of c.args.values.now ≡ c.var_slab.result.0.xtype = search rules in
+    faces_fewer start _ x w at stands less c.args.values.now (same ∙ ap (λ (t : VarSlab). t.xtype) c.var_slab.ensures.var_slab) (omega (arith, c.if-len-self.true, c.len.ensures))
 
 pub returns-in-Ok-clause-answer : goal.returns-in-Ok-clause-answer
 returns-in-Ok-clause-answer g c = λ start w at.
     let x = c.args.self.now in
     let stands : w.failed ≡ false = sym at.failed ∙ c.if-self.false in
-    let less : x.slab < x.course.slabs = omega (arith, c.if-self-slabs.false, c.slabs.ensures, x.within) in
-    let same : type_of c.args.values.now ≡ c.turn.result.0.xtype = search rules in
-    faces_room start _ x w at stands less c.args.values.now (same ∙ ap (λ (t : Turn). t.xtype) c.turn.ensures.turn) (omega (arith, c.if-len-self.false, c.len.ensures)) tt
+    let less : x.slab < x.slab_order.slabs = omega (arith, c.if-self-slabs.false, c.slabs.ensures, x.within) in
+    let same : type_of c.args.values.now ≡ c.var_slab.result.0.xtype = search rules in
+    faces_room start _ x w at stands less c.args.values.now (same ∙ ap (λ (t : VarSlab). t.xtype) c.var_slab.ensures.var_slab) (omega (arith, c.if-len-self.false, c.len.ensures)) tt
 
 pub returns-in-Err-clause-answer : goal.returns-in-Err-clause-answer
 returns-in-Err-clause-answer g c = λ start w at.
     let x = c.args.self.now in
     let stands : w.failed ≡ false = sym at.failed ∙ c.if-self.false in
-    let less : x.slab < x.course.slabs = omega (arith, c.if-self-slabs.false, c.slabs.ensures, x.within) in
-    let same : type_of c.args.values.now ≡ c.turn.result.0.xtype = search rules in
-    faces_failure start _ x w at stands less c.args.values.now (same ∙ ap (λ (t : Turn). t.xtype) c.turn.ensures.turn) (omega (arith, c.if-len-self.false, c.len.ensures))
+    let less : x.slab < x.slab_order.slabs = omega (arith, c.if-self-slabs.false, c.slabs.ensures, x.within) in
+    let same : type_of c.args.values.now ≡ c.var_slab.result.0.xtype = search rules in
+    faces_failure start _ x w at stands less c.args.values.now (same ∙ ap (λ (t : VarSlab). t.xtype) c.var_slab.ensures.var_slab) (omega (arith, c.if-len-self.false, c.len.ensures))
 
 pub returns-in-Ok-clause-stands : goal.returns-in-Ok-clause-stands
 returns-in-Ok-clause-stands g c = λ start w at.

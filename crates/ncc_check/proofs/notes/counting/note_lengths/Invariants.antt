@@ -1,5 +1,0 @@
-use Rattle.ncc_check.specs.Noting.{Adds, Below, LargeLength, names_in, offsets_in}
-use Rattle.ncc_check.proofs.notes.counting.note_lengths.Given as goal
-
-abbrev pub invariant-loop-i : goal.invariant-loop-i
-invariant-loop-i l = Adds (Below (LargeLength l.version l.dims (names_in l.named) (offsets_in l.named)) l.i) l.fn.notes.items l.notes.items

@@ -1,7 +1,0 @@
-use Rattle.ncc_header.proofs.Ends.{vars_end}
-use Rattle.ncc_header.proofs.vars.next_var.Goals as goal
-
-pub returns-then-left-eq0-clause-left : goal.returns-then-left-eq0-clause-left
-returns-then-left-eq0-clause-left c =
-    let l = c.args.built.now.lists in
-    vars_end l.parts l.vars l.vars.left c.if-left-eq0.true
