@@ -73,7 +73,8 @@ pub(crate) fn judge_slabs(schema: &Schema, placed: &Placed, slabs: &[Values]) ->
 
 /// Puts a slab and its padding into the image, from a place on, and tells where they end.
 fn put_slab(image: &mut [u8], place: usize, var_slab: VarSlab, values: &Values) -> usize
-    requires { place + count_of values.now * size_of (type_of values.now) + var_slab.padding * length (var_slab_fill var_slab)
+    requires { place + count_of values.now * size_of (type_of values.now)
+        + var_slab.padding * length (var_slab_fill var_slab)
         ≤ length image.old }
     ensures end { result
         ≡ place + count_of values.now * size_of (type_of values.now) + var_slab.padding * length (var_slab_fill var_slab) }

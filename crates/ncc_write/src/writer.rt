@@ -131,7 +131,8 @@ impl<W: Sink> FileWriter<W> {
         requires { self.old.slab < self.old.slab_order.slabs }
         ensures next { OnOk result (self.new.slab ≡ self.old.slab + 1) }
         ensures slabs { self.new.slab_order.slabs ≡ self.old.slab_order.slabs }
-        ensures opens { (start : Option (List ℕ)) (w : WriterState) → Ends [] start (W.put (sink_in self.old)) self.old w
+        ensures opens { (start : Option (List ℕ)) (w : WriterState)
+            → Ends [] start (W.put (sink_in self.old)) self.old w
             → StandsOrStops start (W.put (sink_in self.new)) self.new w result }
         ensures count { Counts (W.failures (sink_in self.old)) (W.failures (sink_in self.new)) result }
     {
@@ -221,9 +222,11 @@ impl<W: Sink> FileWriter<W> {
     /// Takes the next values, any number up to what is left of the slab. Refused values change nothing. After a
     /// `Device` a beginning of the file went out, and every later `put`, `fill_rest` and `finish` is `Failed`.
     pub fn put(&mut self, values: &Values) -> Result<(), WriteFault>
-        ensures answer { (start : Option (List ℕ)) (w : WriterState) → Stands start (W.put (sink_in self.old)) self.old w
+        ensures answer { (start : Option (List ℕ)) (w : WriterState)
+            → Stands start (W.put (sink_in self.old)) self.old w
             → IsAnswer (λ e. e) (refuses_put w values.now) result }
-        ensures stands { (start : Option (List ℕ)) (w : WriterState) → Stands start (W.put (sink_in self.old)) self.old w
+        ensures stands { (start : Option (List ℕ)) (w : WriterState)
+            → Stands start (W.put (sink_in self.old)) self.old w
             → (new : WriterState) × Stands start (W.put (sink_in self.new)) self.new new
             × StandsAfter w (with_values w values.now) new result }
         ensures unchanged { IfErr result (λ e. (e ≡ faults.Device → ⊥) → self.new ≡ self.old) }
@@ -255,9 +258,11 @@ impl<W: Sink> FileWriter<W> {
     #[inline(always)]
     pub fn put_bytes(&mut self, xtype: XType, bytes: &[u8]) -> Result<(), WriteFault>
         requires whole { length bytes.now % size_of xtype ≡ 0 }
-        ensures answer { (start : Option (List ℕ)) (w : WriterState) → Stands start (W.put (sink_in self.old)) self.old w
+        ensures answer { (start : Option (List ℕ)) (w : WriterState)
+            → Stands start (W.put (sink_in self.old)) self.old w
             → IsAnswer (λ e. e) (refuses_put w (values_of xtype bytes.now)) result }
-        ensures stands { (start : Option (List ℕ)) (w : WriterState) → Stands start (W.put (sink_in self.old)) self.old w
+        ensures stands { (start : Option (List ℕ)) (w : WriterState)
+            → Stands start (W.put (sink_in self.old)) self.old w
             → (new : WriterState) × Stands start (W.put (sink_in self.new)) self.new new
             × StandsAfter w (with_values w (values_of xtype bytes.now)) new result }
         ensures unchanged { IfErr result (λ e. (e ≡ faults.Device → ⊥) → self.new ≡ self.old) }
@@ -317,12 +322,15 @@ impl<W: Sink> FileWriter<W> {
     /// is one value of its type, else the default of the type. After a `Device` a beginning of the file went out,
     /// and every later `put`, `fill_rest` and `finish` is `Failed`.
     pub fn fill_rest(&mut self) -> Result<(), WriteFault>
-        ensures answer { (start : Option (List ℕ)) (w : WriterState) → Stands start (W.put (sink_in self.old)) self.old w
+        ensures answer { (start : Option (List ℕ)) (w : WriterState)
+            → Stands start (W.put (sink_in self.old)) self.old w
             → IsAnswer (λ e. e) (refuses_fill w) result }
-        ensures stands { (start : Option (List ℕ)) (w : WriterState) → Stands start (W.put (sink_in self.old)) self.old w
+        ensures stands { (start : Option (List ℕ)) (w : WriterState)
+            → Stands start (W.put (sink_in self.old)) self.old w
             → (new : WriterState) × Stands start (W.put (sink_in self.new)) self.new new
             × StandsAfter w (with_fills w) new result }
-        ensures complete { (start : Option (List ℕ)) (w : WriterState) → Stands start (W.put (sink_in self.old)) self.old w
+        ensures complete { (start : Option (List ℕ)) (w : WriterState)
+            → Stands start (W.put (sink_in self.old)) self.old w
             → w.failed ≡ false → next_of w.schema w.taken ≡ None → IsOk result × (self.new ≡ self.old) }
         ensures unchanged { IfErr result (λ e. (e ≡ faults.Device → ⊥) → self.new ≡ self.old) }
         ensures count { CountsFailure (W.failures (sink_in self.old)) (W.failures (sink_in self.new)) result }

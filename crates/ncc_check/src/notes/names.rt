@@ -105,7 +105,8 @@ fn note_duplicate_names_by_pairs(
     named: &[Named<'_>],
     notes: &mut Vec<Note>,
 ) -> Result<(), AllocError>
-    ensures { OnOk result (Adds (Below (DuplicateNameNote (names_in named.now) (offsets_in named.now)) (length named.now))
+    ensures { OnOk result (Adds
+        (Below (DuplicateNameNote (names_in named.now) (offsets_in named.now)) (length named.now))
         notes.old.items notes.new.items) }
 {
     let keys = keys_of(alloc, named)?;
@@ -123,7 +124,8 @@ fn note_duplicate_names_by_table(
     named: &[Named<'_>],
     notes: &mut Vec<Note>,
 ) -> Result<(), AllocError>
-    ensures { OnOk result (Adds (Below (DuplicateNameNote (names_in named.now) (offsets_in named.now)) (length named.now))
+    ensures { OnOk result (Adds
+        (Below (DuplicateNameNote (names_in named.now) (offsets_in named.now)) (length named.now))
         notes.old.items notes.new.items) }
 {
     let mut seen: IndexSet<&[u8]> = IndexSet::new(alloc);
@@ -140,7 +142,8 @@ fn note_duplicate_names(
     named: &[Named<'_>],
     notes: &mut Vec<Note>,
 ) -> Result<(), AllocError>
-    ensures { OnOk result (Adds (Below (DuplicateNameNote (names_in named.now) (offsets_in named.now)) (length named.now))
+    ensures { OnOk result (Adds
+        (Below (DuplicateNameNote (names_in named.now) (offsets_in named.now)) (length named.now))
         notes.old.items notes.new.items) }
 {
     if named.len() <= SHORT {

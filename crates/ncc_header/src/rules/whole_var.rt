@@ -38,7 +38,8 @@ fn whole_ids<'a>(
     dims: &[Dim],
     piece: &'a [u8],
 ) -> Result<Option<Ids<'a>>, AllocError>
-    ensures at_front { IfOk result (λ o. IfSome o (λ x. AtFront (dimids version dims.now) x.ids.items piece.now x.after.now)) }
+    ensures at_front { IfOk result
+        (λ o. IfSome o (λ x. AtFront (dimids version dims.now) x.ids.items piece.now x.after.now)) }
     ensures less { IfOk result (λ o. IfSome o (λ x. length x.after.now ≤ length piece.now)) }
     ensures needs { IfErr result (λ _. HasFirstId version dims.now piece.now) }
 {
