@@ -1,14 +1,12 @@
 -- What the judging of the rules computes.
-use Rattle.std.specs.Prelude.{ℕ, zero, suc, ltb, Bool, true, false, ◌==◌, ◌&&◌, not, if◌then◌else◌, ◌+◌, ◌-◌, ◌/◌, ◌*◌, ◌^◌, ◌<◌, max, min, List, [], ◌∷◌, Option, Some, None}
+use Rattle.std.specs.Prelude.{ℕ, ltb, ◌==◌, if◌then◌else◌, ◌+◌, ◌-◌, ◌/◌, ◌*◌, ◌^◌, ◌<◌, max, min, List, [], ◌∷◌, Option, Some, None}
 use Rattle.std.specs.List.{AllByRecursion, IsDistinct}
 use Rattle.ncc_layout.specs.declared.extent.Extent.{Extent}
-use Rattle.ncc_layout.specs.Extents.{end, fixed_of, records_of}
-use Rattle.ncc_layout.specs.Rules.Overlap.{NoOverlap}
+use Rattle.ncc_layout.specs.Extents.{end}
 use Rattle.ncc_layout.specs.Rules.RecordWindow.{InRecordWindow}
 use Rattle.ncc_layout.specs.Rules.FixedAfterRecords.{NotFixedAfterRecords}
 use Rattle.ncc_layout.specs.Rules.{Rules}
 use Rattle.ncc_layout.specs.Faults.{FailsFirst, RuleFails}
-use Rattle.ncc_layout.specs.Rules.Overlap.{FirstShared, FirstOverlap}
 use Rattle.ncc_layout.specs.declared.fault.LayoutFaultKind.{LayoutFaultKind}
 use Rattle.ncc_layout.specs.declared.fault.LayoutFaultKind.TheVariants.{RecordWindow, FixedAfterRecords}
 

@@ -1,5 +1,5 @@
 -- Which layout rule fails first, and for which variable.
-use Rattle.std.specs.Prelude.{◌≡◌, ℕ, zero, suc, ◌<◌, ◌≤◌, ◌⊎◌, List, [], ◌∷◌, Contains}
+use Rattle.std.specs.Prelude.{ℕ, zero, suc, List, [], ◌∷◌}
 use Rattle.std.specs.List.{AllByRecursion}
 use Rattle.ncc_schema.specs.declared.schema.Schema.{Schema}
 use Rattle.ncc_schema.specs.Schema.{Place}
@@ -7,7 +7,7 @@ use Rattle.ncc_layout.specs.declared.extent.Extent.{Extent}
 use Rattle.ncc_layout.specs.declared.fault.LayoutFaultKind.{LayoutFaultKind}
 use Rattle.ncc_layout.specs.declared.fault.LayoutFaultKind.TheVariants.{TooLarge, InHeader, Overlap, RecordWindow, FixedAfterRecords, Truncated}
 use Rattle.ncc_layout.specs.Sizes.{NoneTooLarge, FirstTooLarge, record_size_of}
-use Rattle.ncc_layout.specs.Extents.{extents_of, end, fixed_of, records_of, record_count}
+use Rattle.ncc_layout.specs.Extents.{extents_of, fixed_of, records_of, record_count}
 use Rattle.ncc_layout.specs.Rules.InHeader.{NotInHeader}
 use Rattle.ncc_layout.specs.Rules.RecordWindow.{InRecordWindow}
 use Rattle.ncc_layout.specs.Rules.FixedAfterRecords.{NotFixedAfterRecords}
