@@ -14,6 +14,10 @@ fuse_left f = f.left
 abbrev pub fuse_front : {S : Type 0} → FuseStore S → ℕ
 fuse_front f = f.front
 
+-- how often it failed itself
+abbrev pub fuse_own_failures : {S : Type 0} → FuseStore S → ℕ
+fuse_own_failures f = f.failures
+
 -- its own failures, and those of the store below
 abbrev pub fuse_failures : {S : Type 0} → (S → ℕ) → FuseStore S → ℕ
 fuse_failures failures f = joint_count f.failures (failures f.inner)

@@ -88,6 +88,13 @@ impl<F: SystemFile> FileStore<F> {
         }
     }
 
+    /// How often it failed, at most 2^64 - 1.
+    pub fn failures(&self) -> u64
+        ensures { result ≡ file_failures self.now }
+    {
+        self.failures
+    }
+
     /// A call of the file that failed: keeps why, and counts it.
     fn fail(&mut self, error: io::Error) -> Device
         ensures file { file_of self.new ≡ file_of self.old }

@@ -20,7 +20,8 @@ pub struct FuseStore<S: Store> {
 }
 
 impl<S: Store> FuseStore<S> {
-    ghost use Rattle.ncc_store.specs.Fuse.{fuse_inner, fuse_left, fuse_front, fuse_failures, failed_front};
+    ghost use Rattle.ncc_store.specs.Fuse.{fuse_inner, fuse_left, fuse_front, fuse_own_failures, fuse_failures, failed_front};
+    ghost use Rattle.ncc_values.specs.Failures.{joint_count};
 
     /// Passes `left` calls. A write that fails then does nothing.
     pub fn new(inner: S, left: u64) -> FuseStore<S>
@@ -53,6 +54,14 @@ impl<S: Store> FuseStore<S> {
         ensures { result ≡ fuse_left self.now }
     {
         self.left
+    }
+
+    /// How often it failed itself, without the failures of the store below, at most 2^64 - 1.
+    pub fn own_failures(&self) -> u64
+        ensures own { result ≡ fuse_own_failures self.now }
+        ensures joint { joint_count result (S.failures (fuse_inner self.now)) ≡ fuse_failures S.failures self.now }
+    {
+        self.failures
     }
 
     /// The store below, with all that was done to it.

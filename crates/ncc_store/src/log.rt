@@ -35,7 +35,7 @@ pub struct LogStore {
 }
 
 impl LogStore {
-    ghost use Rattle.ncc_store.specs.Log.{log_bytes, log_calls, log_failures};
+    ghost use Rattle.ncc_store.specs.Log.{log_bytes, log_calls, log_replaced, log_failures};
 
     /// A store of these bytes, in their memory. Nothing is pending.
     pub fn new(alloc: Global, bytes: Vec<u8>) -> LogStore
@@ -59,6 +59,20 @@ impl LogStore {
         ensures { result.now ≡ log_calls self.now }
     {
         &self.calls
+    }
+
+    /// What each write replaced, one list of bytes a write, the oldest first.
+    pub fn replaced(&self) -> &[Vec<u8>]
+        ensures { result.now ≡ log_replaced self.now }
+    {
+        &self.replaced
+    }
+
+    /// How often it failed, at most 2^64 - 1.
+    pub fn failures(&self) -> u64
+        ensures { result ≡ log_failures self.now }
+    {
+        self.failures
     }
 
     /// The bytes, in the memory that held them.

@@ -33,6 +33,13 @@ impl LongStore {
         }
     }
 
+    /// How often it failed, at most 2^64 - 1.
+    pub fn failures(&self) -> u64
+        ensures { result ≡ long_failures self.now }
+    {
+        self.failures
+    }
+
     /// Fails and counts it.
     fn refuse(&mut self) -> Result<(), Device>
         ensures err { IsErr result }

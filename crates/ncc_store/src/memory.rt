@@ -32,6 +32,13 @@ impl MemStore {
         MemStore { bytes, failures: 0 }
     }
 
+    /// How often it failed, at most 2^64 - 1.
+    pub fn failures(&self) -> u64
+        ensures { result ≡ memory_failures self.now }
+    {
+        self.failures
+    }
+
     /// The bytes, in the memory that held them.
     pub fn into_bytes(self) -> Vec<u8>
         ensures { result.items ≡ memory_bytes self }

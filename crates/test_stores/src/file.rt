@@ -34,21 +34,24 @@ fn written_and_read_anew(rt: HostRuntime) -> Result<(), Fail> {
     fs::write(&rt, path, [1, 2, 3].as_slice())?;
     let mut store = FileStore::open(&rt, path, true)?;
     takes_all(&rt, &mut store, &WRITES);
+    assert_eq!(rt; store.failures(), 0);
     let mut anew = FileStore::open(&rt, path, false)?;
     takes_all(&rt, &mut anew, &READS);
+    assert_eq!(rt; anew.failures(), 0);
     fs::remove_file(&rt, path)?;
     Ok(())
 }
 
 #[test]
-fn each_failure_has_its_reason(rt: HostRuntime) -> Result<(), Fail> {
-    let path = "each_failure_has_its_reason.nc";
+fn each_failure_is_counted_and_has_its_reason(rt: HostRuntime) -> Result<(), Fail> {
+    let path = "each_failure_is_counted.nc";
     fs::write(&rt, path, [1, 2, 3].as_slice())?;
     let mut store = FileStore::open(&rt, path, false)?;
     assert!(rt; store.fault().is_none());
     assert!(rt; takes(&mut store, None, FailedRead(2, 2)));
     assert!(rt; matches!(store.fault(), Some(ErrorKind::UnexpectedEof)));
     takes_all(&rt, &mut store, &FAILS);
+    assert_eq!(rt; store.failures(), 7);
     // The last of them that asks the system has a place that no file has.
     assert!(rt; matches!(store.fault(), Some(ErrorKind::InvalidInput)));
     fs::remove_file(&rt, path)?;
@@ -76,8 +79,8 @@ const UNSYNCED: Step = Sync(Err(Device));
 #[test]
 fn nothing_is_written_after_a_failed_sync(rt: HostRuntime) -> Result<(), Fail> {
     let mut store = FileStore::open(&rt, "/proc/self/comm", true)?;
-    for step in [UNSYNCED, Write(0, b"1", Err(Device))] {
-        assert!(rt; takes(&mut store, None, step));
+    for (step, failures) in [(UNSYNCED, 1), (Write(0, b"1", Err(Device)), 2)] {
+        assert!(rt; takes(&mut store, None, step) && store.failures() == failures);
     }
     assert!(rt; matches!(store.fault(), Some(ErrorKind::InvalidInput)));
     Ok(())
@@ -240,20 +243,24 @@ fn fails_once() -> FileStore<FailsOnce> {
 }
 
 // A call that failed isn't tried again, and after a write or a sync there is none that writes. Reads go on.
-const ONCE: [[Step; 2]; 6] = [
-    [Len(Err(Device)), Len(Ok(3))],
-    [FailedRead(0, 2), Read(0, &[9, 9])],
-    [Write(0, &[1], Err(Device)), Read(0, &[9, 9])],
-    [UNSYNCED, Len(Ok(3))],
-    [Write(0, &[1], Err(Device)), Write(0, &[1], Err(Device))],
-    [UNSYNCED, UNSYNCED],
+const ONCE: [([Step; 2], u64); 6] = [
+    ([Len(Err(Device)), Len(Ok(3))], 1),
+    ([FailedRead(0, 2), Read(0, &[9, 9])], 1),
+    ([Write(0, &[1], Err(Device)), Read(0, &[9, 9])], 1),
+    ([UNSYNCED, Len(Ok(3))], 1),
+    (
+        [Write(0, &[1], Err(Device)), Write(0, &[1], Err(Device))],
+        2,
+    ),
+    ([UNSYNCED, UNSYNCED], 2),
 ];
 
 #[test]
 fn errors_are_answered(rt: HostRuntime) {
-    for steps in ONCE {
+    for (steps, failures) in ONCE {
         let mut store = fails_once();
         takes_all(&rt, &mut store, &steps);
+        assert_eq!(rt; store.failures(), failures);
         assert!(rt; matches!(store.fault(), Some(ErrorKind::Other)));
     }
 }

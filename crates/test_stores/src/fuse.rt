@@ -42,6 +42,7 @@ fn does(
     assert!(rt; size <= 12);
     assert_eq!(rt; store.write_at(0, &[7; 12][..size]), Err(Device));
     is_blown(rt, &mut store);
+    assert_eq!(rt; store.own_failures(), 5);
     let bytes = store.into_inner().into_bytes();
     assert_eq!(rt; bytes.len(), 14);
     for (i, byte) in bytes.iter().enumerate() {

@@ -34,6 +34,19 @@ const LOGGED: [Option<(u64, &[u8])>; 5] = [
     None,
 ];
 
+// What each write replaced.
+const REPLACED: [&[u8]; 3] = [&[3], &[1, 2, 8], &[]];
+
+// Whether these are the bytes that the writes replaced.
+fn has_replaced(store: &LogStore, replaced: &[&[u8]]) -> bool {
+    store.replaced().len() == replaced.len()
+        && store
+            .replaced()
+            .iter()
+            .zip(replaced)
+            .all(|(gone, wanted)| gone.as_slice() == *wanted)
+}
+
 #[test]
 fn logs_a_mixed_run(rt: HostRuntime) -> Result<(), Fail> {
     let alloc = rt.alloc();
@@ -44,6 +57,8 @@ fn logs_a_mixed_run(rt: HostRuntime) -> Result<(), Fail> {
         assert!(rt; takes(&mut store, size, *step), "step {number}");
     }
     has_calls(&rt, &store, &LOGGED);
+    assert!(rt; has_replaced(&store, &REPLACED));
+    assert_eq!(rt; store.failures(), 0);
     assert_eq!(rt; store.into_bytes().as_slice(), [7, 6, 5, 9, 4].as_slice());
     Ok(())
 }
@@ -58,8 +73,12 @@ fn growth_without_memory_does_nothing(rt: HostRuntime) {
     let mut store = LogStore::new(alloc, bytes);
     if store.write_at(2, &[8, 9]) == Err(Device) {
         has_calls(&rt, &store, &[]);
+        assert_eq!(rt; store.failures(), 1);
+        assert_eq!(rt; store.replaced().len(), 0);
         assert_eq!(rt; store.into_bytes().as_slice(), [1, 2, 3].as_slice());
     } else {
+        assert_eq!(rt; store.failures(), 0);
+        assert_eq!(rt; store.replaced().len(), 1);
         has_calls(&rt, &store, &[Some((2, &[8, 9]))]);
     }
 }
@@ -73,8 +92,10 @@ fn sync_without_memory_does_nothing(rt: HostRuntime) {
     let mut store = LogStore::new(alloc, bytes);
     if store.sync() == Err(Device) {
         has_calls(&rt, &store, &[]);
+        assert_eq!(rt; store.failures(), 1);
     } else {
         has_calls(&rt, &store, &[None]);
+        assert_eq!(rt; store.failures(), 0);
     }
     assert_eq!(rt; store.into_bytes().as_slice(), [1, 2, 3].as_slice());
 }

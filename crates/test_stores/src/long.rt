@@ -30,6 +30,7 @@ const OF_NOTHING: [Step; 3] = [Len(Ok(0)), Read(0, &[]), FailedRead(0, 1)];
 fn zero_past_its_front(rt: HostRuntime) -> Result<(), Fail> {
     let mut store = LongStore::new([5, 6].to_vec(rt.alloc())?, SIZE);
     takes_all(&rt, &mut store, &READS);
+    assert_eq!(rt; store.failures(), 0);
     Ok(())
 }
 
@@ -37,6 +38,7 @@ fn zero_past_its_front(rt: HostRuntime) -> Result<(), Fail> {
 fn fails_past_its_end_and_at_writes(rt: HostRuntime) -> Result<(), Fail> {
     let mut store = LongStore::new([5, 6].to_vec(rt.alloc())?, SIZE);
     takes_all(&rt, &mut store, &FAILS);
+    assert_eq!(rt; store.failures(), 6);
     Ok(())
 }
 

@@ -23,6 +23,7 @@ fn writes_inside_and_over_the_end(rt: HostRuntime) -> Result<(), Fail> {
         let size = store.len().ok();
         assert!(rt; takes(&mut store, size, *step), "step {number}");
     }
+    assert_eq!(rt; store.failures(), 0);
     let bytes = store.into_bytes();
     assert_eq!(rt; bytes.as_slice(), [1, 7, 3, 4, 8, 9].as_slice());
     Ok(())
@@ -36,10 +37,13 @@ fn growth_without_memory_does_nothing(rt: HostRuntime) {
     };
     let mut store = MemStore::new(bytes);
     let grows = store.write_at(2, &[8, 9, 10, 11]);
+    let failures = store.failures();
     let bytes = store.into_bytes();
     if grows == Err(Device) {
+        assert_eq!(rt; failures, 1);
         assert_eq!(rt; bytes.as_slice(), [1, 2, 3].as_slice());
     } else {
+        assert_eq!(rt; failures, 0);
         assert_eq!(rt; bytes.as_slice(), [1, 2, 8, 9, 10, 11].as_slice());
     }
 }
