@@ -16,7 +16,7 @@ use Rattle.ncc_schema.specs.declared.schema.Count.{Count}
 use Rattle.ncc_schema.specs.declared.schema.Count.TheVariants.{Known}
 use Rattle.ncc_schema.specs.Schema.{count_limit, record_dims, with_count}
 use Rattle.ncc_values.specs.declared.version.Version.{Version}
-use Rattle.ncc_build.specs.Building.{attr_names, var_names, attrs_of, is_among, IsBuilt, no_schema, refuses_attr, with_dim, with_global, with_var, with_attr, vars_with}
+use Rattle.ncc_build.specs.Building.{attr_names, var_names, attrs_of, is_duplicate_name, IsBuilt, no_schema, refuses_attr, with_dim, with_global, with_var, with_attr, vars_with}
 use Rattle.ncc_build.specs.Tables.{names_of_attrs, names_at, with_name}
 use Rattle.ncc_build.specs.Judging.{kind_refusals}
 use Rattle.ncc_build.proofs.Passing.{counts_fit, names_fit, name_passes}
@@ -138,11 +138,11 @@ var_attrs vars slice n x attrs shown same below =
 
 -- a name that passes isn't in that table
 pub fresh_in_table : (s : Schema) (n : ℕ) (name listed : List ℕ) (values : Values) (tables : List (List (List ℕ))) → tables ≡ names_of_attrs s → listed ≡ name → refuses_attr true s n name values ≡ None
-    → is_among listed (names_at tables n) ≡ false
+    → is_duplicate_name listed (names_at tables n) ≡ false
 fresh_in_table s n name listed values tables told same none =
-    ap (λ (l : List ℕ). is_among l (names_at tables n)) same
-    ∙ ap (λ (ts : List (List (List ℕ))). is_among name (names_at ts n)) told
-    ∙ ap (is_among name) (names_of_var s.vars n)
+    ap (λ (l : List ℕ). is_duplicate_name l (names_at tables n)) same
+    ∙ ap (λ (ts : List (List (List ℕ))). is_duplicate_name name (names_at ts n)) told
+    ∙ ap (is_duplicate_name name) (names_of_var s.vars n)
     ∙ (name_passes (attr_names (attrs_of s n)) name (kind_refusals s.version (type_of values) (length (attrs_of s n)) (count_of values)) none).1
 
 module _ (s : Schema) (n : ℕ) (a : Attr) (vars : List Var) (more : vars ≡ vars_with s.vars n a.name a.values) where

@@ -37,31 +37,31 @@ name_limit = 256
 abbrev pub is_bad_name : (fits : Bool) → (name : List ℕ) → Bool
 is_bad_name fits name = not fits || ltb name_limit (length name)
 
-abbrev pub is_among : (name : List ℕ) → (names : List (List ℕ)) → Bool
-is_among name names = list_any (same name) names
+abbrev pub is_duplicate_name : (name : List ℕ) → (names : List (List ℕ)) → Bool
+is_duplicate_name name names = list_any (same name) names
 
 -- a number that the version can't tell
 abbrev pub is_past : Version → ℕ → Bool
 is_past v n = leb (count_limit v) n
 
 -- one more item than these, or one of the numbers, can't be told
-abbrev pub one_past : {A : Type 0} → Version → List A → (numbers : List ℕ) → Bool
-one_past v items numbers = is_past v (length items + 1) || list_any (is_past v) numbers
+abbrev pub list_exceeds_count_for_version : {A : Type 0} → Version → List A → (numbers : List ℕ) → Bool
+list_exceeds_count_for_version v items numbers = is_past v (length items + 1) || list_any (is_past v) numbers
 
-abbrev pub is_foreign : Version → XType → Bool
-is_foreign v t = is_none (type_of_code v (code_of t))
+abbrev pub lacks_type_for_version : Version → XType → Bool
+lacks_type_for_version v t = is_none (type_of_code v (code_of t))
 
-abbrev pub any_missing : List Dim → List ℕ → Bool
-any_missing dims ids = list_any (leb (length dims)) ids
+abbrev pub has_bad_dim_id : List Dim → List ℕ → Bool
+has_bad_dim_id dims ids = list_any (leb (length dims)) ids
 
 -- the record dimension is one of those after the first
-abbrev pub any_record_behind : List Dim → List ℕ → Bool
-any_record_behind dims [] = false
-any_record_behind dims (d ∷ ds) = list_any (is_record dims) ds
+abbrev pub has_record_dim_not_first : List Dim → List ℕ → Bool
+has_record_dim_not_first dims [] = false
+has_record_dim_not_first dims (d ∷ ds) = list_any (is_record dims) ds
 
 -- a second record dimension
-abbrev pub is_second_record : List Dim → (length : ℕ) → Bool
-is_second_record dims n = (n == 0) && ltb 0 (record_dims dims)
+abbrev pub makes_two_record_dims : List Dim → (length : ℕ) → Bool
+makes_two_record_dims dims n = (n == 0) && ltb 0 (record_dims dims)
 
 -- ---- names so far
 
@@ -83,17 +83,17 @@ attrs_of s n = get_or (map (λ x. x.attrs) s.vars) n []
 abbrev pub refuses_dim : (fits : Bool) → Schema → (name : List ℕ) → (length : ℕ) → Option WriteFault
 refuses_dim fits s name n = first_refusal (
     (is_bad_name fits name, BadName)
-    ∷ (is_among name (dim_names s), DuplicateName)
-    ∷ (is_second_record s.dims n, TwoRecordDims)
-    ∷ (one_past s.version s.dims (n ∷ []), CountForVersion) ∷ [])
+    ∷ (is_duplicate_name name (dim_names s), DuplicateName)
+    ∷ (makes_two_record_dims s.dims n, TwoRecordDims)
+    ∷ (list_exceeds_count_for_version s.version s.dims (n ∷ []), CountForVersion) ∷ [])
 
 -- an attribute after these
 abbrev pub refuses_attr_of : (fits : Bool) → Version → List Attr → (name : List ℕ) → Values → Option WriteFault
 refuses_attr_of fits v attrs name values = first_refusal (
     (is_bad_name fits name, BadName)
-    ∷ (is_among name (attr_names attrs), DuplicateName)
-    ∷ (is_foreign v (type_of values), TypeForVersion)
-    ∷ (one_past v attrs (count_of values ∷ []), CountForVersion) ∷ [])
+    ∷ (is_duplicate_name name (attr_names attrs), DuplicateName)
+    ∷ (lacks_type_for_version v (type_of values), TypeForVersion)
+    ∷ (list_exceeds_count_for_version v attrs (count_of values ∷ []), CountForVersion) ∷ [])
 
 abbrev pub refuses_global : (fits : Bool) → Schema → (name : List ℕ) → Values → Option WriteFault
 refuses_global fits s name values = refuses_attr_of fits s.version s.gatts name values
@@ -104,11 +104,11 @@ refuses_attr fits s n name values = refuses_attr_of fits s.version (attrs_of s n
 abbrev pub refuses_var : (fits : Bool) → Schema → (name : List ℕ) → XType → (dims : List ℕ) → Option WriteFault
 refuses_var fits s name t ids = first_refusal (
     (is_bad_name fits name, BadName)
-    ∷ (is_among name (var_names s), DuplicateName)
-    ∷ (any_missing s.dims ids, BadDimId)
-    ∷ (any_record_behind s.dims ids, RecordDimNotFirst)
-    ∷ (is_foreign s.version t, TypeForVersion)
-    ∷ (one_past s.version s.vars (length ids ∷ []), CountForVersion) ∷ [])
+    ∷ (is_duplicate_name name (var_names s), DuplicateName)
+    ∷ (has_bad_dim_id s.dims ids, BadDimId)
+    ∷ (has_record_dim_not_first s.dims ids, RecordDimNotFirst)
+    ∷ (lacks_type_for_version s.version t, TypeForVersion)
+    ∷ (list_exceeds_count_for_version s.version s.vars (length ids ∷ []), CountForVersion) ∷ [])
 
 -- the schema can't be built with so many records: their number, then the sizes, then the begins
 abbrev pub BuildFails : Schema → (records : ℕ) → WriteFault → Type 0
@@ -179,7 +179,7 @@ with_attr s n name values = record {
 -- each name keeps the rule, and no two are the same
 abbrev pub AreNames : List (List ℕ) → Type 0
 AreNames [] = Unit {0}
-AreNames (name ∷ names) = FitsAsName name × (is_among name names ≡ false) × AreNames names
+AreNames (name ∷ names) = FitsAsName name × (is_duplicate_name name names ≡ false) × AreNames names
 
 -- all names keep the rule, and differ from the others of their kind
 pub record HasNames (s : Schema) : Type 0 where

@@ -8,27 +8,27 @@ use Rattle.ncc_build.specs.declared.fault.WriteFault.{WriteFault}
 use Rattle.ncc_layout.specs.declared.plan_fault.PlanFault.{PlanFault}
 use Rattle.ncc_layout.specs.declared.plan_fault.PlanFault.TheVariants as plan
 use Rattle.ncc_build.specs.declared.fault.WriteFault.TheVariants.{BadName, DuplicateName, TwoRecordDims, BadDimId, RecordDimNotFirst, TypeForVersion, CountForVersion, OffsetForVersion, SizeForVersion, Memory}
-use Rattle.ncc_build.specs.Building.{is_bad_name, is_among, is_second_record, is_past, is_foreign, any_missing, any_record_behind}
+use Rattle.ncc_build.specs.Building.{is_bad_name, is_duplicate_name, makes_two_record_dims, is_past, lacks_type_for_version, has_bad_dim_id, has_record_dim_not_first}
 
 -- of a name beside these
 abbrev pub name_refusals : (fits : Bool) → (names : List (List ℕ)) → (name : List ℕ) → List (Bool × WriteFault)
-name_refusals fits names name = (is_bad_name fits name, BadName) ∷ (is_among name names, DuplicateName) ∷ []
+name_refusals fits names name = (is_bad_name fits name, BadName) ∷ (is_duplicate_name name names, DuplicateName) ∷ []
 
 -- of the dimensions of a variable
 abbrev pub dims_refusals : List Dim → (ids : List ℕ) → List (Bool × WriteFault)
-dims_refusals dims ids = (any_missing dims ids, BadDimId) ∷ (any_record_behind dims ids, RecordDimNotFirst) ∷ []
+dims_refusals dims ids = (has_bad_dim_id dims ids, BadDimId) ∷ (has_record_dim_not_first dims ids, RecordDimNotFirst) ∷ []
 
 -- one more item than so many, or this number, can't be told
-abbrev pub is_too_many : Version → (items number : ℕ) → Bool
-is_too_many v items number = is_past v (items + 1) || list_any (is_past v) (number ∷ [])
+abbrev pub exceeds_count_for_version : Version → (items number : ℕ) → Bool
+exceeds_count_for_version v items number = is_past v (items + 1) || list_any (is_past v) (number ∷ [])
 
 -- of a type, and of the numbers
 abbrev pub kind_refusals : Version → XType → (items number : ℕ) → List (Bool × WriteFault)
-kind_refusals v t items number = (is_foreign v t, TypeForVersion) ∷ (is_too_many v items number, CountForVersion) ∷ []
+kind_refusals v t items number = (lacks_type_for_version v t, TypeForVersion) ∷ (exceeds_count_for_version v items number, CountForVersion) ∷ []
 
 -- of the length of a dimension after these
 abbrev pub dim_refusals : Version → List Dim → (length : ℕ) → List (Bool × WriteFault)
-dim_refusals v dims n = (is_second_record dims n, TwoRecordDims) ∷ (is_too_many v (length dims) n, CountForVersion) ∷ []
+dim_refusals v dims n = (makes_two_record_dims dims n, TwoRecordDims) ∷ (exceeds_count_for_version v (length dims) n, CountForVersion) ∷ []
 
 -- the refusal for want of a plan
 abbrev pub refusal_of : PlanFault → WriteFault

@@ -2,7 +2,7 @@
 
 ghost use Rattle.std.specs.Prelude.{◌≡◌, ◌<◌, [], ◌∷◌, ◌++◌, false, length, vec_len, IfOk, OnOk, OnErr};
 ghost use Rattle.ncc_values.specs.Values.{AreInRange};
-ghost use Rattle.ncc_build.specs.Building.{is_among, vars_with};
+ghost use Rattle.ncc_build.specs.Building.{is_duplicate_name, vars_with};
 ghost use Rattle.ncc_build.specs.Tables.{names_at, with_name};
 
 use crate::names::{Names, own_name};
@@ -32,7 +32,7 @@ fn push_named<T: Drop>(
     names: &mut Names,
     name: Vec<u8>,
 ) -> Result<(), AllocError>
-    requires { is_among name.items names.old ≡ false }
+    requires { is_duplicate_name name.items names.old ≡ false }
     ensures item { OnOk result (items.new.items ≡ items.old.items ++ item ∷ []) }
     ensures name { OnOk result (names.new ≡ names.old ++ name.items ∷ []) }
     ensures items_stay { OnErr result (items.new.items ≡ items.old.items) }
@@ -52,7 +52,7 @@ pub fn add_named<T: Drop>(
     names: &mut Names,
     name: Vec<u8>,
 ) -> Result<(), AllocError>
-    requires { is_among name.items names.old ≡ false }
+    requires { is_duplicate_name name.items names.old ≡ false }
     ensures item { OnOk result (items.new ≡ items.old ++ item ∷ []) }
     ensures name { OnOk result (names.new ≡ names.old ++ name.items ∷ []) }
     ensures items_stay { OnErr result (items.new ≡ items.old) }
@@ -75,7 +75,7 @@ pub fn add_to_var(
 ) -> Result<(), AllocError>
     requires there { var < length vars.old }
     requires listed { var < vec_len tables.old }
-    requires fresh { is_among name.items (names_at tables.old.items var) ≡ false }
+    requires fresh { is_duplicate_name name.items (names_at tables.old.items var) ≡ false }
     ensures attr { OnOk result (vars.new ≡ vars_with vars.old var attr.name attr.values) }
     ensures name { OnOk result (tables.new.items ≡ with_name tables.old.items var name.items) }
     ensures vars_stay { OnErr result (vars.new ≡ vars.old) }

@@ -11,7 +11,7 @@ ghost use Rattle.ncc_build.specs.Tables.{names_of_attrs};
 use crate::adding::{add_named, add_to_var, own_attr};
 use crate::built::Built;
 use crate::fault::WriteFault;
-use crate::judging::{is_too_many, judge_attr, judge_ids, judge_kind, judge_name};
+use crate::judging::{exceeds_count_for_version, judge_attr, judge_ids, judge_kind, judge_name};
 use crate::names::{Names, listed_name, own_name};
 use ncc_layout::{PlanFault, standard};
 use ncc_schema::{Count, Dim, Schema, Var, limit_of_counts};
@@ -96,7 +96,7 @@ impl SchemaBuilder {
         if len == 0 && self.has_records {
             return Err(WriteFault::TwoRecordDims);
         }
-        if is_too_many(self.schema.version, self.schema.dims.len(), len) {
+        if exceeds_count_for_version(self.schema.version, self.schema.dims.len(), len) {
             return Err(WriteFault::CountForVersion);
         }
         Ok(())

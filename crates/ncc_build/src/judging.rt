@@ -4,8 +4,8 @@ ghost use Rattle.std.specs.Prelude.{◌≡◌, ◌↔◌, Bool, IsTrue, OnOk, le
 ghost use Rattle.std.specs.List.{list_any};
 ghost use Rattle.ncc_values.specs.Name.{FitsAsName, is_name};
 ghost use Rattle.ncc_schema.specs.Schema.{is_record};
-ghost use Rattle.ncc_build.specs.Building.{any_record_behind, attr_names, first_refusal, is_foreign, IsJudged, refuses_attr_of};
-ghost use Rattle.ncc_build.specs.Judging.{name_refusals, dims_refusals, kind_refusals, is_too_many};
+ghost use Rattle.ncc_build.specs.Building.{has_record_dim_not_first, attr_names, first_refusal, lacks_type_for_version, IsJudged, refuses_attr_of};
+ghost use Rattle.ncc_build.specs.Judging.{name_refusals, dims_refusals, kind_refusals, exceeds_count_for_version};
 
 use crate::fault::WriteFault;
 use crate::names::Names;
@@ -39,7 +39,7 @@ fn is_record(dims: &[Dim], id: usize) -> bool
 }
 
 /// Is one of these no number of a dimension?
-fn any_missing(dims: &[Dim], ids: &[usize]) -> bool
+fn has_bad_dim_id(dims: &[Dim], ids: &[usize]) -> bool
     ensures { result ≡ list_any (leb (length dims.now)) ids.now }
 {
     let number = dims.len();
@@ -54,8 +54,8 @@ fn any_record(dims: &[Dim], ids: &[usize]) -> bool
 }
 
 /// Is the record dimension one of those after the first?
-fn any_record_behind(dims: &[Dim], ids: &[usize]) -> bool
-    ensures { result ≡ any_record_behind dims.now ids.now }
+fn has_record_dim_not_first(dims: &[Dim], ids: &[usize]) -> bool
+    ensures { result ≡ has_record_dim_not_first dims.now ids.now }
 {
     match ids {
         [] => false,
@@ -67,26 +67,26 @@ fn any_record_behind(dims: &[Dim], ids: &[usize]) -> bool
 pub fn judge_ids(dims: &[Dim], ids: &[usize]) -> Result<(), WriteFault>
     ensures { IsJudged (first_refusal (dims_refusals dims.now ids.now)) result }
 {
-    if any_missing(dims, ids) {
+    if has_bad_dim_id(dims, ids) {
         return Err(WriteFault::BadDimId);
     }
-    if any_record_behind(dims, ids) {
+    if has_record_dim_not_first(dims, ids) {
         return Err(WriteFault::RecordDimNotFirst);
     }
     Ok(())
 }
 
 /// Is one more item than so many, or this number, more than the version can tell?
-pub fn is_too_many(version: Version, items: usize, number: u64) -> bool
-    ensures { result ≡ is_too_many version items number }
+pub fn exceeds_count_for_version(version: Version, items: usize, number: u64) -> bool
+    ensures { result ≡ exceeds_count_for_version version items number }
 {
     let limit = limit_of_counts(version);
     items as u64 >= limit - 1 || number >= limit
 }
 
 /// Does the version lack the type?
-fn is_foreign(version: Version, xtype: XType) -> bool
-    ensures { result ≡ is_foreign version xtype }
+fn lacks_type_for_version(version: Version, xtype: XType) -> bool
+    ensures { result ≡ lacks_type_for_version version xtype }
 {
     XType::from_code(xtype.code(), version).is_none()
 }
@@ -100,10 +100,10 @@ pub fn judge_kind(
 ) -> Result<(), WriteFault>
     ensures { IsJudged (first_refusal (kind_refusals version xtype items number)) result }
 {
-    if is_foreign(version, xtype) {
+    if lacks_type_for_version(version, xtype) {
         return Err(WriteFault::TypeForVersion);
     }
-    if is_too_many(version, items, number as u64) {
+    if exceeds_count_for_version(version, items, number as u64) {
         return Err(WriteFault::CountForVersion);
     }
     Ok(())

@@ -2,7 +2,7 @@
 
 ghost use Rattle.std.specs.Prelude.{◌≡◌, [], ◌∷◌, ◌++◌, false, IfOk, OnOk, OnErr};
 ghost use Rattle.ncc_values.specs.Numbers.{IsBytes};
-ghost use Rattle.ncc_build.specs.Building.{is_among};
+ghost use Rattle.ncc_build.specs.Building.{is_duplicate_name};
 
 use crate::ranges::all_in_range;
 use indexmap::IndexSet;
@@ -36,14 +36,14 @@ impl Names {
 
     /// Whether the name is one of them.
     pub fn has(&self, name: &[u8]) -> bool
-        ensures { result ≡ is_among name.now self.now }
+        ensures { result ≡ is_duplicate_name name.now self.now }
     {
         self.table.contains(name)
     }
 
     /// Adds a name that isn't there yet. After an error they are as they were.
     pub fn add(&mut self, name: Vec<u8>) -> Result<(), AllocError>
-        requires { is_among name.items self.old ≡ false }
+        requires { is_duplicate_name name.items self.old ≡ false }
         ensures ok { OnOk result (self.new ≡ self.old ++ name.items ∷ []) }
         ensures err { OnErr result (self.new ≡ self.old) }
     {

@@ -12,7 +12,7 @@ use Rattle.ncc_schema.specs.declared.schema.Dim.{Dim}
 use Rattle.ncc_schema.specs.declared.schema.Schema.{Schema}
 use Rattle.ncc_schema.specs.declared.schema.Var.{Var}
 use Rattle.ncc_schema.specs.Names.{first_dim, first_attr, first_var, first_attrs, HasName, name_of}
-use Rattle.ncc_build.specs.Building.{is_among, dim_names, attr_names, var_names, AreNames, HasNames}
+use Rattle.ncc_build.specs.Building.{is_duplicate_name, dim_names, attr_names, var_names, AreNames, HasNames}
 use Rattle.ncc_build.specs.Fill.{same}
 use Rattle.ncc_check.specs.Notes.{IsEarlier}
 
@@ -22,15 +22,15 @@ is_same : (name : List ℕ) → same name name ≡ true
 is_same [] = refl
 is_same (b ∷ name) = and_from (b == b) (same name name) (eq-eqb b b refl) (is_same name)
 
-not_among : (name : List ℕ) (names : List (List ℕ)) (i : ℕ) → is_among name names ≡ false → i < length names
+not_among : (name : List ℕ) (names : List (List ℕ)) (i : ℕ) → is_duplicate_name name names ≡ false → i < length names
     → name ≡ get_or names i [] → ⊥
 not_among name [] i none below is = omega (arith, below)
 not_among name (other ∷ names) zero none below is =
-    let parts = or_parts (same name other) (is_among name names) none in
+    let parts = or_parts (same name other) (is_duplicate_name name names) none in
     let yes : same name other ≡ true = ap (same name) (sym is) ∙ is_same name in
     cc
 not_among name (other ∷ names) (suc i) none below is =
-    not_among name names i (or_parts (same name other) (is_among name names) none).1 (omega (arith, below)) is
+    not_among name names i (or_parts (same name other) (is_duplicate_name name names) none).1 (omega (arith, below)) is
 
 names_fit : (names : List (List ℕ)) (i : ℕ) → AreNames names → i < length names → FitsAsName (get_or names i [])
 names_fit [] i are below = absurd (omega (arith, below))
