@@ -280,33 +280,43 @@ fn layout_command<'a>(alloc: Global) -> Result<Command<'a>, AllocError> {
         .arg(laid_out_argument(alloc)?)
 }
 
-fn check_command<'a>(alloc: Global) -> Result<Command<'a>, AllocError> {
-    let strict = flag(alloc, "strict", "Refuses a file that has a note");
-    let brief = flag(alloc, "brief", "Prints one line for each file");
-    let explain = flag(
+/// Whether faults and notes are explained.
+fn explain_argument<'a>(alloc: Global) -> Result<Arg<'a>, AllocError> {
+    flag(
         alloc,
         "explain",
         "Says where each fault and note is, its numbers, and its rule",
     )
-    .conflicts_with("brief")?;
-    let json = json_argument(alloc)
+    .conflicts_with("brief")
+}
+
+/// Whether verdicts are shown as objects.
+fn json_verdict_argument<'a>(alloc: Global) -> Result<Arg<'a>, AllocError> {
+    json_argument(alloc)
         .conflicts_with("brief")?
-        .conflicts_with("explain")?;
-    let limit = Arg::new(alloc, "max-header")
+        .conflicts_with("explain")
+}
+
+/// The limit of a header.
+fn limit_argument<'a>(alloc: Global) -> Arg<'a> {
+    Arg::new(alloc, "max-header")
         .long("max-header")
         .value_name("N")
         .help("How many bytes a header may have")
         .value_parser(value_parser!(u64))
         .allow_negative_numbers(true)
-        .action(ArgAction::Set);
+        .action(ArgAction::Set)
+}
+
+fn check_command<'a>(alloc: Global) -> Result<Command<'a>, AllocError> {
     Command::new(alloc, "check")
         .about("Says whether files are sound, and what is unusual in them")
         .after_help(CHECK_STATUSES)
-        .arg(strict)?
-        .arg(brief)?
-        .arg(explain)?
-        .arg(json)?
-        .arg(limit)?
+        .arg(flag(alloc, "strict", "Refuses a file that has a note"))?
+        .arg(flag(alloc, "brief", "Prints one line for each file"))?
+        .arg(explain_argument(alloc)?)?
+        .arg(json_verdict_argument(alloc)?)?
+        .arg(limit_argument(alloc))?
         .arg(names_argument(alloc)?)?
         .arg(verbose_argument(alloc))?
         .arg(files_argument(alloc)?)
