@@ -242,7 +242,8 @@ fn fails_once() -> FileStore<FailsOnce> {
     )
 }
 
-// A call that failed isn't tried again, and after a write or a sync there is none that writes. Reads go on.
+// Two calls, and the failures after them. A call that failed isn't tried again, and after a write or a sync there is none
+// that writes. Reads go on.
 const ONCE: [([Step; 2], u64); 6] = [
     ([Len(Err(Device)), Len(Ok(3))], 1),
     ([FailedRead(0, 2), Read(0, &[9, 9])], 1),

@@ -1,6 +1,6 @@
 use crate::steps::Step::{FailedRead, Len, Read, Sync, Write};
 use crate::steps::{Step, takes};
-use ncc_store::{Device, FuseStore, LogStore, MemStore, Store};
+use ncc_store::{Device, FuseStore, LogStore, LongStore, MemStore, Store};
 use std::alloc::Global;
 use std::process::Abort;
 use std::test::Fail;
@@ -91,4 +91,13 @@ fn passes_calls_of_each_kind(rt: HostRuntime) -> Result<(), Fail> {
     assert_eq!(rt; inner.calls().len(), 2);
     assert_eq!(rt; inner.into_bytes().as_slice(), [1, 2, 3, 4].as_slice());
     Ok(())
+}
+
+// What the store below fails at isn't counted twice.
+#[test]
+fn failures_below_are_not_its_own(rt: HostRuntime) {
+    let mut store = FuseStore::new(LongStore::new(Vec::new(rt.alloc()), 0), 1);
+    assert_eq!(rt; store.sync(), Err(Device));
+    assert_eq!(rt; store.own_failures(), 0);
+    assert_eq!(rt; store.into_inner().failures(), 1);
 }
