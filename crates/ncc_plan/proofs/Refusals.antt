@@ -1,6 +1,5 @@
 -- A schema is refused for nothing of values or of a device.
-use Rattle.std.proofs.Common.{◌≡◌, ℕ, Bool, true, false, cond, Option, Some, None, List, [], ◌∷◌, Result, Ok, Err, inl, inr, refl, sym, ap, subst, length}
-use Rattle.std.specs.List.{AllByRecursion}
+use Rattle.std.proofs.Common.{ℕ, Bool, true, false, cond, Option, Some, None, List, [], ◌∷◌, Err, inl, inr, sym, subst, length}
 use Rattle.ncc_values.specs.Name.{is_name}
 use Rattle.ncc_values.specs.declared.version.Version.{Version}
 use Rattle.ncc_schema.specs.declared.schema.Attr.{Attr}
@@ -9,7 +8,7 @@ use Rattle.ncc_schema.specs.declared.schema.Schema.{Schema}
 use Rattle.ncc_schema.specs.declared.schema.Var.{Var}
 use Rattle.ncc_build.specs.declared.fault.WriteFault.{WriteFault}
 use Rattle.ncc_build.specs.declared.fault.WriteFault.TheVariants.{BadName, DuplicateName, TwoRecordDims, BadDimId, RecordDimNotFirst, TypeForVersion, CountForVersion, OffsetForVersion, SizeForVersion, WrongType, TooManyValues, Unfinished, Failed, Complete, Device, Memory}
-use Rattle.ncc_build.specs.Building.{BuildFails, RebuildsAs, first_refusal, or_else, refuses_attr, refuses_attrs, refuses_dim, refuses_dims, refuses_global, refuses_globals, refuses_schema, refuses_var, refuses_vars, with_attr, with_dim, with_global, with_var, with_whole}
+use Rattle.ncc_build.specs.Building.{BuildFails, RebuildsAs, or_else, refuses_attr, refuses_attrs, refuses_dim, refuses_dims, refuses_global, refuses_globals, refuses_schema, refuses_var, refuses_vars, with_attr, with_dim, with_global, with_var, with_whole}
 use Rattle.ncc_build.specs.Dataset.{with_version}
 use Rattle.ncc_plan.specs.Plans.{IsOfSchema}
 

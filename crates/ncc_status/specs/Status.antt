@@ -5,7 +5,7 @@ use Rattle.clap.specs.declared.error.kind.ErrorKind.TheVariants.{DisplayHelp, Di
 use Rattle.ncc_answers.specs.declared.answer.Answer.{Answer}
 use Rattle.ncc_tasks.specs.declared.picking.WordFault.{WordFault}
 use Rattle.ncc_tasks.specs.declared.picking.WordFault.TheVariants as words
-use Rattle.ncc_answers.specs.declared.answer.Answer.TheVariants.{Passed, Refused, Device, Memory}
+use Rattle.ncc_answers.specs.declared.answer.Answer.TheVariants.{Device, Memory}
 
 -- the words of a selection aren't taken
 abbrev pub status_of_words : WordFault → ℕ

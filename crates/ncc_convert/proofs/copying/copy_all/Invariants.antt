@@ -1,4 +1,4 @@
-use Rattle.std.proofs.Common.{◌≡◌, ◌+◌, ◌≤◌, ◌-◌, max, ℕ, List, Option, length}
+use Rattle.std.proofs.Common.{◌≡◌, ◌+◌, ◌≤◌, ◌-◌, ℕ, List, Option, length}
 use Rattle.std.specs.Prelude.{false}
 use Rattle.ncc_layout.specs.Placed.{file_length_of}
 use Rattle.ncc_check.specs.Files.{ReadsFile, store_of, placed_of}

@@ -1,4 +1,4 @@
-use Rattle.std.proofs.Common.{◌≡◌, ◌+◌, ◌-◌, ◌≤◌, max, take}
+use Rattle.std.proofs.Common.{◌≡◌, ◌+◌, ◌-◌, ◌≤◌, take}
 use Rattle.std.specs.Prelude.{IsTrue, false}
 use Rattle.ncc_values.specs.XType.{size_of}
 use Rattle.ncc_values.specs.Values.{type_of, count_of}

@@ -1,4 +1,4 @@
-use Rattle.std.proofs.Common.{◌≡◌, ◌+◌, ◌-◌, ◌*◌, ◌≤◌, max, take}
+use Rattle.std.proofs.Common.{◌≡◌, ◌-◌, ◌*◌, ◌≤◌, take}
 use Rattle.std.specs.Prelude.{IsTrue, true}
 use Rattle.ncc_layout.specs.Placed.{file_length_of}
 use Rattle.ncc_check.specs.Files.{ReadsFile, store_of, placed_of}

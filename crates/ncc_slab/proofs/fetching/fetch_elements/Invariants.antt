@@ -1,4 +1,4 @@
-use Rattle.std.proofs.Common.{◌≡◌, ◌+◌, ◌-◌, ◌*◌, ◌<◌, ◌≤◌, max, map, take}
+use Rattle.std.proofs.Common.{◌≡◌, ◌+◌, ◌-◌, ◌*◌, ◌<◌, ◌≤◌, map, take}
 use Rattle.std.specs.Prelude.{IsTrue, true}
 use Rattle.std.specs.List.{range_with_len}
 use Rattle.ncc_layout.specs.Placed.{file_length_of}
