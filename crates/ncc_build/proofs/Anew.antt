@@ -128,6 +128,19 @@ fails_same s n Complete = ((λ h. h), (λ h. h))
 fails_same s n Device = ((λ h. h), (λ h. h))
 fails_same s n Memory = ((λ h. h), (λ h. h))
 
+-- a refusal of an item is one of the whole
+refusal_of_item : (S T : Type 0) (v : Version) (s : Schema) (n : ℕ) (one : Option WriteFault) (e : WriteFault) → refuses_schema v s ≡ one → IsJudged {T = S} one (Err e) → RebuildsAs {T = T} v s n (Err e)
+refusal_of_item S T v s n None e is memory = inl memory
+refusal_of_item S T v s n (Some f) e is (inl same) = inr (inl (is ∙ ap Some (sym same)))
+refusal_of_item S T v s n (Some f) e is (inr memory) = inl memory
+
+pub refused_by_item : (S : Type 0) {T : Type 0} (v w : Version) (s : Schema) (n : ℕ) (e : WriteFault) (r : Result T WriteFault) → w ≡ v → IsErrAnd r (λ y. y ≡ e)
+    → IsJudged {T = S} (refuses_schema w s) (Err e) → RebuildsAs v s n r
+refused_by_item S {T} v w s n e r same exit judged =
+    let p = err_from_is_err_and r exit in
+    let here : IsJudged {T = S} (refuses_schema v s) (Err e) = subst (λ (u : Version). IsJudged {T = S} (refuses_schema u s) (Err e)) same judged in
+    subst (RebuildsAs v s n) (sym (p.1 ∙ ap Err p.2)) (refusal_of_item S T v s n (refuses_schema v s) e refl here)
+
 -- all calls passed, and gave this schema
 module _ (v w : Version) (s now : Schema) (n : ℕ) (same : w ≡ v) (none : refuses_schema w s ≡ None)
     (grown : now ≡ with_count (with_version s w) 0) where

@@ -1,5 +1,7 @@
 -- A table of names.
-use Rattle.std.proofs.Common.{◌≡◌, ℕ, false, ◌&&◌, ◌||◌, List, [], ◌∷◌, ◌++◌, map, refl, ap, ◌∙◌, eqb, if◌then◌else◌}
+use Rattle.std.proofs.Common.{◌≡◌, ℕ, false, true, true≢false, ◌&&◌, ◌||◌, List, [], ◌∷◌, ◌++◌, map, refl, sym, ap, ◌∙◌, eqb, if◌then◌else◌, inl, inr}
+use Rattle.std.proofs.lemmas.Bool.{or_cases, or_parts}
+use Rattle.std.proofs.Math.Bool.{or-true}
 use Rattle.std.specs.List.{list_any}
 use Rattle.std.specs.Cmp.Lexicographic.{pointwise}
 use Rattle.std.proofs.lemmas.List.{map-append}
@@ -25,3 +27,21 @@ pub added_is : {K : Type 0} (items : K → List ℕ) (key : K) (keys after : Lis
     → is_duplicate_name (items key) (map items keys) ≡ false → map items after ≡ map items keys ++ items key ∷ []
 added_is items key keys after e none =
     ap (map items) (e ∙ ap (λ b. if b then keys else keys ++ key ∷ []) (found_is items (items key) keys ∙ none)) ∙ map-append items keys (key ∷ [])
+
+-- a name that isn't among the first is among all as it is among the others
+pub past_first : (name : List ℕ) (first others : List (List ℕ)) → list_any (pointwise eqb name) first ≡ false → is_duplicate_name name others ≡ is_duplicate_name name (first ++ others)
+past_first name [] others none = refl
+past_first name (x ∷ first) others none =
+    let p = or_parts (pointwise eqb name x) (list_any (pointwise eqb name) first) none in
+    past_first name first others p.1 ∙ ap (λ b. b || is_duplicate_name name (first ++ others)) (sym (sym (same_is name x) ∙ p.0))
+
+pub among_first : (name : List ℕ) (first others : List (List ℕ)) → list_any (pointwise eqb name) first ≡ true → is_duplicate_name name (first ++ others) ≡ true
+among_first name [] others here = absurd (true≢false (sym here))
+among_first name (x ∷ first) others here = elim (or_cases (pointwise eqb name x) (list_any (pointwise eqb name) first) here) [
+  | inl same_one ↦ ap (λ b. b || is_duplicate_name name (first ++ others)) (sym (same_is name x) ∙ same_one)
+  | inr later ↦ ap (λ b. same name x || b) (among_first name first others later) ∙ or-true (same name x)
+]
+
+pub not_other : (name : List ℕ) (first others : List (List ℕ)) → is_duplicate_name name (first ++ others) ≡ false → is_duplicate_name name others ≡ false
+not_other name [] others none = none
+not_other name (x ∷ first) others none = not_other name first others (or_parts (same name x) (is_duplicate_name name (first ++ others)) none).1

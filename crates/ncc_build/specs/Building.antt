@@ -37,6 +37,7 @@ name_limit = 256
 abbrev pub is_bad_name : (fits : Bool) → (name : List ℕ) → Bool
 is_bad_name fits name = not fits || ltb name_limit (length name)
 
+-- the name is one of these
 abbrev pub is_duplicate_name : (name : List ℕ) → (names : List (List ℕ)) → Bool
 is_duplicate_name name names = list_any (same name) names
 

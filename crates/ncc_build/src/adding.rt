@@ -1,4 +1,4 @@
-//! An item goes to the end of its list, and its name into the table of the list's names.
+//! An item goes to the end of its list, and its name to the names of the list.
 
 ghost use Rattle.std.specs.Prelude.{◌≡◌, ◌<◌, [], ◌∷◌, ◌++◌, false, length, vec_len, IfOk, OnOk, OnErr};
 ghost use Rattle.ncc_values.specs.Values.{AreInRange};
@@ -8,7 +8,7 @@ ghost use Rattle.ncc_build.specs.Tables.{names_at, with_name};
 use crate::names::{Names, own_name};
 use crate::ranges::values_in_range;
 use ncc_schema::{Attr, Var};
-use ncc_values::{Seq, Values};
+use ncc_values::{Name, Seq, Values};
 use std::alloc::{AllocError, Global};
 use std::mem;
 
@@ -27,19 +27,20 @@ pub fn own_attr(alloc: Global, name: &[u8], values: Values) -> Result<Attr, Allo
 
 /// Adds an item and its name. After an error both lists are as they were.
 fn push_named<T: Drop>(
+    alloc: Global,
     items: &mut Vec<T>,
     item: T,
     names: &mut Names,
-    name: Vec<u8>,
+    name: Name,
 ) -> Result<(), AllocError>
-    requires { is_duplicate_name name.items names.old ≡ false }
+    requires { is_duplicate_name name names.old ≡ false }
     ensures item { OnOk result (items.new.items ≡ items.old.items ++ item ∷ []) }
-    ensures name { OnOk result (names.new ≡ names.old ++ name.items ∷ []) }
+    ensures name { OnOk result (names.new ≡ names.old ++ name ∷ []) }
     ensures items_stay { OnErr result (items.new.items ≡ items.old.items) }
     ensures names_stay { OnErr result (names.new ≡ names.old) }
 {
     items.reserve(1)?;
-    names.add(name)?;
+    names.add(alloc, name)?;
     items.push_reserved(item);
     Ok(())
 }
@@ -50,16 +51,16 @@ pub fn add_named<T: Drop>(
     items: &mut Seq<T>,
     item: T,
     names: &mut Names,
-    name: Vec<u8>,
+    name: Name,
 ) -> Result<(), AllocError>
-    requires { is_duplicate_name name.items names.old ≡ false }
+    requires { is_duplicate_name name names.old ≡ false }
     ensures item { OnOk result (items.new ≡ items.old ++ item ∷ []) }
-    ensures name { OnOk result (names.new ≡ names.old ++ name.items ∷ []) }
+    ensures name { OnOk result (names.new ≡ names.old ++ name ∷ []) }
     ensures items_stay { OnErr result (items.new ≡ items.old) }
     ensures names_stay { OnErr result (names.new ≡ names.old) }
 {
     let mut listed = mem::replace(items, Seq::new(alloc)).into_vec();
-    let added = push_named(&mut listed, item, names, name);
+    let added = push_named(alloc, &mut listed, item, names, name);
     *items = Seq::from_vec(listed);
     added
 }
@@ -71,13 +72,13 @@ pub fn add_to_var(
     var: usize,
     attr: Attr,
     tables: &mut Vec<Names>,
-    name: Vec<u8>,
+    name: Name,
 ) -> Result<(), AllocError>
     requires there { var < length vars.old }
     requires listed { var < vec_len tables.old }
-    requires fresh { is_duplicate_name name.items (names_at tables.old.items var) ≡ false }
+    requires fresh { is_duplicate_name name (names_at tables.old.items var) ≡ false }
     ensures attr { OnOk result (vars.new ≡ vars_with vars.old var attr.name attr.values) }
-    ensures name { OnOk result (tables.new.items ≡ with_name tables.old.items var name.items) }
+    ensures name { OnOk result (tables.new.items ≡ with_name tables.old.items var name) }
     ensures vars_stay { OnErr result (vars.new ≡ vars.old) }
     ensures names_stay { OnErr result (tables.new.items ≡ tables.old.items) }
 {

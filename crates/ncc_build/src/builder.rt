@@ -12,7 +12,7 @@ use crate::adding::{add_named, add_to_var, own_attr};
 use crate::built::Built;
 use crate::fault::WriteFault;
 use crate::judging::{exceeds_count_for_version, judge_attr, judge_ids, judge_kind, judge_name};
-use crate::names::{Names, listed_name, own_name};
+use crate::names::{Names, own_name};
 use ncc_layout::{PlanFault, standard};
 use ncc_schema::{Count, Dim, Schema, Var, limit_of_counts};
 use ncc_values::{Seq, Values, Version, XType};
@@ -124,7 +124,7 @@ impl SchemaBuilder {
         ensures added { OnOk result (schema_so_far self.new ≡ with_dim (schema_so_far self.old) name.now len) }
         ensures err { OnErr result (schema_so_far self.new ≡ schema_so_far self.old) }
     {
-        let listed = listed_name(self.alloc, name)?;
+        let listed = own_name(self.alloc, name)?;
         let dim = Dim {
             name: own_name(self.alloc, name)?,
             length: len,
@@ -173,7 +173,7 @@ impl SchemaBuilder {
         ensures added { OnOk result (schema_so_far self.new ≡ with_global (schema_so_far self.old) name.now values) }
         ensures err { OnErr result (schema_so_far self.new ≡ schema_so_far self.old) }
     {
-        let listed = listed_name(self.alloc, name)?;
+        let listed = own_name(self.alloc, name)?;
         let attr = own_attr(self.alloc, name, values)?;
         let tables = &mut self.tables;
         add_named(
@@ -227,7 +227,7 @@ impl SchemaBuilder {
             (schema_so_far self.new ≡ with_var (schema_so_far self.old) name.now xtype dims.now) }
         ensures err { OnErr result (schema_so_far self.new ≡ schema_so_far self.old) }
     {
-        let listed = listed_name(self.alloc, name)?;
+        let listed = own_name(self.alloc, name)?;
         let var = Var {
             name: own_name(self.alloc, name)?,
             dims: Seq::from_vec(Vec::from_slice(self.alloc, dims)?),
@@ -283,7 +283,7 @@ impl SchemaBuilder {
             (schema_so_far self.new ≡ with_attr (schema_so_far self.old) var name.now values) }
         ensures err { OnErr result (schema_so_far self.new ≡ schema_so_far self.old) }
     {
-        let listed = listed_name(self.alloc, name)?;
+        let listed = own_name(self.alloc, name)?;
         let attr = own_attr(self.alloc, name, values)?;
         let tables = &mut self.tables;
         add_to_var(

@@ -1,6 +1,8 @@
-//! The names of a list, in a table in which one is found at once.
+//! The names of a list: the first of them one after another, the others in a table.
 
-ghost use Rattle.std.specs.Prelude.{◌≡◌, [], ◌∷◌, ◌++◌, false, IfOk, OnOk, OnErr};
+ghost use Rattle.std.specs.Prelude.{◌≡◌, ◌<◌, [], ◌∷◌, ◌++◌, false, eqb, length, IfOk, OnOk, OnErr};
+ghost use Rattle.std.specs.Cmp.Lexicographic.{pointwise};
+ghost use Rattle.std.specs.List.{list_any};
 ghost use Rattle.ncc_values.specs.Numbers.{IsBytes};
 ghost use Rattle.ncc_build.specs.Building.{is_duplicate_name};
 
@@ -10,18 +12,30 @@ use ncc_values::Name;
 use std::alloc::{AllocError, Global};
 use std::marker::Model;
 
-/// The names of a list, in its order.
+/// How many names are looked through one by one, at most.
+const FIRST: usize = 32;
+
+/// The names of a list, in its order: the first of them, and a table of the others.
 #[derive(Drop)]
 pub struct Names {
-    table: IndexSet<Vec<u8>>,
+    first: Vec<Name>,
+    others: IndexSet<Vec<u8>>,
+    ghost full: { length first.items < 32 → others.keys ≡ [] },
 }
 
 impl Model for Names {
-    ghost use Rattle.std.specs.Prelude.{ℕ, List, map};
+    ghost use Rattle.std.specs.Prelude.{ℕ, ◌++◌, List, map};
 
     ghost Value = { List (List ℕ) };
 
-    ghost view = { λ n. map (λ k. k.items) n.table.keys };
+    ghost view = { λ n. n.first.items ++ map (λ k. k.items) n.others.keys };
+}
+
+/// Is the name one of these?
+fn is_one_of(names: &[Name], name: &[u8]) -> bool
+    ensures { result ≡ list_any (pointwise eqb name.now) names.now }
+{
+    names.iter().any(|other| name == other.as_slice())
 }
 
 impl Names {
@@ -30,7 +44,8 @@ impl Names {
         ensures { result ≡ [] }
     {
         Names {
-            table: IndexSet::new(alloc),
+            first: Vec::new(alloc),
+            others: IndexSet::new(alloc),
         }
     }
 
@@ -38,27 +53,23 @@ impl Names {
     pub fn has(&self, name: &[u8]) -> bool
         ensures { result ≡ is_duplicate_name name.now self.now }
     {
-        self.table.contains(name)
+        is_one_of(&self.first, name) || self.others.contains(name)
     }
 
     /// Adds a name that isn't there yet. After an error they are as they were.
-    pub fn add(&mut self, name: Vec<u8>) -> Result<(), AllocError>
-        requires { is_duplicate_name name.items self.old ≡ false }
-        ensures ok { OnOk result (self.new ≡ self.old ++ name.items ∷ []) }
+    pub fn add(&mut self, alloc: Global, name: Name) -> Result<(), AllocError>
+        requires { is_duplicate_name name self.old ≡ false }
+        ensures ok { OnOk result (self.new ≡ self.old ++ name ∷ []) }
         ensures err { OnErr result (self.new ≡ self.old) }
     {
-        self.table.insert(name)?;
+        if self.first.len() < FIRST {
+            self.first.push(name)?;
+            return Ok(());
+        }
+        self.others
+            .insert(Vec::from_slice(alloc, name.as_slice())?)?;
         Ok(())
     }
-}
-
-/// The same name, as a table keeps it.
-pub fn listed_name(alloc: Global, name: &[u8]) -> Result<Vec<u8>, AllocError>
-    ensures same { IfOk result (λ v. v.items ≡ name.now) }
-    ensures bytes { IsBytes name.now }
-{
-    all_in_range(name);
-    Vec::from_slice(alloc, name)
 }
 
 /// The same name, as an item has it.

@@ -44,10 +44,3 @@ no_sizes h file (Fault (OfHeader f)) refused = absurd refused
 no_sizes h file (Fault (OfLayout f)) refused = refused.1
 no_sizes h file Device refused = absurd refused
 no_sizes h file Memory refused = tt
-
--- else these are
-pub these_sizes : (h : Header) (r : Refusal) (z : Sizes) → AreSizes h.schema z → KnowsSizes h r (Some z)
-these_sizes h (Fault (OfHeader f)) z are = tt
-these_sizes h (Fault (OfLayout f)) z are = are
-these_sizes h Device z are = tt
-these_sizes h Memory z are = tt

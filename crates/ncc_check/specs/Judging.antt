@@ -4,6 +4,7 @@ use Rattle.ncc_schema.specs.declared.schema.Header.{Header}
 use Rattle.ncc_schema.specs.Schema.{places_of}
 use Rattle.ncc_layout.specs.declared.fault.LayoutFaultKind.TheVariants.{TooLarge}
 use Rattle.ncc_layout.specs.declared.placed_file.Placed.{Placed}
+use Rattle.ncc_layout.specs.Extents.{record_count}
 use Rattle.ncc_layout.specs.Rules.{IsPlaced}
 use Rattle.ncc_layout.specs.Placed.{Holds}
 use Rattle.ncc_check.specs.declared.fault.FileFault.TheVariants.{Header as OfHeader, Layout as OfLayout}
@@ -29,3 +30,8 @@ RefusesSizes h file Memory = Unit {0}
 abbrev pub LaysOut : Header → (file : ℕ) → Result Placed Refusal → Type 0
 LaysOut h file (Ok p) = IsPlaced h.schema (places_of h.places) h.length file × Holds h.schema (places_of h.places) h.length file p
 LaysOut h file (Err r) = RefusedLayout h file r
+
+-- its variables keep all rules, and there are so many records
+abbrev pub CountsRecords : Header → (file : ℕ) → Result ℕ Refusal → Type 0
+CountsRecords h file (Ok n) = IsPlaced h.schema (places_of h.places) h.length file × (n ≡ record_count h.schema (places_of h.places) file)
+CountsRecords h file (Err r) = RefusedLayout h file r

@@ -6,18 +6,18 @@ ghost use Rattle.ncc_check.specs.Passes.{HasOwnElements};
 ghost use Rattle.ncc_check.specs.Checks.{Checks, CountsAs, Reports};
 ghost use Rattle.ncc_check.specs.Examining.{AreBegun, Examines, UnsoundCounts};
 ghost use Rattle.ncc_check.specs.FromStore.{calls_for, IsBegun, ReadsFew};
-ghost use Rattle.ncc_layout.specs.Placed.{Holds, records_of_file};
+ghost use Rattle.ncc_layout.specs.Extents.{record_count};
 ghost use Rattle.ncc_layout.specs.Sizes.{AreSizes};
 ghost use Rattle.ncc_schema.specs.Schema.{places_of};
 ghost use Rattle.ncc_schema.specs.declared.schema.Header.{Header as TheHeader};
 
-use crate::examining::{Found, Unsound, examine};
+use crate::examining::{CountedFile, Unsound, judge};
 use crate::fault::Refusal;
 use crate::laws::passing_elements_are_apart;
 use crate::notes::notes_of;
 use crate::report::Report;
 use ncc_header::Header;
-use ncc_layout::{Placed, Sizes};
+use ncc_layout::Sizes;
 use ncc_store::Store;
 use ncc_values::Seq;
 use std::alloc::{AllocError, Global};
@@ -30,26 +30,18 @@ pub struct Checked {
     pub report: Report,
 }
 
-/// The number of records. The places are dropped: the notes don't need them.
-fn records_of(placed: Placed) -> u64
-    ensures { result ≡ records_of_file placed }
-{
-    placed.records()
-}
-
-/// The report of a file with this header, whose variables are at these places.
+/// The report of a file with this header and so many records.
 fn report_of(
     alloc: Global,
     header: &Header,
     sizes: &Sizes,
-    placed: Placed,
+    records: u64,
 ) -> Result<Report, AllocError>
     requires begun { IsBegun header.now }
     requires sizes { AreSizes header.now.schema sizes.now }
     ensures { IfOk result (λ r. (file : ℕ)
-        → Holds header.now.schema (places_of header.now.places) header.now.length file placed → Reports header.now file r) }
+        → records ≡ record_count header.now.schema (places_of header.now.places) file → Reports header.now file r) }
 {
-    let records = records_of(placed);
     let notes = notes_of(alloc, header, sizes)?;
     Ok(Report {
         version: header.schema.version,
@@ -73,9 +65,9 @@ pub fn check_with_header<S: Store>(
         (calls_for (length (S.bytes store.old)) limit) limit }
     ensures settled { IsTrue S.tells_bytes → ReadsFew S.Store store.old store.new (S.bytes store.old) limit 1 }
 {
-    let found = examine(alloc, store, limit)?;
+    let found = judge(alloc, store, limit)?;
     let (header, sizes) = (found.header, found.sizes);
-    let Ok(report) = report_of(alloc, &header, &sizes, found.placed) else {
+    let Ok(report) = report_of(alloc, &header, &sizes, found.records) else {
         return Err(Unsound::Memory);
     };
     Ok(Checked {
@@ -98,10 +90,10 @@ pub fn check<S: Store>(alloc: Global, store: &mut S, limit: u64) -> Result<Repor
     ensures settled { IsTrue S.tells_bytes → ReadsFew S.Store store.old store.new (S.bytes store.old) limit 1 }
 {
     passing_elements_are_apart();
-    let Found {
+    let CountedFile {
         header,
         sizes,
-        placed,
-    } = examine(alloc, store, limit)?;
-    Ok(report_of(alloc, &header, &sizes, placed)?)
+        records,
+    } = judge(alloc, store, limit)?;
+    Ok(report_of(alloc, &header, &sizes, records)?)
 }

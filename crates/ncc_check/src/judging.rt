@@ -3,11 +3,13 @@
 ghost use Rattle.std.specs.Prelude.{◌≡◌, ◌<◌, ℕ, [], length, IfErr, IfOk, IsOk};
 ghost use Rattle.ncc_schema.specs.Schema.{places_of, Legal};
 ghost use Rattle.ncc_layout.specs.Sizes.{AreSizes, FirstTooLarge};
-ghost use Rattle.ncc_check.specs.Judging.{LaysOut, RefusesSizes};
+ghost use Rattle.ncc_check.specs.Judging.{CountsRecords, LaysOut, RefusesSizes};
 
 use crate::fault::{FileFault, Refusal};
 use ncc_header::Header;
-use ncc_layout::{LayoutFaultKind, PlaceError, Placed, SizeError, Sizes, fault_at, placed, sizes};
+use ncc_layout::{
+    LayoutFaultKind, PlaceError, Placed, SizeError, Sizes, fault_at, placed, placed_records, sizes,
+};
 use std::alloc::Global;
 
 /// The variable of this number is too large.
@@ -31,6 +33,24 @@ pub fn sizes_of(alloc: Global, header: &Header) -> Result<Sizes, Refusal>
         Ok(found) => Ok(found),
         Err(SizeError::TooLarge(number)) => Err(too_large(header, number)),
         Err(SizeError::Memory) => Err(Refusal::Memory),
+    }
+}
+
+/// The number of records of a header in a file of this length, if every element has its place.
+pub fn record_count_of(
+    alloc: Global,
+    header: &Header,
+    found: &Sizes,
+    file_length: u64,
+) -> Result<u64, Refusal>
+    requires legal { Legal header.now.schema (places_of header.now.places) }
+    requires sizes { AreSizes header.now.schema found.now }
+    ensures { CountsRecords header.now file_length result }
+{
+    match placed_records(alloc, header, found, file_length) {
+        Ok(records) => Ok(records),
+        Err(PlaceError::Fault(fault)) => Err(Refusal::Fault(FileFault::Layout(fault))),
+        Err(PlaceError::Memory) => Err(Refusal::Memory),
     }
 }
 

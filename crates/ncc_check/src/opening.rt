@@ -7,7 +7,7 @@ ghost use Rattle.ncc_check.specs.Checks.{Refuses, RefusalCounts, Opens, StandsIn
 ghost use Rattle.ncc_check.specs.FromStore.{calls_for, ReadsFew};
 ghost use Rattle.ncc_check.specs.Files.{store_of, schema_of, placed_of, must_reopen};
 
-use crate::examining::{Found, examine};
+use crate::examining::{PlacedFile, examine};
 use crate::fault::Refusal;
 use crate::file::NcFile;
 use crate::laws::passing_elements_are_apart;
@@ -38,7 +38,7 @@ pub fn open<S: Store>(alloc: Global, store: S, limit: u64) -> Result<NcFile<S>, 
     let mut store = store;
     match examine(alloc, &mut store, limit) {
         Ok(
-            Found {
+            PlacedFile {
                 header,
                 sizes: _,
                 placed,

@@ -278,14 +278,18 @@ module _ (s : Schema) (places : List Place) (header file : ℕ) (es : List Exten
       ∙ ap (placed_on s.dims (record_count s places file) s.vars) is
       ∙ placed_same s.dims (record_count s places file) 0 s.vars places
 
-  pub laid_so : (found : Option (LayoutFaultKind × ℕ)) → Judged f.header_length f.file_length f.record_size f.records es found → found ≡ None
+  pub laid_so : Rules header file (record_size_of s) (record_count s places file) (extents_of s places)
       → AreLaid f.header_length f.file_length f.record_size f.records (placed_on s.dims f.records s.vars es)
-  laid_so found h none =
-      let rules : Rules f.header_length f.file_length f.record_size f.records (extents_of s places) =
-      subst (Rules f.header_length f.file_length f.record_size f.records) is (subst (Judged f.header_length f.file_length f.record_size f.records es) none h) in
-      let all = laid f.header_length f.file_length f.record_size f.records s places rules in
+  laid_so rules =
+      let xs = extents_of s places in
+      let own : Rules f.header_length f.file_length f.record_size f.records xs =
+      subst (λ (n : ℕ). Rules n f.file_length f.record_size f.records xs) (sym frame.header_is)
+      (subst (λ (n : ℕ). Rules header n f.record_size f.records xs) (sym frame.length_is)
+      (subst (λ (n : ℕ). Rules header file n f.records xs) (sym frame.size_is)
+      (subst (λ (n : ℕ). Rules header file (record_size_of s) n xs) (sym frame.records_are) rules))) in
       subst (AreLaid f.header_length f.file_length f.record_size f.records)
-      (sym (ap (placed_on s.dims f.records s.vars) is ∙ placed_same s.dims f.records 0 s.vars places)) all
+      (sym (ap (placed_on s.dims f.records s.vars) is ∙ placed_same s.dims f.records 0 s.vars places))
+      (laid f.header_length f.file_length f.record_size f.records s places own)
 
   pub sized_so : length places ≡ length s.vars → NoneTooLarge s.dims s.vars → AreSized f.record_size (placed_on s.dims f.records s.vars es)
   sized_so long fit =

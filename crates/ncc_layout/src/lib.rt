@@ -23,7 +23,7 @@ pub use extent::Extent;
 pub use fault::{LayoutFault, LayoutFaultKind, PlaceError, SizeError};
 pub use placed_file::Placed;
 pub use placed_var::PlacedVar;
-pub use placing::{fault_at, placed};
+pub use placing::{fault_at, placed, placed_records};
 pub use plan_fault::PlanFault;
 pub use planning::{records_begin, standard};
 pub use records::next_count;

@@ -5,7 +5,7 @@ ghost use Rattle.ncc_schema.specs.Schema.{places_of, LegalDims, Sound, Legal};
 ghost use Rattle.ncc_layout.specs.Sizes.{AreSizes};
 ghost use Rattle.ncc_layout.specs.Extents.{extents_of};
 ghost use Rattle.ncc_layout.specs.Elements.{shape, placed_on, AreSized};
-ghost use Rattle.ncc_layout.specs.Placed.{fault_at, IsFrame, IsLaid, HasLaid, PlacedAs};
+ghost use Rattle.ncc_layout.specs.Placed.{fault_at, IsFrame, IsLaid, HasLaid, HasLayout, RecordsAs, PlacedAs};
 
 use crate::extent::Extent;
 use crate::fault::{LayoutFault, LayoutFaultKind, PlaceError};
@@ -30,7 +30,7 @@ fn extents_of(alloc: Global, header: &Header, sizes: &Sizes) -> Result<Vec<Exten
     let vars = header.schema.vars.as_slice();
     let places = header.places.as_slice();
     let slabs = sizes.slabs.as_slice();
-    let mut extents = Vec::new(alloc);
+    let mut extents = Vec::with_capacity(alloc, vars.len())?;
     for variable in 0..vars.len() {
         extents.push(Extent {
             begin: places[variable].begin,
@@ -135,6 +135,37 @@ fn lay(
     ))
 }
 
+/// The extents of a file that keeps all rules, and the numbers by which they were judged.
+#[derive(Drop)]
+struct Layout {
+    extents: Vec<Extent>,
+    frame: Frame,
+}
+
+/// Judges the extents of a file of this length.
+fn layout_of(
+    alloc: Global,
+    header: &Header,
+    sizes: &Sizes,
+    file_length: u64,
+) -> Result<Layout, PlaceError>
+    requires legal { Legal header.now.schema (places_of header.now.places) }
+    requires sizes { AreSizes header.now.schema sizes.now }
+    ensures layout { HasLayout header.now.schema header.now.places header.now.length file_length result }
+    ensures none { header.now.schema.vars ≡ [] → result ≢ Err PlaceError.Memory }
+{
+    let extents = extents_of(alloc, header, sizes)?;
+    let frame = frame_of(header, sizes, &extents, file_length);
+    match first_fault(alloc, &extents, frame)? {
+        Some((kind, variable)) => Err(PlaceError::Fault(fault_at(
+            header.places.as_slice(),
+            kind,
+            variable,
+        ))),
+        None => Ok(Layout { extents, frame }),
+    }
+}
+
 /// The variables of a file of this length at their places, or the first layout fault.
 pub fn placed(
     alloc: Global,
@@ -147,14 +178,23 @@ pub fn placed(
     ensures placed { PlacedAs header.now.schema header.now.places header.now.length file_length result }
     ensures none { header.now.schema.vars ≡ [] → result ≢ Err PlaceError.Memory }
 {
-    let extents = extents_of(alloc, header, sizes)?;
-    let frame = frame_of(header, sizes, &extents, file_length);
-    match first_fault(alloc, &extents, frame)? {
-        Some((kind, variable)) => Err(PlaceError::Fault(fault_at(
-            header.places.as_slice(),
-            kind,
-            variable,
-        ))),
-        None => Ok(lay(alloc, &header.schema, &extents, frame)?),
-    }
+    let Layout { extents, frame } = layout_of(alloc, header, sizes, file_length)?;
+    Ok(lay(alloc, &header.schema, &extents, frame)?)
+}
+
+/// The number of records of a file of this length, or the first layout fault, as `placed` finds it. It makes no list of
+/// the variables at their places.
+pub fn placed_records(
+    alloc: Global,
+    header: &Header,
+    sizes: &Sizes,
+    file_length: u64,
+) -> Result<u64, PlaceError>
+    requires legal { Legal header.now.schema (places_of header.now.places) }
+    requires sizes { AreSizes header.now.schema sizes.now }
+    ensures records { RecordsAs header.now.schema header.now.places header.now.length file_length result }
+    ensures none { header.now.schema.vars ≡ [] → result ≢ Err PlaceError.Memory }
+{
+    let layout = layout_of(alloc, header, sizes, file_length)?;
+    Ok(layout.frame.records)
 }

@@ -128,7 +128,7 @@ fn note_duplicate_names_by_table(
         (Below (DuplicateNameNote (names_in named.now) (offsets_in named.now)) (length named.now))
         notes.old.items notes.new.items) }
 {
-    let mut seen: IndexSet<&[u8]> = IndexSet::new(alloc);
+    let mut seen: IndexSet<&[u8]> = IndexSet::with_capacity(alloc, named.len())?;
     for i in 0..named.len() {
         let (_, is_new) = seen.insert_full(named[i].name)?;
         note_if(notes, !is_new, NoteKind::DuplicateName, named[i].at)?;

@@ -12,5 +12,5 @@ returns-clause-attr c =
 pub returns-clause-name : goal.returns-clause-name
 returns-clause-name c =
     on_ok c.add_named-added.result _ _
-    (names_written c.args.tables.now.items c.args.var c.index_mut-2.result.now c.add_named-added.new.names c.args.name.items (omega (arith, c.requires.listed, c.args.tables.now.ok.0)) c.index_mut-2.ensures.value)
+    (names_written c.args.tables.now.items c.args.var c.index_mut-2.result.now c.add_named-added.new.names c.args.name (omega (arith, c.requires.listed, c.args.tables.now.ok.0)) c.index_mut-2.ensures.value)
     c.add_named-added.ensures.name

@@ -1,4 +1,3 @@
-use Rattle.ncc_layout.specs.Placed.{file_length_of}
 use Rattle.ncc_check.proofs.checking.check_with_header.Goals as goal
 
 pub returns-clause-examines : goal.returns-clause-examines
@@ -6,7 +5,7 @@ returns-clause-examines g c = λ told.
     let found = c.in_ok-found.ensures.finds told in
     record {
       passes = found.passes;
-      reports = c.in-Ok.ensures _ found.holds;
+      reports = c.in-Ok.ensures _ found.records_are;
       sizes = c.in_ok-found.ensures.sizes;
     }
 
@@ -14,5 +13,5 @@ pub returns-clause-begun : goal.returns-clause-begun
 returns-clause-begun g c = (
   c.in_ok-found.ensures.begun,
   c.in_ok-found.ensures.sizes,
-  (file_length_of c.in_ok-found.found.placed, c.in-Ok.ensures _ c.in_ok-found.ensures.laid),
+  (c.in_ok-found.ensures.counted.0, c.in-Ok.ensures _ c.in_ok-found.ensures.counted.1),
 )

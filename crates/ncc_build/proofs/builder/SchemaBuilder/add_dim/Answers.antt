@@ -11,7 +11,7 @@ invariant_of-self-then-len-eq0-clause-built c =
     let own = c.in_ok-own_name.field-0 in
     still_built s (with_dim s c.args.name.now c.args.len) _ c.args.self.now.built
     (dims_grown s c.args.name.now own c.args.len c.add_named.new.items c.in_ok-add_named.ensures.item c.in_ok-own_name.ensures.same)
-    (λ b. built_with_dim s c.args.name.now c.args.len b c.requires.fits c.listed_name.ensures.bytes c.requires.passes)
+    (λ b. built_with_dim s c.args.name.now c.args.len b c.requires.fits c.own_name.ensures.bytes c.requires.passes)
 
 pub invariant_of-self-then-len-eq0-clause-record_dim : goal.invariant_of-self-then-len-eq0-clause-record_dim
 invariant_of-self-then-len-eq0-clause-record_dim c =
@@ -21,7 +21,7 @@ pub invariant_of-self-then-len-eq0-clause-dims_named : goal.invariant_of-self-th
 invariant_of-self-then-len-eq0-clause-dims_named c =
     let s = c.args.self.now.schema in
     let d : Dim = record { name = c.in_ok-own_name.field-0; length = c.args.len } in
-    names_grown (λ (x : Dim). x.name) s.dims c.add_named.new.items d c.args.self.now.tables.dims c.add_named.new.names c.in_ok-listed.listed.items c.args.self.now.dims_named
+    names_grown (λ (x : Dim). x.name) s.dims c.add_named.new.items d c.args.self.now.tables.dims c.add_named.new.names c.in_ok-listed.listed c.args.self.now.dims_named
     c.in_ok-add_named.ensures.name c.in_ok-add_named.ensures.item (c.in_ok-listed.ensures.same ∙ sym c.in_ok-own_name.ensures.same)
 
 pub invariant_of-self-else-len-eq0-clause-built : goal.invariant_of-self-else-len-eq0-clause-built
@@ -30,7 +30,7 @@ invariant_of-self-else-len-eq0-clause-built c =
     let own = c.in_ok-own_name.field-0 in
     still_built s (with_dim s c.args.name.now c.args.len) _ c.args.self.now.built
     (dims_grown s c.args.name.now own c.args.len c.add_named.new.items c.in_ok-add_named.ensures.item c.in_ok-own_name.ensures.same)
-    (λ b. built_with_dim s c.args.name.now c.args.len b c.requires.fits c.listed_name.ensures.bytes c.requires.passes)
+    (λ b. built_with_dim s c.args.name.now c.args.len b c.requires.fits c.own_name.ensures.bytes c.requires.passes)
 
 pub invariant_of-self-else-len-eq0-clause-record_dim : goal.invariant_of-self-else-len-eq0-clause-record_dim
 invariant_of-self-else-len-eq0-clause-record_dim c =
@@ -41,5 +41,5 @@ pub invariant_of-self-else-len-eq0-clause-dims_named : goal.invariant_of-self-el
 invariant_of-self-else-len-eq0-clause-dims_named c =
     let s = c.args.self.now.schema in
     let d : Dim = record { name = c.in_ok-own_name.field-0; length = c.args.len } in
-    names_grown (λ (x : Dim). x.name) s.dims c.add_named.new.items d c.args.self.now.tables.dims c.add_named.new.names c.in_ok-listed.listed.items c.args.self.now.dims_named
+    names_grown (λ (x : Dim). x.name) s.dims c.add_named.new.items d c.args.self.now.tables.dims c.add_named.new.names c.in_ok-listed.listed c.args.self.now.dims_named
     c.in_ok-add_named.ensures.name c.in_ok-add_named.ensures.item (c.in_ok-listed.ensures.same ∙ sym c.in_ok-own_name.ensures.same)

@@ -13,13 +13,13 @@ invariant_of-self-clause-built c =
     on_either c.add_named.result _ _ _ _ _ e.item e.name e.items_stay e.names_stay
     (λ item named. still_built s (with_global s name c.args.values) _ c.args.self.now.built
     (globals_grown s name c.args.values c.in_ok-attr.attr c.add_named.new.items item c.in_ok-attr.ensures.name c.in_ok-attr.ensures.values)
-    (λ b. built_with_global s name c.args.values b c.requires.fits c.listed_name.ensures.bytes c.in_ok-attr.ensures.range c.requires.passes))
+    (λ b. built_with_global s name c.args.values b c.requires.fits c.own_name.ensures.bytes c.in_ok-attr.ensures.range c.requires.passes))
     (λ item named. built_unmoved s _ c.args.self.now.built (globals_unmoved s c.add_named.new.items item))
 
 pub invariant_of-self-clause-globals_named : goal.invariant_of-self-clause-globals_named
 invariant_of-self-clause-globals_named c =
     let e = c.add_named.ensures in
     on_either c.add_named.result _ _ _ _ _ e.item e.name e.items_stay e.names_stay
-    (λ item named. names_grown (λ (a : Attr). a.name) c.args.self.now.schema.gatts c.add_named.new.items c.in_ok-attr.attr c.args.self.now.tables.globals c.add_named.new.names c.in_ok-listed.listed.items
+    (λ item named. names_grown (λ (a : Attr). a.name) c.args.self.now.schema.gatts c.add_named.new.items c.in_ok-attr.attr c.args.self.now.tables.globals c.add_named.new.names c.in_ok-listed.listed
     c.args.self.now.globals_named named item (c.in_ok-listed.ensures.same ∙ sym c.in_ok-attr.ensures.name))
     (λ item named. named ∙ c.args.self.now.globals_named ∙ ap (map (λ (a : Attr). a.name)) (sym item))

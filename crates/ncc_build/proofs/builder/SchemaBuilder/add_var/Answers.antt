@@ -12,12 +12,12 @@ invariant_of-self-2-clause-built c =
     let x : Var = record { name = c.in_ok-own_name.field-0; dims = c.from_vec.result; attrs = c.new.result; xtype = c.args.xtype } in
     still_built s (with_var s name c.args.xtype c.args.dims.now) _ c.args.self.now.built
     (vars_grown s name c.args.xtype c.args.dims.now x c.add_named.new.items c.in_ok-add_named.ensures.item c.in_ok-own_name.ensures.same (c.from_vec.ensures ∙ c.in_ok-from_slice.ensures.items) c.new.ensures refl)
-    (λ b. built_with_var s name c.args.xtype c.args.dims.now b c.requires.fits c.listed_name.ensures.bytes c.requires.passes)
+    (λ b. built_with_var s name c.args.xtype c.args.dims.now b c.requires.fits c.own_name.ensures.bytes c.requires.passes)
 
 pub invariant_of-self-2-clause-vars_named : goal.invariant_of-self-2-clause-vars_named
 invariant_of-self-2-clause-vars_named c =
     let x : Var = record { name = c.in_ok-own_name.field-0; dims = c.from_vec.result; attrs = c.new.result; xtype = c.args.xtype } in
-    names_grown (λ (y : Var). y.name) c.args.self.now.schema.vars c.add_named.new.items x c.args.self.now.tables.vars c.add_named.new.names c.in_ok-listed.listed.items
+    names_grown (λ (y : Var). y.name) c.args.self.now.schema.vars c.add_named.new.items x c.args.self.now.tables.vars c.add_named.new.names c.in_ok-listed.listed
     c.args.self.now.vars_named c.in_ok-add_named.ensures.name c.in_ok-add_named.ensures.item (c.in_ok-listed.ensures.same ∙ sym c.in_ok-own_name.ensures.same)
 
 pub invariant_of-self-2-clause-attrs_named : goal.invariant_of-self-2-clause-attrs_named
