@@ -1,8 +1,6 @@
 -- Why a file doesn't pass, without its header.
-use Rattle.std.proofs.Common.{◌≡◌, ℕ, List, Some, None, sym, subst, refl}
+use Rattle.std.proofs.Common.{◌≡◌, ℕ, List, None, sym, subst, refl}
 use Rattle.ncc_schema.specs.declared.schema.Header.{Header}
-use Rattle.ncc_layout.specs.declared.size_list.Sizes.{Sizes}
-use Rattle.ncc_layout.specs.Sizes.{AreSizes}
 use Rattle.ncc_check.specs.declared.fault.FileFault.TheVariants.{Header as OfHeader, Layout as OfLayout}
 use Rattle.ncc_check.specs.declared.examining.Unsound.{Unsound}
 use Rattle.ncc_check.specs.declared.examining.Unsound.TheVariants as of
