@@ -1,12 +1,12 @@
 -- A table of names.
-use Rattle.std.proofs.Common.{◌≡◌, ℕ, false, true, true≢false, ◌&&◌, ◌||◌, List, [], ◌∷◌, ◌++◌, map, refl, sym, ap, ◌∙◌, eqb, if◌then◌else◌, inl, inr}
-use Rattle.std.proofs.lemmas.Bool.{or_cases, or_parts}
+use Rattle.std.proofs.Common.{◌≡◌, ℕ, false, true, true≢false, ◌&&◌, ◌||◌, ◌+◌, ◌<◌, ◌≤◌, ◌⊎◌, arith, length, get_or, take, List, [], ◌∷◌, ◌++◌, map, refl, sym, ap, ◌∙◌, eqb, if◌then◌else◌, inl, inr}
+use Rattle.std.proofs.lemmas.Bool.{cases_lt, or_cases, or_parts}
 use Rattle.std.proofs.Math.Bool.{or-true}
 use Rattle.std.specs.List.{list_any}
 use Rattle.std.specs.Cmp.Lexicographic.{pointwise}
-use Rattle.std.proofs.lemmas.List.{map-append}
+use Rattle.std.proofs.lemmas.List.{map-append, length-append, get_or_append_left, get_or_push, take-append-le, take_all}
 use Rattle.ncc_build.specs.Fill.{same}
-use Rattle.ncc_build.specs.Building.{is_duplicate_name}
+use Rattle.ncc_build.specs.Building.{AreApart, is_duplicate_name}
 
 pub same_is : (xs ys : List ℕ) → pointwise eqb xs ys ≡ same xs ys
 same_is [] [] = refl
@@ -45,3 +45,29 @@ among_first name (x ∷ first) others here = elim (or_cases (pointwise eqb name 
 pub not_other : (name : List ℕ) (first others : List (List ℕ)) → is_duplicate_name name (first ++ others) ≡ false → is_duplicate_name name others ≡ false
 not_other name [] others none = none
 not_other name (x ∷ first) others none = not_other name first others (or_parts (same name x) (is_duplicate_name name (first ++ others)) none).1
+
+pub not_first : (name : List ℕ) (first others : List (List ℕ)) → is_duplicate_name name (first ++ others) ≡ false → is_duplicate_name name first ≡ false
+not_first name [] others none = refl
+not_first name (x ∷ first) others none =
+    let p = or_parts (same name x) (is_duplicate_name name (first ++ others)) none in
+    ap (λ b. b || is_duplicate_name name first) p.0 ∙ not_first name first others p.1
+
+-- ---- names of which none comes again
+
+pub none_apart : AreApart []
+none_apart k below = absurd (omega (arith, below))
+
+pub apart_more : (names : List (List ℕ)) (name : List ℕ) → AreApart names → is_duplicate_name name names ≡ false → AreApart (names ++ name ∷ [])
+apart_more names name apart none k below = by (cases_lt k (length names))
+  where
+    by : (k < length names) ⊎ (length names ≤ k) → is_duplicate_name (get_or (names ++ name ∷ []) k []) (take k (names ++ name ∷ [])) ≡ false
+    by (inl less) =
+        ap (λ (n : List ℕ). is_duplicate_name n (take k (names ++ name ∷ []))) (get_or_append_left names (name ∷ []) k [] less)
+        ∙ ap (is_duplicate_name (get_or names k [])) (take-append-le k names (name ∷ []) (omega (arith, less)))
+        ∙ apart k less
+    by (inr le) =
+        let last : k ≡ length names = omega (arith, le, below, length-append names (name ∷ [])) in
+        ap (λ (n : ℕ). is_duplicate_name (get_or (names ++ name ∷ []) n []) (take n (names ++ name ∷ []))) last
+        ∙ ap (λ (n : List ℕ). is_duplicate_name n (take (length names) (names ++ name ∷ []))) (get_or_push names name [])
+        ∙ ap (is_duplicate_name name) (take-append-le (length names) names (name ∷ []) (omega arith) ∙ take_all (length names) names (omega arith))
+        ∙ none

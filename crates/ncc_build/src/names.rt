@@ -1,10 +1,10 @@
-//! The names of a list: the first of them one after another, the others in a table.
+//! The names of a list: a few one after another, more in a table.
 
-ghost use Rattle.std.specs.Prelude.{◌≡◌, ◌<◌, [], ◌∷◌, ◌++◌, false, eqb, length, IfOk, OnOk, OnErr};
+ghost use Rattle.std.specs.Prelude.{◌≡◌, [], ◌∷◌, ◌++◌, false, eqb, map, IfOk, OnOk, OnErr};
 ghost use Rattle.std.specs.Cmp.Lexicographic.{pointwise};
 ghost use Rattle.std.specs.List.{list_any};
 ghost use Rattle.ncc_values.specs.Numbers.{IsBytes};
-ghost use Rattle.ncc_build.specs.Building.{is_duplicate_name};
+ghost use Rattle.ncc_build.specs.Building.{AreApart, is_duplicate_name};
 
 use crate::ranges::all_in_range;
 use indexmap::IndexSet;
@@ -13,14 +13,14 @@ use std::alloc::{AllocError, Global};
 use std::marker::Model;
 
 /// How many names are looked through one by one, at most.
-const FIRST: usize = 32;
+const FEW: usize = 32;
 
-/// The names of a list, in its order: the first of them, and a table of the others.
+/// The names of a list, in its order: a few, or else all of them in a table.
 #[derive(Drop)]
 pub struct Names {
-    first: Vec<Name>,
-    others: IndexSet<Vec<u8>>,
-    ghost full: { length first.items < 32 → others.keys ≡ [] },
+    few: Vec<Name>,
+    table: IndexSet<Vec<u8>>,
+    ghost apart: { AreApart few.items },
 }
 
 impl Model for Names {
@@ -28,7 +28,7 @@ impl Model for Names {
 
     ghost Value = { List (List ℕ) };
 
-    ghost view = { λ n. n.first.items ++ map (λ k. k.items) n.others.keys };
+    ghost view = { λ n. n.few.items ++ map (λ k. k.items) n.table.keys };
 }
 
 /// Is the name one of these?
@@ -38,14 +38,26 @@ fn is_one_of(names: &[Name], name: &[u8]) -> bool
     names.iter().any(|other| name == other.as_slice())
 }
 
+/// A table of these names.
+fn table_of(alloc: Global, names: &[Name]) -> Result<IndexSet<Vec<u8>>, AllocError>
+    requires { AreApart names.now }
+    ensures { IfOk result (λ table. map (λ k. k.items) table.keys ≡ names.now) }
+{
+    let mut table: IndexSet<Vec<u8>> = IndexSet::new(alloc);
+    for name in names {
+        table.insert(Vec::from_slice(alloc, name.as_slice())?)?;
+    }
+    Ok(table)
+}
+
 impl Names {
     /// No names. They will be kept in memory of the allocator.
     pub fn new(alloc: Global) -> Names
         ensures { result ≡ [] }
     {
         Names {
-            first: Vec::new(alloc),
-            others: IndexSet::new(alloc),
+            few: Vec::new(alloc),
+            table: IndexSet::new(alloc),
         }
     }
 
@@ -53,7 +65,20 @@ impl Names {
     pub fn has(&self, name: &[u8]) -> bool
         ensures { result ≡ is_duplicate_name name.now self.now }
     {
-        is_one_of(&self.first, name) || self.others.contains(name)
+        is_one_of(&self.few, name) || self.table.contains(name)
+    }
+
+    /// Moves the names into the table, once they aren't few any more.
+    fn move_few(&mut self, alloc: Global) -> Result<(), AllocError>
+        ensures { self.new ≡ self.old }
+    {
+        if self.few.len() < FEW || !self.table.is_empty() {
+            return Ok(());
+        }
+        let table = table_of(alloc, &self.few)?;
+        self.table = table;
+        self.few.clear();
+        Ok(())
     }
 
     /// Adds a name that isn't there yet. After an error they are as they were.
@@ -62,11 +87,12 @@ impl Names {
         ensures ok { OnOk result (self.new ≡ self.old ++ name ∷ []) }
         ensures err { OnErr result (self.new ≡ self.old) }
     {
-        if self.first.len() < FIRST {
-            self.first.push(name)?;
+        self.move_few(alloc)?;
+        if self.table.is_empty() {
+            self.few.push(name)?;
             return Ok(());
         }
-        self.others
+        self.table
             .insert(Vec::from_slice(alloc, name.as_slice())?)?;
         Ok(())
     }

@@ -205,8 +205,3 @@ pub record SameInOrder (notes ordered : List Note) : Type 0 where
 
 abbrev pub texts_of : List (Bor (List ℕ)) → List (List ℕ)
 texts_of keys = map (λ k. k.now) keys
-
--- the keys are the first names
-pub record Seen (names : List (List ℕ)) (i : ℕ) (keys : List (Bor (List ℕ))) : Type 0 where
-  pub in_table : (name : List ℕ) → IsDuplicate names i name → Contains (texts_of keys) name
-  pub from_names : (name : List ℕ) → Contains (texts_of keys) name → IsDuplicate names i name

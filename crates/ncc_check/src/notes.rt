@@ -12,6 +12,7 @@ mod naming;
 mod ordering;
 mod placing;
 mod pushing;
+mod slots;
 
 use crate::note::Note;
 use crate::notes::counting::{note_large_count, note_marks};

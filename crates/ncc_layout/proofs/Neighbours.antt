@@ -1,5 +1,6 @@
 -- Extents in order: the first that begins before the one before it ends is the first that shares a byte.
 use Rattle.std.proofs.Common.{ℕ, ◌<◌, ◌≤◌, List, [], ◌∷◌, refl, sym, ap, subst, arith, ◌⊎◌, inl, inr}
+use Rattle.std.specs.Prelude.{Contains}
 use Rattle.std.specs.List.{AllByRecursion}
 use Rattle.std.specs.List.Sorted.{IsPermutation}
 use Rattle.std.proofs.lemmas.Bool.{cases_lt}
@@ -93,7 +94,7 @@ shared_from d [] n bytes order h = absurd h
 shared_from d (e ∷ es) n bytes order (inl h) = subst (FirstShared (d ∷ e ∷ es)) h.1 (here d e es order bytes.0 h.0)
 shared_from d (e ∷ es) n bytes order (inr h) = further d e es order h.0 n (shared_from e es n bytes.1 order.1 h.1)
 
-abbrev ChainedFrom : Extent → List Extent → Type 0
+abbrev pub ChainedFrom : Extent → List Extent → Type 0
 ChainedFrom d [] = Unit {0}
 ChainedFrom d (e ∷ es) = (end d ≤ e.begin) × ChainedFrom e es
 
@@ -106,7 +107,7 @@ found d (e ∷ es) = by_order (cases_lt e.begin (end d)) (found e es)
     by_order (inr after) (inl chained) = inl (after, chained)
     by_order (inr after) (inr later) = inr (later.0, inr (after, later.1))
 
-chained_apart : (d : Extent) (es : List Extent) → InOrderFrom d es → ChainedFrom d es → (u v : Extent) → In (d ∷ es) u → In (d ∷ es) v → Before u v → Apart u v
+pub chained_apart : (d : Extent) (es : List Extent) → InOrderFrom d es → ChainedFrom d es → (u v : Extent) → In (d ∷ es) u → In (d ∷ es) v → Before u v → Apart u v
 chained_apart d [] order chained u v (inl same) (inl also) before = absurd (not_before_itself d (subst (λ (x : Extent). Before x d) (sym same) (subst (Before u) (sym also) before)))
 chained_apart d [] order chained u v (inl same) (inr k) before = absurd k
 chained_apart d [] order chained u v (inr h) k before = absurd h
@@ -123,7 +124,7 @@ inside_from d es n bytes order h = by_search (found d es)
 none_shared : (n : ℕ) → FirstShared [] n → ⊥
 none_shared n h = in_from_contains [] h.earlier h.earlier_there
 
-shared : (es : List Extent) (n : ℕ) → AllByRecursion (λ e. 0 < e.slab) es → InOrder es → FirstInside es n → FirstShared es n
+pub shared : (es : List Extent) (n : ℕ) → AllByRecursion (λ e. 0 < e.slab) es → InOrder es → FirstInside es n → FirstShared es n
 shared [] n bytes order h = absurd h
 shared (d ∷ es) n bytes order h = shared_from d es n bytes.1 order h
 
@@ -133,23 +134,27 @@ inside (d ∷ es) n bytes order h = inside_from d es n bytes.1 order h
 
 -- ---- in whatever order the list is
 
-moved_shared : (xs ys : List Extent) (n : ℕ) → IsPermutation xs ys → FirstShared xs n → FirstShared ys n
-moved_shared xs ys n moved f =
-    let back = IsPermutation-sym xs ys moved in
-    record {
-      earlier = f.earlier;
-      later = f.later;
-      earlier_there = Contains-permutation xs ys f.earlier moved f.earlier_there;
-      later_there = Contains-permutation xs ys f.later moved f.later_there;
-      number_is = f.number_is;
-      ordered = f.ordered;
-      shared = f.shared;
-      first = λ u v h k before last. f.first u v (Contains-permutation ys xs u back h) (Contains-permutation ys xs v back k) before last;
-    }
+pub moved_shared : (xs ys : List Extent) (n : ℕ) → ((e : Extent) → Contains xs e → Contains ys e) → ((e : Extent) → Contains ys e → Contains xs e) → FirstShared xs n → FirstShared ys n
+moved_shared xs ys n to back f = record {
+  earlier = f.earlier;
+  later = f.later;
+  earlier_there = to f.earlier f.earlier_there;
+  later_there = to f.later f.later_there;
+  number_is = f.number_is;
+  ordered = f.ordered;
+  shared = f.shared;
+  first = λ u v h k before last. f.first u v (back u h) (back v k) before last;
+}
 
 module _ (es sorted : List Extent) (n : ℕ) (bytes : AllByRecursion (λ e. 0 < e.slab) sorted) (moved : IsPermutation es sorted) (order : InOrder sorted) where
+  to : (e : Extent) → Contains es e → Contains sorted e
+  to e = Contains-permutation es sorted e moved
+
+  back : (e : Extent) → Contains sorted e → Contains es e
+  back e = Contains-permutation sorted es e (IsPermutation-sym es sorted moved)
+
   pub shared_by_neighbours : FirstInside sorted n → FirstShared es n
-  shared_by_neighbours h = moved_shared sorted es n (IsPermutation-sym es sorted moved) (shared sorted n bytes order h)
+  shared_by_neighbours h = moved_shared sorted es n back to (shared sorted n bytes order h)
 
   pub neighbours_by_shared : FirstShared es n → FirstInside sorted n
-  neighbours_by_shared h = inside sorted n bytes order (moved_shared es sorted n moved h)
+  neighbours_by_shared h = inside sorted n bytes order (moved_shared es sorted n to back h)

@@ -2,13 +2,14 @@
 use Rattle.std.specs.Prelude.{ℕ, ltb, ◌==◌, if◌then◌else◌, ◌+◌, ◌-◌, ◌/◌, ◌*◌, ◌^◌, ◌<◌, max, min, List, [], ◌∷◌, Option, Some, None}
 use Rattle.std.specs.List.{AllByRecursion, IsDistinct}
 use Rattle.ncc_layout.specs.declared.extent.Extent.{Extent}
-use Rattle.ncc_layout.specs.Extents.{end}
+use Rattle.ncc_layout.specs.Extents.{end, fixed_of, records_of}
 use Rattle.ncc_layout.specs.Rules.RecordWindow.{InRecordWindow}
 use Rattle.ncc_layout.specs.Rules.FixedAfterRecords.{NotFixedAfterRecords}
+use Rattle.ncc_layout.specs.Rules.Truncated.{NotTruncated}
 use Rattle.ncc_layout.specs.Rules.{Rules}
 use Rattle.ncc_layout.specs.Faults.{FailsFirst, RuleFails}
 use Rattle.ncc_layout.specs.declared.fault.LayoutFaultKind.{LayoutFaultKind}
-use Rattle.ncc_layout.specs.declared.fault.LayoutFaultKind.TheVariants.{RecordWindow, FixedAfterRecords}
+use Rattle.ncc_layout.specs.declared.fault.LayoutFaultKind.TheVariants.{RecordWindow, FixedAfterRecords, Truncated}
 
 -- orders extents by begin, and then by variable
 abbrev pub rank : Extent → ℕ
@@ -48,6 +49,21 @@ end_later (Some m) n = max m n
 abbrev pub records_by : (end record_size length : ℕ) → ℕ
 records_by end record_size length = if ltb length end then 0 else 1 + (length - end) / record_size
 
+-- ---- neighbours
+
+-- the first that begins before the one before it ends, where one before the list ends at `at`
+abbrev pub inside_from : (at : ℕ) → List Extent → Option ℕ
+inside_from at [] = None
+inside_from at (e ∷ es) = if ltb e.begin at then Some e.variable else inside_from (end e) es
+
+abbrev pub either : Option ℕ → Option ℕ → Option ℕ
+either (Some n) other = Some n
+either None other = other
+
+-- the first fixed one that does so, else the first record variable
+abbrev pub inside : List Extent → Option ℕ
+inside es = either (inside_from 0 (fixed_of es)) (inside_from 0 (records_of es))
+
 -- ---- what a search for a failing extent found
 
 -- the rule holds of all, or fails first of this one
@@ -72,6 +88,14 @@ RecordsJudged record_size es (Some (RecordWindow, n)) = FailsFirst (InRecordWind
 RecordsJudged record_size es (Some (FixedAfterRecords, n)) =
     AllByRecursion (InRecordWindow record_size es) es × FailsFirst (NotFixedAfterRecords es) es n
 RecordsJudged record_size es (Some (_, n)) = ⊥
+
+-- the rules after that of overlaps
+abbrev pub JudgedLater : (length record_size records : ℕ) → List Extent → Option (LayoutFaultKind × ℕ) → Type 0
+JudgedLater length record_size records es None =
+    RecordsJudged record_size es None × AllByRecursion (NotTruncated length record_size records) es
+JudgedLater length record_size records es (Some (Truncated, n)) =
+    RecordsJudged record_size es None × FailsFirst (NotTruncated length record_size records) es n
+JudgedLater length record_size records es (Some (kind, n)) = RecordsJudged record_size es (Some (kind, n))
 
 abbrev pub Judged : (header length record_size records : ℕ) → List Extent → Option (LayoutFaultKind × ℕ) → Type 0
 Judged header length record_size records es None = Rules header length record_size records es

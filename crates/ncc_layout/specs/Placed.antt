@@ -11,10 +11,9 @@ use Rattle.ncc_layout.specs.declared.fault.PlaceError.{PlaceError}
 use Rattle.ncc_layout.specs.declared.fault.PlaceError.TheVariants.{Fault, Memory}
 use Rattle.ncc_layout.specs.declared.judging.Frame.{Frame}
 use Rattle.ncc_layout.specs.declared.placed_var.PlacedVar.{PlacedVar}
-use Rattle.ncc_layout.specs.declared.placing.Layout.{Layout}
 use Rattle.ncc_layout.specs.declared.placed_file.Placed.{Placed}
 use Rattle.ncc_layout.specs.Sizes.{record_size_of}
-use Rattle.ncc_layout.specs.Extents.{NumberedFrom, extents_of, record_count}
+use Rattle.ncc_layout.specs.Extents.{NumberedFrom, record_count}
 use Rattle.ncc_layout.specs.Elements.{var_at, HasShape, placed_vars, with_records, AreLaid, AreSized, LiesInFile}
 use Rattle.ncc_layout.specs.Rules.{Rules, IsPlaced}
 use Rattle.ncc_layout.specs.Faults.{FirstFault}
@@ -105,12 +104,11 @@ pub record IsFrame (s : Schema) (places : List Place) (header length : ℕ) (f :
   pub size_is : f.record_size ≡ record_size_of s
   pub records_are : f.records ≡ record_count s places length
 
--- all rules hold of these extents by these numbers; or the same first fault
-abbrev pub HasLayout : Schema → List VarPlace → (header file : ℕ) → Result Layout PlaceError → Type 0
-HasLayout s places header file (Ok l) =
-    IsPlaced s (places_of places) header file
-    × (l.extents.items ≡ extents_of s (places_of places)) × IsFrame s (places_of places) header file l.frame
-HasLayout s places header file (Err e) = PlacedAs s places header file (Err e)
+-- all rules hold by these numbers; or the same first fault
+abbrev pub JudgedAs : Schema → List VarPlace → (header file : ℕ) → Result Frame PlaceError → Type 0
+JudgedAs s places header file (Ok f) =
+    IsPlaced s (places_of places) header file × IsFrame s (places_of places) header file f
+JudgedAs s places header file (Err e) = PlacedAs s places header file (Err e)
 
 -- the variables keep the rules by these numbers
 abbrev pub IsLaid : Frame → List PlacedVar → Type 0

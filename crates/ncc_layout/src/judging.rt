@@ -1,8 +1,7 @@
 //! The first layout rule that fails.
 
-ghost use Rattle.std.specs.Prelude.{◌≡◌, [], IsOk, IfOk};
 ghost use Rattle.std.specs.List.{AllByRecursion};
-ghost use Rattle.ncc_layout.specs.Bounds.{HasBytes, AreNumbered, RecordsJudged, Judged};
+ghost use Rattle.ncc_layout.specs.Bounds.{HasBytes, AreNumbered, RecordsJudged, JudgedLater, Judged};
 
 use crate::extent::Extent;
 use crate::fault::LayoutFaultKind;
@@ -12,7 +11,6 @@ use crate::rules::in_header::in_header;
 use crate::rules::overlap::overlap;
 use crate::rules::record_window::record_window;
 use crate::rules::truncated::truncated;
-use std::alloc::{AllocError, Global};
 
 /// The numbers of a file by which its extents are judged.
 #[derive(Clone, Copy)]
@@ -36,29 +34,29 @@ fn records_fault(extents: &[Extent], record_size: u64) -> Option<(LayoutFaultKin
     Some((LayoutFaultKind::FixedAfterRecords, variable))
 }
 
-/// The first rule that fails, and the variable that breaks it.
-pub fn first_fault(
-    alloc: Global,
-    extents: &[Extent],
-    frame: Frame,
-) -> Result<Option<(LayoutFaultKind, usize)>, AllocError>
-    requires bytes { AllByRecursion HasBytes extents.now }
-    requires numbered { AreNumbered extents.now }
-    ensures judged { IfOk result
-        (Judged frame.header_length frame.file_length frame.record_size frame.records extents.now) }
-    ensures none { extents.now ≡ [] → IsOk result }
+/// The first rule after that of overlaps that fails, and the variable that breaks it.
+fn later_fault(extents: &[Extent], frame: Frame) -> Option<(LayoutFaultKind, usize)>
+    ensures { JudgedLater frame.file_length frame.record_size frame.records extents.now result }
+{
+    if let Some(fault) = records_fault(extents, frame.record_size) {
+        return Some(fault);
+    }
+    let variable = truncated(extents, frame.file_length, frame.record_size, frame.records)?;
+    Some((LayoutFaultKind::Truncated, variable))
+}
+
+/// The first rule that fails, and the variable that breaks it. The extents may be put into another order.
+pub fn first_fault(extents: &mut [Extent], frame: Frame) -> Option<(LayoutFaultKind, usize)>
+    requires bytes { AllByRecursion HasBytes extents.old }
+    requires numbered { AreNumbered extents.old }
+    ensures { Judged frame.header_length frame.file_length frame.record_size frame.records extents.old result }
 {
     if let Some(variable) = in_header(extents, frame.header_length) {
-        return Ok(Some((LayoutFaultKind::InHeader, variable)));
+        return Some((LayoutFaultKind::InHeader, variable));
     }
-    if let Some(variable) = overlap(alloc, extents)? {
-        return Ok(Some((LayoutFaultKind::Overlap, variable)));
-    }
-    if let Some(fault) = records_fault(extents, frame.record_size) {
-        return Ok(Some(fault));
-    }
-    match truncated(extents, frame.file_length, frame.record_size, frame.records) {
-        Some(variable) => Ok(Some((LayoutFaultKind::Truncated, variable))),
-        None => Ok(None),
+    let later = later_fault(extents, frame);
+    match overlap(extents) {
+        Some(variable) => Some((LayoutFaultKind::Overlap, variable)),
+        None => later,
     }
 }

@@ -5,7 +5,7 @@ ghost use Rattle.ncc_schema.specs.Schema.{places_of, LegalDims, Sound, Legal};
 ghost use Rattle.ncc_layout.specs.Sizes.{AreSizes};
 ghost use Rattle.ncc_layout.specs.Extents.{extents_of};
 ghost use Rattle.ncc_layout.specs.Elements.{shape, placed_on, AreSized};
-ghost use Rattle.ncc_layout.specs.Placed.{fault_at, IsFrame, IsLaid, HasLaid, HasLayout, RecordsAs, PlacedAs};
+ghost use Rattle.ncc_layout.specs.Placed.{fault_at, IsFrame, IsLaid, HasLaid, JudgedAs, RecordsAs, PlacedAs};
 
 use crate::extent::Extent;
 use crate::fault::{LayoutFault, LayoutFaultKind, PlaceError};
@@ -135,34 +135,27 @@ fn lay(
     ))
 }
 
-/// The extents of a file that keeps all rules, and the numbers by which they were judged.
-#[derive(Drop)]
-struct Layout {
-    extents: Vec<Extent>,
-    frame: Frame,
-}
-
-/// Judges the extents of a file of this length.
-fn layout_of(
+/// The numbers by which a file of this length was judged, which keeps all rules, or the first layout fault.
+fn judged(
     alloc: Global,
     header: &Header,
     sizes: &Sizes,
     file_length: u64,
-) -> Result<Layout, PlaceError>
+) -> Result<Frame, PlaceError>
     requires legal { Legal header.now.schema (places_of header.now.places) }
     requires sizes { AreSizes header.now.schema sizes.now }
-    ensures layout { HasLayout header.now.schema header.now.places header.now.length file_length result }
+    ensures judged { JudgedAs header.now.schema header.now.places header.now.length file_length result }
     ensures none { header.now.schema.vars ≡ [] → result ≢ Err PlaceError.Memory }
 {
-    let extents = extents_of(alloc, header, sizes)?;
+    let mut extents = extents_of(alloc, header, sizes)?;
     let frame = frame_of(header, sizes, &extents, file_length);
-    match first_fault(alloc, &extents, frame)? {
+    match first_fault(&mut extents, frame) {
         Some((kind, variable)) => Err(PlaceError::Fault(fault_at(
             header.places.as_slice(),
             kind,
             variable,
         ))),
-        None => Ok(Layout { extents, frame }),
+        None => Ok(frame),
     }
 }
 
@@ -178,7 +171,9 @@ pub fn placed(
     ensures placed { PlacedAs header.now.schema header.now.places header.now.length file_length result }
     ensures none { header.now.schema.vars ≡ [] → result ≢ Err PlaceError.Memory }
 {
-    let Layout { extents, frame } = layout_of(alloc, header, sizes, file_length)?;
+    let frame = judged(alloc, header, sizes, file_length)?;
+    // Made again: while they were judged, they may have been put into another order.
+    let extents = extents_of(alloc, header, sizes)?;
     Ok(lay(alloc, &header.schema, &extents, frame)?)
 }
 
@@ -195,6 +190,6 @@ pub fn placed_records(
     ensures records { RecordsAs header.now.schema header.now.places header.now.length file_length result }
     ensures none { header.now.schema.vars ≡ [] → result ≢ Err PlaceError.Memory }
 {
-    let layout = layout_of(alloc, header, sizes, file_length)?;
-    Ok(layout.frame.records)
+    let frame = judged(alloc, header, sizes, file_length)?;
+    Ok(frame.records)
 }

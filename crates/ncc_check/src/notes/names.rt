@@ -1,11 +1,13 @@
 //! The notes on the names of a list: those that don't fit, and those that an earlier one has.
 
-ghost use Rattle.std.specs.Prelude.{◌≡◌, IfOk, OnOk, IsTrue, ◌↔◌, ◌+◌, ◌%◌, ◌<◌, ◌≤◌, [], false, true, not, length, get_or, set};
+ghost use Rattle.std.specs.Prelude.{◌≡◌, IfOk, OnOk, IsTrue, ◌↔◌, ◌+◌, ◌%◌, ◌<◌, ◌≤◌, ◌^◌, ◌&&◌, [], false, true, not, if◌then◌else◌, length, get_or, set};
+ghost use Rattle.ncc_check.specs.Slots.{has_name, is_shared, with_name};
 ghost use Rattle.ncc_check.specs.Noting.{Adds, AreTaken, Below, NameRuleNote, DuplicateNameNote, IsDuplicate, NameNotes, key_of_name, keys_in, names_in, offsets_in};
 
 use crate::note::{Note, NoteKind};
 use crate::notes::named::Named;
 use crate::notes::pushing::note_if;
+use crate::notes::slots::{Slot, is_shared, slots_of};
 use indexmap::IndexSet;
 use ncc_values::{name_fits, number};
 use std::alloc::{AllocError, Global};
@@ -30,7 +32,7 @@ fn note_name_rule(
 }
 
 /// The last bytes of a name as a number, 8 of them at most. Names of one list mostly differ there.
-fn key(name: &[u8]) -> u64
+pub fn key(name: &[u8]) -> u64
     ensures { result ≡ key_of_name name.now }
 {
     if name.is_empty() {
@@ -118,7 +120,27 @@ fn note_duplicate_names_by_pairs(
     Ok(())
 }
 
-/// Notes the names that an earlier one has, by a table of the names so far.
+/// Whether the table has a name, which it has then. A name with a slot of its own isn't looked for.
+fn is_seen<'a>(
+    seen: &mut IndexSet<&'a [u8]>,
+    slots: &[Slot],
+    name: &'a [u8],
+) -> Result<bool, AllocError>
+    requires some { 0 < length slots.now }
+    requires few { length slots.now < 2 ^ 32 }
+    ensures repeated { IfOk result (λ repeated.
+        repeated ≡ (is_shared slots.now name.now && has_name name.entry seen.old.keys)) }
+    ensures table { OnOk result (seen.new.keys
+        ≡ (if is_shared slots.now name.now then with_name name.entry seen.old.keys else seen.old.keys)) }
+{
+    if !is_shared(slots, name) {
+        return Ok(false);
+    }
+    let (_, is_new) = seen.insert_full(name)?;
+    Ok(!is_new)
+}
+
+/// Notes the names that an earlier one has, by a table of the names so far that share a slot.
 fn note_duplicate_names_by_table(
     alloc: Global,
     named: &[Named<'_>],
@@ -128,10 +150,11 @@ fn note_duplicate_names_by_table(
         (Below (DuplicateNameNote (names_in named.now) (offsets_in named.now)) (length named.now))
         notes.old.items notes.new.items) }
 {
-    let mut seen: IndexSet<&[u8]> = IndexSet::with_capacity(alloc, named.len())?;
+    let slots = slots_of(alloc, named)?;
+    let mut seen = IndexSet::new(alloc);
     for i in 0..named.len() {
-        let (_, is_new) = seen.insert_full(named[i].name)?;
-        note_if(notes, !is_new, NoteKind::DuplicateName, named[i].at)?;
+        let repeated = is_seen(&mut seen, &slots, named[i].name)?;
+        note_if(notes, repeated, NoteKind::DuplicateName, named[i].at)?;
     }
     Ok(())
 }

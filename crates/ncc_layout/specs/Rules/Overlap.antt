@@ -60,10 +60,6 @@ abbrev pub of_kind : Bool → List Extent → List Extent
 of_kind true es = records_of es
 of_kind false es = fixed_of es
 
-abbrev pub Shared : List Extent → Option ℕ → Type 0
-Shared es None = NoOverlap es
-Shared es (Some n) = FirstShared es n
-
 abbrev pub Overlaps : List Extent → Option ℕ → Type 0
 Overlaps es None = NoOverlap (fixed_of es) × NoOverlap (records_of es)
 Overlaps es (Some n) = FirstOverlap es n

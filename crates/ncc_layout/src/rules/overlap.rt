@@ -1,67 +1,47 @@
 //! The rule that no two fixed variables share a byte, and no two record variables in record 0.
 
-ghost use Rattle.std.specs.Prelude.{◌≡◌, [], IsOk, IfOk};
+ghost use Rattle.std.specs.Prelude.{◌≡◌};
 ghost use Rattle.std.specs.List.{AllByRecursion};
-ghost use Rattle.ncc_layout.specs.Bounds.{HasBytes, AreNumbered};
-ghost use Rattle.ncc_layout.specs.Rules.Overlap.{Shared, Overlaps, of_kind};
+ghost use Rattle.ncc_layout.specs.Bounds.{HasBytes, AreNumbered, inside, inside_from};
+ghost use Rattle.ncc_layout.specs.Rules.Overlap.{Overlaps, of_kind};
 
 use crate::extent::Extent;
-use std::alloc::{AllocError, Global};
 
-/// The fixed extents, or those of record variables.
-fn of_kind(alloc: Global, extents: &[Extent], is_record: bool) -> Result<Vec<Extent>, AllocError>
-    ensures kept { IfOk result (λ v. v.items ≡ of_kind is_record extents.now) }
-    ensures none { extents.now ≡ [] → IsOk result }
+/// The first of one kind that begins before the one of its kind in front of it ends.
+fn inside_of(extents: &[Extent], is_record: bool) -> Option<usize>
+    ensures { result ≡ inside_from 0 (of_kind is_record extents.now) }
 {
-    let mut kept = Vec::new(alloc);
+    let mut end = 0;
     for extent in extents {
         if extent.is_record == is_record {
-            kept.push(*extent)?;
-        }
-    }
-    Ok(kept)
-}
-
-/// In the order of begin and number, the first that shares a byte with one before it.
-fn first_shared(extents: &mut [Extent]) -> Option<usize>
-    requires bytes { AllByRecursion HasBytes extents.old }
-    requires numbered { AreNumbered extents.old }
-    ensures { Shared extents.old result }
-{
-    extents.sort_unstable_by_key(|e| e.rank());
-    for i in 1..extents.len() {
-        if (extents[i].begin as u128) < extents[i - 1].end() {
-            return Some(extents[i].variable);
+            if (extent.begin as u128) < end {
+                return Some(extent.variable);
+            }
+            end = extent.end();
         }
     }
     None
 }
 
-/// The first of one kind that shares a byte with one before it.
-fn overlap_of(
-    alloc: Global,
-    extents: &[Extent],
-    is_record: bool,
-) -> Result<Option<usize>, AllocError>
-    requires bytes { AllByRecursion HasBytes extents.now }
-    requires numbered { AreNumbered extents.now }
-    ensures found { IfOk result (λ found. Shared (of_kind is_record extents.now) found) }
-    ensures none { extents.now ≡ [] → IsOk result }
+/// The first fixed one that does so, else the first record variable.
+fn inside(extents: &[Extent]) -> Option<usize>
+    ensures { result ≡ inside extents.now }
 {
-    let mut kept = of_kind(alloc, extents, is_record)?;
-    Ok(first_shared(&mut kept))
+    match inside_of(extents, false) {
+        Some(variable) => Some(variable),
+        None => inside_of(extents, true),
+    }
 }
 
-/// The first fixed variable that shares a byte with one before it, else the first record variable
-/// that does so in record 0.
-pub fn overlap(alloc: Global, extents: &[Extent]) -> Result<Option<usize>, AllocError>
-    requires bytes { AllByRecursion HasBytes extents.now }
-    requires numbered { AreNumbered extents.now }
-    ensures found { IfOk result (Overlaps extents.now) }
-    ensures none { extents.now ≡ [] → IsOk result }
+/// The first fixed variable, in the order of begin and number, that shares a byte with one before it, else the first
+/// record variable that does so in record 0. The extents are put into that order, if those of a kind don't already lie
+/// one after another.
+pub fn overlap(extents: &mut [Extent]) -> Option<usize>
+    requires bytes { AllByRecursion HasBytes extents.old }
+    requires numbered { AreNumbered extents.old }
+    ensures { Overlaps extents.old result }
 {
-    match overlap_of(alloc, extents, false)? {
-        Some(variable) => Ok(Some(variable)),
-        None => overlap_of(alloc, extents, true),
-    }
+    inside(extents)?;
+    extents.sort_unstable_by_key(|e| e.rank());
+    inside(extents)
 }

@@ -11,13 +11,13 @@ returns-then-is_one_of c =
     let name = c.args.name.now in
     let inside = c.self.inside in
     let among = ap (λ (l : List (List ℕ)). list_any (pointwise eqb name) l) (sym c.deref.ensures.value) ∙ sym c.is_one_of.ensures ∙ c.if-is_one_of.true in
-    c.if-is_one_of.true ∙ sym (ap (is_duplicate_name name) (sym c.self.view_is) ∙ among_first name inside.first.items (map (λ k. k.items) inside.others.keys) among)
+    c.if-is_one_of.true ∙ sym (ap (is_duplicate_name name) (sym c.self.view_is) ∙ among_first name inside.few.items (map (λ k. k.items) inside.table.keys) among)
 
 pub returns-else-is_one_of : goal.returns-else-is_one_of
 returns-else-is_one_of c =
     let name = c.args.name.now in
     let inside = c.self.inside in
     let not_among = ap (λ (l : List (List ℕ)). list_any (pointwise eqb name) l) (sym c.deref.ensures.value) ∙ sym c.is_one_of.ensures ∙ c.if-is_one_of.false in
-    c.contains.ensures ∙ found_is (λ k. k.items) name inside.others.keys
-    ∙ past_first name inside.first.items (map (λ k. k.items) inside.others.keys) not_among
+    c.contains.ensures ∙ found_is (λ k. k.items) name inside.table.keys
+    ∙ past_first name inside.few.items (map (λ k. k.items) inside.table.keys) not_among
     ∙ ap (is_duplicate_name name) c.self.view_is
