@@ -1,5 +1,5 @@
 -- A table of names.
-use Rattle.std.proofs.Common.{◌≡◌, ℕ, false, true, true≢false, ◌&&◌, ◌||◌, ◌+◌, ◌<◌, ◌≤◌, ◌⊎◌, arith, length, get_or, take, List, [], ◌∷◌, ◌++◌, map, refl, sym, ap, ◌∙◌, eqb, if◌then◌else◌, inl, inr}
+use Rattle.std.proofs.Common.{◌≡◌, ℕ, Bool, false, true, true≢false, ◌&&◌, ◌||◌, ◌<◌, ◌≤◌, ◌⊎◌, arith, length, get_or, take, List, [], ◌∷◌, ◌++◌, map, refl, sym, ap, ◌∙◌, eqb, if◌then◌else◌, inl, inr}
 use Rattle.std.proofs.lemmas.Bool.{cases_lt, or_cases, or_parts}
 use Rattle.std.proofs.Math.Bool.{or-true}
 use Rattle.std.specs.List.{list_any}
@@ -54,20 +54,22 @@ not_first name (x ∷ first) others none =
 
 -- ---- names of which none comes again
 
-pub none_apart : AreApart []
-none_apart k below = absurd (omega (arith, below))
-
-pub apart_more : (names : List (List ℕ)) (name : List ℕ) → AreApart names → is_duplicate_name name names ≡ false → AreApart (names ++ name ∷ [])
+apart_more : (names : List (List ℕ)) (name : List ℕ) → AreApart names → is_duplicate_name name names ≡ false → AreApart (names ++ name ∷ [])
 apart_more names name apart none k below = by (cases_lt k (length names))
   where
     by : (k < length names) ⊎ (length names ≤ k) → is_duplicate_name (get_or (names ++ name ∷ []) k []) (take k (names ++ name ∷ [])) ≡ false
     by (inl less) =
-        ap (λ (n : List ℕ). is_duplicate_name n (take k (names ++ name ∷ []))) (get_or_append_left names (name ∷ []) k [] less)
+        ap (λ (n : List ℕ). is_duplicate_name n (take k (names ++ name ∷ []))) (get_or_append_left names (name ∷ []) [] k less)
         ∙ ap (is_duplicate_name (get_or names k [])) (take-append-le k names (name ∷ []) (omega (arith, less)))
         ∙ apart k less
     by (inr le) =
         let last : k ≡ length names = omega (arith, le, below, length-append names (name ∷ [])) in
         ap (λ (n : ℕ). is_duplicate_name (get_or (names ++ name ∷ []) n []) (take n (names ++ name ∷ []))) last
-        ∙ ap (λ (n : List ℕ). is_duplicate_name n (take (length names) (names ++ name ∷ []))) (get_or_push names name [])
+        ∙ ap (λ (n : List ℕ). is_duplicate_name n (take (length names) (names ++ name ∷ []))) (get_or_push names name [] (length names) refl)
         ∙ ap (is_duplicate_name name) (take-append-le (length names) names (name ∷ []) (omega arith) ∙ take_all (length names) names (omega arith))
         ∙ none
+
+-- it joins them, or doesn't
+pub apart_either : (joins : Bool) (names : List (List ℕ)) (name : List ℕ) → AreApart names → is_duplicate_name name names ≡ false → AreApart (if joins then names ++ name ∷ [] else names)
+apart_either true names name apart none = apart_more names name apart none
+apart_either false names name apart none = apart

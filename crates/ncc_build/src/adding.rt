@@ -87,3 +87,39 @@ pub fn add_to_var(
     *vars = Seq::from_vec(listed);
     added
 }
+
+/// Makes room for so many items and their names. Both lists stay as they are.
+fn reserve_named<T: Drop>(
+    alloc: Global,
+    items: &mut Seq<T>,
+    names: &mut Names,
+    count: usize,
+) -> Result<(), AllocError>
+    ensures items { items.new ≡ items.old }
+    ensures names { names.new ≡ names.old }
+{
+    let mut listed = mem::replace(items, Seq::new(alloc)).into_vec();
+    let reserved = listed.reserve(count);
+    *items = Seq::from_vec(listed);
+    reserved?;
+    names.reserve(count)
+}
+
+/// Makes room for so many attributes of a variable. All stays as it is.
+pub fn reserve_in_var(
+    alloc: Global,
+    vars: &mut Seq<Var>,
+    var: usize,
+    tables: &mut Vec<Names>,
+    count: usize,
+) -> Result<(), AllocError>
+    requires there { var < length vars.old }
+    requires listed { var < vec_len tables.old }
+    ensures vars { vars.new ≡ vars.old }
+    ensures names { tables.new.items ≡ tables.old.items }
+{
+    let mut listed = mem::replace(vars, Seq::new(alloc)).into_vec();
+    let reserved = reserve_named(alloc, &mut listed[var].attrs, &mut tables[var], count);
+    *vars = Seq::from_vec(listed);
+    reserved
+}

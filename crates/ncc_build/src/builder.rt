@@ -8,7 +8,7 @@ ghost use Rattle.ncc_build.specs.Building.{IsBuilt, attr_names, dim_names, var_n
 ghost use Rattle.ncc_build.specs.Judging.{dim_refusals, refusal_of};
 ghost use Rattle.ncc_build.specs.Tables.{names_of_attrs};
 
-use crate::adding::{add_named, add_to_var, own_attr};
+use crate::adding::{add_named, add_to_var, own_attr, reserve_in_var};
 use crate::built::Built;
 use crate::fault::WriteFault;
 use crate::judging::{exceeds_count_for_version, judge_attr, judge_ids, judge_kind, judge_name};
@@ -245,6 +245,21 @@ impl SchemaBuilder {
         )?;
         tables.attrs.push_reserved(Names::new(self.alloc));
         Ok(())
+    }
+
+    /// Makes room for so many attributes of a variable. The schema stays as it is.
+    pub(crate) fn reserve_attrs(&mut self, var: usize, count: usize) -> Result<(), AllocError>
+        requires there { var < length (schema_so_far self.old).vars }
+        ensures { schema_so_far self.new ≡ schema_so_far self.old }
+    {
+        let tables = &mut self.tables;
+        reserve_in_var(
+            self.alloc,
+            &mut self.schema.vars,
+            var,
+            &mut tables.attrs,
+            count,
+        )
     }
 
     /// Adds an attribute of a variable that is there. It is refused as a global one is; after an error

@@ -68,6 +68,13 @@ impl Names {
         is_one_of(&self.few, name) || self.table.contains(name)
     }
 
+    /// Makes room for so many names, if these are few. They stay as they are.
+    pub fn reserve(&mut self, count: usize) -> Result<(), AllocError>
+        ensures { self.new ≡ self.old }
+    {
+        self.few.reserve(count.min(FEW))
+    }
+
     /// Moves the names into the table, once they aren't few any more.
     fn move_few(&mut self, alloc: Global) -> Result<(), AllocError>
         ensures { self.new ≡ self.old }

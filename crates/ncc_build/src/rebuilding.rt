@@ -89,6 +89,7 @@ fn add_whole(alloc: Global, builder: &mut SchemaBuilder, var: &Var) -> Result<()
     ensures added { OnOk result (schema_so_far builder.new ≡ with_whole (schema_so_far builder.old) var.now) }
 {
     let number = builder.var(var.name.as_slice(), var.xtype, var.dims.as_slice())?;
+    builder.reserve_attrs(number, var.attrs.len())?;
     add_attrs(alloc, builder, number, var.attrs.as_slice())
 }
 

@@ -83,12 +83,61 @@ const NAMES_FIRST: Row = Row {
     end: Ok((0, 1, 1, Some((4, 80)))),
 };
 
-const ROWS: [Row; 5] = [
+const MANY_NAMES: Row = Row {
+    name: "many names",
+    version: Version::V1,
+    steps: &[
+        (Dim(b"a", 1), Ok(0)),
+        (Dim(b"b", 1), Ok(1)),
+        (Dim(b"c", 1), Ok(2)),
+        (Dim(b"d", 1), Ok(3)),
+        (Dim(b"e", 1), Ok(4)),
+        (Dim(b"f", 1), Ok(5)),
+        (Dim(b"g", 1), Ok(6)),
+        (Dim(b"h", 1), Ok(7)),
+        (Dim(b"i", 1), Ok(8)),
+        (Dim(b"j", 1), Ok(9)),
+        (Dim(b"k", 1), Ok(10)),
+        (Dim(b"l", 1), Ok(11)),
+        (Dim(b"m", 1), Ok(12)),
+        (Dim(b"n", 1), Ok(13)),
+        (Dim(b"o", 1), Ok(14)),
+        (Dim(b"p", 1), Ok(15)),
+        (Dim(b"q", 1), Ok(16)),
+        (Dim(b"r", 1), Ok(17)),
+        (Dim(b"s", 1), Ok(18)),
+        (Dim(b"t", 1), Ok(19)),
+        (Dim(b"u", 1), Ok(20)),
+        (Dim(b"v", 1), Ok(21)),
+        (Dim(b"w", 1), Ok(22)),
+        (Dim(b"x", 1), Ok(23)),
+        (Dim(b"y", 1), Ok(24)),
+        (Dim(b"z", 1), Ok(25)),
+        (Dim(b"A", 1), Ok(26)),
+        (Dim(b"B", 1), Ok(27)),
+        (Dim(b"C", 1), Ok(28)),
+        (Dim(b"D", 1), Ok(29)),
+        (Dim(b"E", 1), Ok(30)),
+        (Dim(b"F", 1), Ok(31)),
+        (Dim(b"G", 1), Ok(32)),
+        (Dim(b"a", 1), Err(DuplicateName)),
+        (Dim(b"F", 1), Err(DuplicateName)),
+        (Dim(b"G", 1), Err(DuplicateName)),
+        (Dim(b"H", 1), Ok(33)),
+        (Dim(b"b", 1), Err(DuplicateName)),
+        (Dim(b"H", 1), Err(DuplicateName)),
+    ],
+    records: 0,
+    end: Ok((34, 0, 0, None)),
+};
+
+const ROWS: [Row; 6] = [
     THE_RULE,
     LONG_NAMES,
     ONE_NAME_IN_EACH_LIST,
     NAMES_OF_ATTRIBUTES,
     NAMES_FIRST,
+    MANY_NAMES,
 ];
 
 #[test]

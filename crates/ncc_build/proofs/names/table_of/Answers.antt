@@ -1,4 +1,4 @@
-use Rattle.std.proofs.Common.{◌≡◌, ℕ, List, [], ◌∷◌, ◌++◌, false, get_or, map, take, sym, ap, subst, ◌∙◌}
+use Rattle.std.proofs.Common.{◌≡◌, ℕ, List, [], ◌∷◌, ◌++◌, false, get_or, map, take, sym, ap, ◌∙◌}
 use Rattle.std.proofs.lemmas.List.{get_or_default, take_more}
 use Rattle.ncc_build.specs.Building.{is_duplicate_name}
 use Rattle.ncc_build.proofs.Tables.{added_is}
