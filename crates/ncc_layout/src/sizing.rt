@@ -116,8 +116,8 @@ pub fn sizes(alloc: Global, schema: &Schema) -> Result<Sizes, SizeError>
 {
     let dims = schema.dims.as_slice();
     let vars = schema.vars.as_slice();
-    let mut slabs = Vec::new(alloc);
-    let mut rounded = Vec::new(alloc);
+    let mut slabs = Vec::with_capacity(alloc, vars.len())?;
+    let mut rounded = Vec::with_capacity(alloc, vars.len())?;
     let mut totals = Totals {
         any: false,
         sum: 0,

@@ -1,4 +1,5 @@
 pub mod ElementsLemmas
+pub mod FollowTable
 pub mod NameLemmas
 pub mod NamesTold
 pub mod Reading

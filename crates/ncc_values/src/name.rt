@@ -6,6 +6,29 @@ ghost use Rattle.ncc_values.specs.Name.{can_begin, can_follow, can_begin_plain, 
 use std::alloc::{AllocError, Global};
 use unicode_normalization::is_nfc;
 
+/// Which bytes can follow in a name that is ASCII.
+static FOLLOWS: [bool; 256] = [
+    false, false, false, false, false, false, false, false, false, false, false, false, false,
+    false, false, false, false, false, false, false, false, false, false, false, false, false,
+    false, false, false, false, false, false, true, true, true, true, true, true, true, true, true,
+    true, true, true, true, true, true, false, true, true, true, true, true, true, true, true, true,
+    true, true, true, true, true, true, true, true, true, true, true, true, true, true, true, true,
+    true, true, true, true, true, true, true, true, true, true, true, true, true, true, true, true,
+    true, true, true, true, true, true, true, true, true, true, true, true, true, true, true, true,
+    true, true, true, true, true, true, true, true, true, true, true, true, true, true, true, true,
+    true, true, true, true, true, true, false, false, false, false, false, false, false, false,
+    false, false, false, false, false, false, false, false, false, false, false, false, false,
+    false, false, false, false, false, false, false, false, false, false, false, false, false,
+    false, false, false, false, false, false, false, false, false, false, false, false, false,
+    false, false, false, false, false, false, false, false, false, false, false, false, false,
+    false, false, false, false, false, false, false, false, false, false, false, false, false,
+    false, false, false, false, false, false, false, false, false, false, false, false, false,
+    false, false, false, false, false, false, false, false, false, false, false, false, false,
+    false, false, false, false, false, false, false, false, false, false, false, false, false,
+    false, false, false, false, false, false, false, false, false, false, false, false, false,
+    false, false, false, false,
+];
+
 /// Whether the bytes fit as a name: UTF-8 in the normal form NFC, of at least one character, the
 /// first a letter, a digit, an underscore or past ASCII, none an ASCII control or a slash, the last no
 /// space. On ASCII it allocates nothing.
@@ -65,7 +88,7 @@ fn can_begin_byte(byte: u8) -> bool
 fn can_follow_byte(byte: u8) -> bool
     ensures { result ≡ can_follow_plain byte }
 {
-    matches!(byte, b' '..=b'~') && byte != b'/'
+    FOLLOWS[byte as usize]
 }
 
 fn has_name_characters(text: &str) -> bool
