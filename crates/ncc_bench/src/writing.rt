@@ -53,14 +53,14 @@ fn describe(
     note(schema, var, b"valid_min", least)
 }
 
-/// So many variables: half of them fixed ones of 1,200 floats, the others record variables of 1 and of 40 floats.
-fn schema(
+/// Adds so many variables: half of them fixed ones of 1,200 floats, the others record variables of 1 and of 40 floats.
+fn fill(
     alloc: Global,
+    schema: &mut SchemaBuilder,
     random: &mut Random,
     prose: &Prose,
     vars: u64,
-) -> Result<SchemaBuilder, WriteFault> {
-    let mut schema = SchemaBuilder::new(alloc, Version::V2);
+) -> Result<(), WriteFault> {
     let time = schema.dim(b"time", 0)?;
     let level = schema.dim(b"level", 40)?;
     let column = schema.dim(b"column", 30)?;
@@ -70,12 +70,12 @@ fn schema(
         name.clear();
         push_numbered(&mut name, b"variable_", number)?;
         match number % 4 {
-            0 => describe(alloc, &mut schema, random, prose, &name, &[time])?,
-            1 => describe(alloc, &mut schema, random, prose, &name, &[time, level])?,
-            _ => describe(alloc, &mut schema, random, prose, &name, &[level, column])?,
+            0 => describe(alloc, schema, random, prose, &name, &[time])?,
+            1 => describe(alloc, schema, random, prose, &name, &[time, level])?,
+            _ => describe(alloc, schema, random, prose, &name, &[level, column])?,
         }
     }
-    Ok(schema)
+    Ok(())
 }
 
 fn built(
@@ -85,7 +85,8 @@ fn built(
     vars: u64,
     records: u64,
 ) -> Result<Built, WriteFault> {
-    let schema = schema(alloc, random, prose, vars)?;
+    let mut schema = SchemaBuilder::new(alloc, Version::V2);
+    fill(alloc, &mut schema, random, prose, vars)?;
     schema.build(records).map_err(|(_, fault)| fault)
 }
 

@@ -1,6 +1,6 @@
 //! The sizes of variables and of a record.
 
-ghost use Rattle.std.specs.Prelude.{◌≡◌, ◌*◌, ◌<◌, ◌≤◌, List, [], map, IsOk};
+ghost use Rattle.std.specs.Prelude.{◌≡◌, ◌*◌, ◌<◌, ◌≤◌, List, [], map, IfErr, IfOk, IsOk};
 ghost use Rattle.std.specs.List.{AllByRecursion};
 ghost use Rattle.ncc_schema.specs.Schema.{IsFixed, LegalDims, Sound, is_record_var};
 ghost use Rattle.ncc_layout.specs.Sizes.{in_u64, in_room, room, length_of, product, inner, slab, with_slab, Sums, Adds, NoneTooLarge, IsSizes};
@@ -108,6 +108,21 @@ fn add_var(totals: Totals, dims: &[Dim], var: &Var) -> Option<(u64, Totals)>
     Some((slab, with_slab(totals, slab)?))
 }
 
+/// Two lists with room for so many numbers.
+fn empty_lists(alloc: Global, count: usize) -> Result<(Vec<u64>, Vec<u64>), SizeError>
+    ensures empty { IfOk result (λ lists. (lists.0.items ≡ []) × (lists.1.items ≡ [])) }
+    ensures err { IfErr result (λ e. e ≡ SizeError.Memory) }
+    ensures none { count ≡ 0 → IsOk result }
+{
+    let Ok(slabs) = Vec::with_capacity(alloc, count) else {
+        return Err(SizeError::Memory);
+    };
+    let Ok(rounded) = Vec::with_capacity(alloc, count) else {
+        return Err(SizeError::Memory);
+    };
+    Ok((slabs, rounded))
+}
+
 /// The sizes of all variables and of a record, or the first variable for which they are too large.
 pub fn sizes(alloc: Global, schema: &Schema) -> Result<Sizes, SizeError>
     requires { Sound schema.now }
@@ -116,8 +131,7 @@ pub fn sizes(alloc: Global, schema: &Schema) -> Result<Sizes, SizeError>
 {
     let dims = schema.dims.as_slice();
     let vars = schema.vars.as_slice();
-    let mut slabs = Vec::with_capacity(alloc, vars.len())?;
-    let mut rounded = Vec::with_capacity(alloc, vars.len())?;
+    let (mut slabs, mut rounded) = empty_lists(alloc, vars.len())?;
     let mut totals = Totals {
         any: false,
         sum: 0,
