@@ -53,8 +53,9 @@ fn describe(
     note(schema, var, b"valid_min", least)
 }
 
-/// Adds so many variables: half of them fixed ones of 1,200 floats, the others record variables of 1 and of 40 floats.
-fn fill(
+/// Adds three dimensions, an attribute, and so many variables: half of them fixed ones of 1,200 floats, the others
+/// record variables of 1 and of 40 floats.
+fn add_items(
     alloc: Global,
     schema: &mut SchemaBuilder,
     random: &mut Random,
@@ -86,7 +87,7 @@ fn built(
     records: u64,
 ) -> Result<Built, WriteFault> {
     let mut schema = SchemaBuilder::new(alloc, Version::V2);
-    fill(alloc, &mut schema, random, prose, vars)?;
+    add_items(alloc, &mut schema, random, prose, vars)?;
     schema.build(records).map_err(|(_, fault)| fault)
 }
 

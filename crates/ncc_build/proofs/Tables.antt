@@ -6,7 +6,8 @@ use Rattle.std.specs.List.{list_any}
 use Rattle.std.specs.Cmp.Lexicographic.{pointwise}
 use Rattle.std.proofs.lemmas.List.{map-append, length-append, get_or_append_left, get_or_push, take-append-le, take_all}
 use Rattle.ncc_build.specs.Fill.{same}
-use Rattle.ncc_build.specs.Building.{AreApart, is_duplicate_name}
+use Rattle.ncc_build.specs.Building.{is_duplicate_name}
+use Rattle.ncc_build.specs.Tables.{NoneTwice}
 
 pub same_is : (xs ys : List ℕ) → pointwise eqb xs ys ≡ same xs ys
 same_is [] [] = refl
@@ -54,14 +55,14 @@ not_first name (x ∷ first) others none =
 
 -- ---- names of which none comes again
 
-apart_more : (names : List (List ℕ)) (name : List ℕ) → AreApart names → is_duplicate_name name names ≡ false → AreApart (names ++ name ∷ [])
-apart_more names name apart none k below = by (cases_lt k (length names))
+distinct_more : (names : List (List ℕ)) (name : List ℕ) → NoneTwice names → is_duplicate_name name names ≡ false → NoneTwice (names ++ name ∷ [])
+distinct_more names name distinct none k below = by (cases_lt k (length names))
   where
     by : (k < length names) ⊎ (length names ≤ k) → is_duplicate_name (get_or (names ++ name ∷ []) k []) (take k (names ++ name ∷ [])) ≡ false
     by (inl less) =
         ap (λ (n : List ℕ). is_duplicate_name n (take k (names ++ name ∷ []))) (get_or_append_left names (name ∷ []) [] k less)
         ∙ ap (is_duplicate_name (get_or names k [])) (take-append-le k names (name ∷ []) (omega (arith, less)))
-        ∙ apart k less
+        ∙ distinct k less
     by (inr le) =
         let last : k ≡ length names = omega (arith, le, below, length-append names (name ∷ [])) in
         ap (λ (n : ℕ). is_duplicate_name (get_or (names ++ name ∷ []) n []) (take n (names ++ name ∷ []))) last
@@ -70,6 +71,6 @@ apart_more names name apart none k below = by (cases_lt k (length names))
         ∙ none
 
 -- it joins them, or doesn't
-pub apart_either : (joins : Bool) (names : List (List ℕ)) (name : List ℕ) → AreApart names → is_duplicate_name name names ≡ false → AreApart (if joins then names ++ name ∷ [] else names)
-apart_either true names name apart none = apart_more names name apart none
-apart_either false names name apart none = apart
+pub distinct_either : (joins : Bool) (names : List (List ℕ)) (name : List ℕ) → NoneTwice names → is_duplicate_name name names ≡ false → NoneTwice (if joins then names ++ name ∷ [] else names)
+distinct_either true names name distinct none = distinct_more names name distinct none
+distinct_either false names name distinct none = distinct

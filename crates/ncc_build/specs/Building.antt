@@ -1,5 +1,5 @@
 -- Which call of a builder is refused, and with which answer, over the schema that the calls before gave.
-use Rattle.std.specs.Prelude.{◌≡◌, ◌⊎◌, Result, Ok, Err, ℕ, zero, suc, ◌+◌, ◌<◌, ◌≤◌, ◌==◌, ◌&&◌, ◌||◌, ltb, leb, not, Bool, false, Option, Some, None, List, [], ◌∷◌, ◌++◌, length, map, get_or, take, if◌then◌else◌, is_none}
+use Rattle.std.specs.Prelude.{◌≡◌, ◌⊎◌, Result, Ok, Err, ℕ, zero, suc, ◌+◌, ◌<◌, ◌≤◌, ◌==◌, ◌&&◌, ◌||◌, ltb, leb, not, Bool, false, Option, Some, None, List, [], ◌∷◌, ◌++◌, length, map, get_or, if◌then◌else◌, is_none}
 use Rattle.std.specs.List.{AllByRecursion, list_any}
 use Rattle.ncc_values.specs.Name.{FitsAsName, is_name}
 use Rattle.ncc_values.specs.Values.{type_of, count_of}
@@ -40,10 +40,6 @@ is_bad_name fits name = not fits || ltb name_limit (length name)
 -- the name is one of these
 abbrev pub is_duplicate_name : (name : List ℕ) → (names : List (List ℕ)) → Bool
 is_duplicate_name name names = list_any (same name) names
-
--- none of them comes again
-abbrev pub AreApart : List (List ℕ) → Type 0
-AreApart names = (k : ℕ) → k < length names → is_duplicate_name (get_or names k []) (take k names) ≡ false
 
 -- a number that the version can't tell
 abbrev pub is_past : Version → ℕ → Bool

@@ -1,7 +1,11 @@
--- The names of the attributes of each variable.
-use Rattle.std.specs.Prelude.{ℕ, zero, suc, List, [], ◌∷◌, ◌++◌, map, get_or}
+-- The names of a list, and those of the attributes of each variable.
+use Rattle.std.specs.Prelude.{◌≡◌, ◌<◌, ℕ, zero, suc, false, List, [], ◌∷◌, ◌++◌, length, map, get_or, take}
 use Rattle.ncc_schema.specs.declared.schema.Schema.{Schema}
-use Rattle.ncc_build.specs.Building.{attr_names}
+use Rattle.ncc_build.specs.Building.{attr_names, is_duplicate_name}
+
+-- none of them is the same as one before it
+abbrev pub NoneTwice : List (List ℕ) → Type 0
+NoneTwice names = (k : ℕ) → k < length names → is_duplicate_name (get_or names k []) (take k names) ≡ false
 
 -- in the order of the variables
 abbrev pub names_of_attrs : Schema → List (List (List ℕ))

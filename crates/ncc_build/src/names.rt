@@ -4,7 +4,8 @@ ghost use Rattle.std.specs.Prelude.{◌≡◌, [], ◌∷◌, ◌++◌, false, e
 ghost use Rattle.std.specs.Cmp.Lexicographic.{pointwise};
 ghost use Rattle.std.specs.List.{list_any};
 ghost use Rattle.ncc_values.specs.Numbers.{IsBytes};
-ghost use Rattle.ncc_build.specs.Building.{AreApart, is_duplicate_name};
+ghost use Rattle.ncc_build.specs.Building.{is_duplicate_name};
+ghost use Rattle.ncc_build.specs.Tables.{NoneTwice};
 
 use crate::ranges::all_in_range;
 use indexmap::IndexSet;
@@ -20,7 +21,7 @@ const FEW: usize = 32;
 pub struct Names {
     few: Vec<Name>,
     table: IndexSet<Vec<u8>>,
-    ghost apart: { AreApart few.items },
+    ghost distinct: { NoneTwice few.items },
 }
 
 impl Model for Names {
@@ -40,7 +41,7 @@ fn is_one_of(names: &[Name], name: &[u8]) -> bool
 
 /// A table of these names.
 fn table_of(alloc: Global, names: &[Name]) -> Result<IndexSet<Vec<u8>>, AllocError>
-    requires { AreApart names.now }
+    requires { NoneTwice names.now }
     ensures { IfOk result (λ table. map (λ k. k.items) table.keys ≡ names.now) }
 {
     let mut table: IndexSet<Vec<u8>> = IndexSet::new(alloc);
@@ -68,7 +69,7 @@ impl Names {
         is_one_of(&self.few, name) || self.table.contains(name)
     }
 
-    /// Makes room for so many names, if these are few. They stay as they are.
+    /// Makes room for so many names, and for as many as are looked through one by one at most. They stay as they are.
     pub fn reserve(&mut self, count: usize) -> Result<(), AllocError>
         ensures { self.new ≡ self.old }
     {
@@ -84,7 +85,7 @@ impl Names {
         }
         let table = table_of(alloc, &self.few)?;
         self.table = table;
-        self.few.clear();
+        self.few = Vec::new(alloc);
         Ok(())
     }
 
@@ -99,8 +100,7 @@ impl Names {
             self.few.push(name)?;
             return Ok(());
         }
-        self.table
-            .insert(Vec::from_slice(alloc, name.as_slice())?)?;
+        self.table.insert(Vec::from_slice(alloc, name.as_slice())?)?;
         Ok(())
     }
 }

@@ -5,7 +5,7 @@ use Rattle.std.proofs.lemmas.List.{get_or-set_other, get_or-set_same, length-set
 use Rattle.ncc_check.specs.declared.notes.slots.Slot.{Slot}
 use Rattle.ncc_check.specs.declared.notes.slots.Slot.TheVariants.{Free, Once, Shared}
 use Rattle.ncc_check.specs.Noting.{IsDuplicate}
-use Rattle.ncc_check.specs.Slots.{AreTold, once_more, slot_at, slot_of}
+use Rattle.ncc_check.specs.Slots.{HaveSlots, once_more, slot_at, slot_of}
 
 -- ---- a slot with one more name
 
@@ -72,7 +72,7 @@ module _ (slots : List Slot) (new : List ℕ) (there : slot_of (length slots) ne
 
 -- ---- of the names of a list
 
-module _ (names : List (List ℕ)) (i : ℕ) (slots : List Slot) (there : slot_of (length slots) (get_or names i []) < length slots) (t : AreTold names i slots) where
+module _ (names : List (List ℕ)) (i : ℕ) (slots : List Slot) (there : slot_of (length slots) (get_or names i []) < length slots) (t : HaveSlots names i slots) where
   abbrev new : List ℕ
   new = get_or names i []
 
@@ -96,13 +96,10 @@ module _ (names : List (List ℕ)) (i : ℕ) (slots : List Slot) (there : slot_o
           let was : slot_at slots new ≢ Free = λ f. t.taken r.0 (omega (arith, r.1, same)) (ap (slot_at slots) name ∙ f) in
           ap (λ (j : ℕ). slot_at (after slots new there) (get_or names j [])) same ∙ at_same slots new there new refl ∙ taken_again (slot_at slots new) was
 
-  pub one_slot : AreTold names (i + 1) (after slots new there)
+  pub one_slot : HaveSlots names (i + 1) (after slots new there)
   one_slot = record {
     some = omega (arith, t.some, long slots new there);
     few = omega (arith, t.few, long slots new there);
     taken = taken;
     told = told;
   }
-
-pub none_told : (names : List (List ℕ)) (slots : List Slot) → 0 < length slots → length slots < 4294967296 → AreTold names 0 slots
-none_told names slots some few = record { some = some; few = few; taken = λ k below. absurd (omega (arith, below)); told = λ k below r. absurd (omega (arith, below)) }

@@ -9,7 +9,7 @@ use Rattle.std.proofs.lemmas.Slice.Eq.{bytes_eq-Decides}
 use Rattle.ncc_check.specs.Noting.{IsDuplicate, texts_of}
 use Rattle.ncc_check.specs.declared.notes.slots.Slot.{Slot}
 use Rattle.ncc_check.specs.declared.notes.slots.Slot.TheVariants.{Shared}
-use Rattle.ncc_check.specs.Slots.{AreTold, Seen, has_name, is_shared, is_slot_shared, slot_at, with_name}
+use Rattle.ncc_check.specs.Slots.{HaveSlots, Seen, has_name, is_shared, is_slot_shared, slot_at, with_name}
 
 abbrev same : Bor (List ℕ) → Bor (List ℕ) → Bool
 same q k = pointwise eqb q.now k.now
@@ -30,9 +30,6 @@ found : (q : Bor (List ℕ)) (keys : List (Bor (List ℕ))) → Contains (texts_
 found q [] (k, below, is) = absurd (omega (arith, below))
 found q (k ∷ ks) (zero, below, is) = ap (λ b. b || has_name q ks) ((bytes_eq-Decides q.now k.now).1 (sym is))
 found q (k ∷ ks) (suc n, below, is) = or_by (same q k) (has_name q ks) (found q ks (n, omega (arith, below), is))
-
-pub none_seen : (slots : List Slot) (names : List (List ℕ)) → Seen slots names 0 []
-none_seen slots names = record { in_table = λ name t r. absurd (omega (arith, r.1)); from_names = λ name c. absurd (omega (arith, c.1)) }
 
 abbrev joined : Bool → List (Bor (List ℕ)) → Bor (List ℕ) → List (Bor (List ℕ))
 joined b keys q = if b then keys else keys ++ q ∷ []
@@ -110,7 +107,7 @@ shared_one : (slots : List Slot) (name : List ℕ) → slot_at slots name ≡ Sh
 shared_one slots name h = ap is_slot_shared h
 
 pub is_seen : (slots : List Slot) (names : List (List ℕ)) (n i : ℕ) (keys : List (Bor (List ℕ))) (q : Bor (List ℕ)) (repeated : Bool) → repeated ≡ (is_shared slots q.now && has_name q keys) → i < n → get_or names i [] ≡ q.now
-    → AreTold names n slots → Seen slots names i keys → IsDuplicate names i q.now → IsTrue repeated
+    → HaveSlots names n slots → Seen slots names i keys → IsDuplicate names i q.now → IsTrue repeated
 is_seen slots names n i keys q repeated e below is told s r = e ∙ both (is_shared slots q.now) (has_name q keys) shared (found q keys (s.in_table q.now shared r))
   where
     shared : is_shared slots q.now ≡ true

@@ -1,5 +1,5 @@
 -- Slots of names: a name that has its slot for itself has no other like it in its list.
-use Rattle.std.specs.Prelude.{◌≡◌, ◌≢◌, ℕ, ◌+◌, ◌*◌, ◌-◌, ◌/◌, ◌%◌, ◌^◌, ◌<◌, ltb, Bool, true, false, List, [], ◌∷◌, ◌++◌, eqb, length, take, get_or, Contains, if◌then◌else◌}
+use Rattle.std.specs.Prelude.{◌≡◌, ◌≢◌, ℕ, zero, suc, ◌+◌, ◌*◌, ◌-◌, ◌/◌, ◌%◌, ◌^◌, ◌<◌, Bool, true, false, List, [], ◌∷◌, ◌++◌, eqb, length, take, get_or, Contains, if◌then◌else◌}
 use Rattle.std.specs.Borrow.{Bor}
 use Rattle.std.specs.List.{list_any}
 use Rattle.std.specs.Cmp.Lexicographic.{pointwise}
@@ -10,20 +10,20 @@ use Rattle.ncc_check.specs.Noting.{IsDuplicate, key_of_name, names_in, texts_of}
 
 -- ---- the slot of a name
 
--- the first 8 bytes of a longer name as a number
-abbrev pub first_of : List ℕ → ℕ
-first_of name = if ltb 8 (length name) then key_of_name (take 8 name) else 0
+-- with 8 more bytes
+abbrev pub mixed : (hash bytes : ℕ) → ℕ
+mixed hash bytes = ((hash + bytes) % 2 ^ 64 * 0x9E3779B97F4A7C15) % 2 ^ 64
 
--- the 8 bytes before the last 8 as a number, if there are more than 16
-abbrev pub before_last : List ℕ → ℕ
-before_last name = if ltb 16 (length name) then key_of_name (take (length name - 8) name) else 0
+-- of the first n times 8 bytes
+abbrev pub hash_of_first : (n : ℕ) → List ℕ → ℕ
+hash_of_first zero name = 0
+hash_of_first (suc n) name = mixed (hash_of_first n name) (key_of_name (take (n * 8 + 8) name))
 
+-- of all bytes
 abbrev pub hash_of : List ℕ → ℕ
-hash_of name =
-    (((key_of_name name * 11400714819323198485) % 2 ^ 64 + (first_of name * 14029467366897019727) % 2 ^ 64) % 2 ^ 64
-    + (before_last name * 1609587929392839161) % 2 ^ 64) % 2 ^ 64
+hash_of name = mixed (hash_of_first ((length name - 1) / 8) name) (key_of_name name)
 
--- of so many
+-- the slot of a name, where there are so many slots
 abbrev pub slot_of : (count : ℕ) → List ℕ → ℕ
 slot_of count name = (hash_of name / 2 ^ 32) % count
 
@@ -46,15 +46,15 @@ is_slot_shared _ = false
 abbrev pub is_shared : List Slot → List ℕ → Bool
 is_shared slots name = is_slot_shared (slot_at slots name)
 
--- of the first n names, each has its slot, and one that an earlier one is the same as has a shared one
-pub record AreTold (names : List (List ℕ)) (n : ℕ) (slots : List Slot) : Type 0 where
+-- of the first n names, each has its slot, and each that an earlier name is the same as has a shared one
+pub record HaveSlots (names : List (List ℕ)) (n : ℕ) (slots : List Slot) : Type 0 where
   pub some : 0 < length slots
   pub few : length slots < 2 ^ 32
   pub taken : (k : ℕ) → k < n → slot_at slots (get_or names k []) ≢ Free
   pub told : (k : ℕ) → k < n → IsDuplicate names k (get_or names k []) → slot_at slots (get_or names k []) ≡ Shared
 
 abbrev pub AreSlots : List Named → List Slot → Type 0
-AreSlots named slots = AreTold (names_in named) (length named) slots
+AreSlots named slots = HaveSlots (names_in named) (length named) slots
 
 -- ---- a table of the names so far whose slots are shared
 
@@ -66,6 +66,7 @@ has_name name keys = list_any (λ k. pointwise eqb name.now k.now) keys
 abbrev pub with_name : Bor (List ℕ) → List (Bor (List ℕ)) → List (Bor (List ℕ))
 with_name name keys = if has_name name keys then keys else keys ++ name ∷ []
 
+-- the names in the table are among the first i, and those of them that share a slot are in it
 pub record Seen (slots : List Slot) (names : List (List ℕ)) (i : ℕ) (keys : List (Bor (List ℕ))) : Type 0 where
   pub in_table : (name : List ℕ) → is_shared slots name ≡ true → IsDuplicate names i name → Contains (texts_of keys) name
   pub from_names : (name : List ℕ) → Contains (texts_of keys) name → IsDuplicate names i name

@@ -6,6 +6,7 @@ ghost use Rattle.ncc_layout.specs.Sizes.{AreSizes};
 ghost use Rattle.ncc_check.specs.Notes.{AreNotes};
 
 mod counting;
+mod keys;
 mod named;
 mod names;
 mod naming;

@@ -1,8 +1,7 @@
 -- Elements of lists, of their images and of what a test keeps.
 use Rattle.std.proofs.Common.{◌≡◌, zero, suc, Bool, true, false, cond, List, [], ◌∷◌, map, refl, sym, ap, subst, ◌∙◌, arith, ◌⊎◌, inl, inr}
 use Rattle.std.specs.Prelude.{Contains, filter}
-use Rattle.std.specs.List.{AllByRecursion, IsDistinct}
-use Rattle.std.proofs.lemmas.Map.Keys.{IsDistinct-cons, IsDistinct-head, IsDistinct-tail}
+use Rattle.std.specs.List.{AllByRecursion}
 use Rattle.std.proofs.lemmas.List.Elements.{Contains-append_right}
 
 -- an element, by recursion
@@ -74,11 +73,3 @@ all_filter P p (x ∷ xs) all = all_kept (p x) (filter p xs) all.0 (all_filter P
     all_kept : (b : Bool) (ys : List _) → P x → AllByRecursion P ys → AllByRecursion P (cond b (x ∷ ys) ys)
     all_kept true ys h k = (h, k)
     all_kept false ys h k = k
-
-pub distinct_filter : {A : Type 0} (e : A → A → Bool) (p : A → Bool) (xs : List A) → IsDistinct e xs → IsDistinct e (filter p xs)
-distinct_filter e p [] h = h
-distinct_filter e p (x ∷ xs) h = distinct_kept (p x) (filter p xs) (all_filter (λ y. e x y ≡ false) p xs (IsDistinct-head e x xs h)) (distinct_filter e p xs (IsDistinct-tail e x xs h))
-  where
-    distinct_kept : (b : Bool) (ys : List _) → AllByRecursion (λ y. e x y ≡ false) ys → IsDistinct e ys → IsDistinct e (cond b (x ∷ ys) ys)
-    distinct_kept true ys k m = IsDistinct-cons e x ys k m
-    distinct_kept false ys k m = m

@@ -2,6 +2,7 @@
 use Rattle.std.proofs.Common.{◌≡◌, ℕ, ◌^◌, ◌<◌, ◌≤◌, Bool, true, false, not, cond, List, [], ◌∷◌, Option, Some, None, zero, suc, length, get_or, refl, sym, ap, subst, ◌∙◌, arith, ◌⊎◌, inl, inr}
 use Rattle.std.specs.Prelude.{Contains, filter, ltb, ◌==◌}
 use Rattle.std.specs.List.{AllByRecursion, IsDistinct}
+use Rattle.std.specs.Option.{option_or}
 use Rattle.std.specs.List.Sorted.{IsPermutation, IsNonDecreasingBy}
 use Rattle.std.proofs.lemmas.Bool.{cases_lt, le-ltb, ltb-false, ltb-true}
 use Rattle.std.proofs.lemmas.List.Elements.{All-from_recursion, recursion_from_All}
@@ -10,7 +11,7 @@ use Rattle.std.proofs.lemmas.Map.Keys.{IsDistinct-IsPermutation, IsDistinct-head
 use Rattle.ncc_layout.specs.declared.extent.Extent.{Extent}
 use Rattle.ncc_layout.specs.Extents.{end, fixed_of, records_of}
 use Rattle.ncc_layout.specs.Rules.Overlap.{Apart, NoOverlap, Before, FirstInsideFrom, FirstInside, FirstShared, InOrder, InOrderFrom, Overlaps}
-use Rattle.ncc_layout.specs.Bounds.{rank, HasBytes, AreNumbered, either, inside, inside_from}
+use Rattle.ncc_layout.specs.Bounds.{rank, HasBytes, AreNumbered, inside, inside_from}
 use Rattle.ncc_layout.proofs.Membership.{in_from_contains, contains_from_in, filter_in, in_filter, all_filter}
 use Rattle.ncc_layout.proofs.Neighbours.{ChainedFrom, chained_apart, shared, moved_shared}
 
@@ -166,7 +167,7 @@ module _ (xs ys : List Extent) (moved : IsPermutation xs ys) (bytes : AllByRecur
 
   -- ---- what the search found in their order
 
-  found_by : (fixed records found : Option ℕ) → inside_from 0 (fixed_of ys) ≡ fixed → inside_from 0 (records_of ys) ≡ records → found ≡ either fixed records → Overlaps xs found
+  found_by : (fixed records found : Option ℕ) → inside_from 0 (fixed_of ys) ≡ fixed → inside_from 0 (records_of ys) ≡ records → found ≡ option_or fixed records → Overlaps xs found
   found_by (Some n) records found h k is = subst (Overlaps xs) (sym is) (inl (shared_of (λ e. not e.is_record) n h))
   found_by None (Some n) found h k is = subst (Overlaps xs) (sym is) (inr (apart_of (λ e. not e.is_record) h, shared_of (λ e. e.is_record) n k))
   found_by None None found h k is = subst (Overlaps xs) (sym is) (apart_of (λ e. not e.is_record) h, apart_of (λ e. e.is_record) k)
@@ -182,7 +183,7 @@ none_overlaps xs bytes h = by_kinds (inside_from 0 (fixed_of xs)) (inside_from 0
     slabs_of : (p : Extent → Bool) → AllByRecursion (λ e. 0 < e.slab) (filter p xs)
     slabs_of p = has_bytes (filter p xs) (all_filter HasBytes p xs bytes)
 
-    by_kinds : (fixed records : Option ℕ) → inside_from 0 (fixed_of xs) ≡ fixed → inside_from 0 (records_of xs) ≡ records → None ≡ either fixed records → Overlaps xs None
+    by_kinds : (fixed records : Option ℕ) → inside_from 0 (fixed_of xs) ≡ fixed → inside_from 0 (records_of xs) ≡ records → None ≡ option_or fixed records → Overlaps xs None
     by_kinds (Some n) records f r k = absurd cc
     by_kinds None (Some n) f r k = absurd cc
     by_kinds None None f r k = (no_overlap (fixed_of xs) (slabs_of (λ e. not e.is_record)) f, no_overlap (records_of xs) (slabs_of (λ e. e.is_record)) r)

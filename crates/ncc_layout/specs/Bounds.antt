@@ -1,6 +1,7 @@
 -- What the judging of the rules computes.
 use Rattle.std.specs.Prelude.{ℕ, ltb, ◌==◌, if◌then◌else◌, ◌+◌, ◌-◌, ◌/◌, ◌*◌, ◌^◌, ◌<◌, max, min, List, [], ◌∷◌, Option, Some, None}
 use Rattle.std.specs.List.{AllByRecursion, IsDistinct}
+use Rattle.std.specs.Option.{option_or}
 use Rattle.ncc_layout.specs.declared.extent.Extent.{Extent}
 use Rattle.ncc_layout.specs.Extents.{end, fixed_of, records_of}
 use Rattle.ncc_layout.specs.Rules.RecordWindow.{InRecordWindow}
@@ -51,18 +52,14 @@ records_by end record_size length = if ltb length end then 0 else 1 + (length - 
 
 -- ---- neighbours
 
--- the first that begins before the one before it ends, where one before the list ends at `at`
+-- the first that begins before the one in front of it ends, where what is in front of the list ends at `at`
 abbrev pub inside_from : (at : ℕ) → List Extent → Option ℕ
 inside_from at [] = None
 inside_from at (e ∷ es) = if ltb e.begin at then Some e.variable else inside_from (end e) es
 
-abbrev pub either : Option ℕ → Option ℕ → Option ℕ
-either (Some n) other = Some n
-either None other = other
-
--- the first fixed one that does so, else the first record variable
+-- the first fixed variable that begins before the one in front of it ends, else the first record variable
 abbrev pub inside : List Extent → Option ℕ
-inside es = either (inside_from 0 (fixed_of es)) (inside_from 0 (records_of es))
+inside es = option_or (inside_from 0 (fixed_of es)) (inside_from 0 (records_of es))
 
 -- ---- what a search for a failing extent found
 

@@ -1,6 +1,7 @@
 //! The first layout rule that fails.
 
 ghost use Rattle.std.specs.List.{AllByRecursion};
+ghost use Rattle.std.specs.List.Sorted.{IsPermutation};
 ghost use Rattle.ncc_layout.specs.Bounds.{HasBytes, AreNumbered, RecordsJudged, JudgedLater, Judged};
 
 use crate::extent::Extent;
@@ -45,11 +46,13 @@ fn later_fault(extents: &[Extent], frame: Frame) -> Option<(LayoutFaultKind, usi
     Some((LayoutFaultKind::Truncated, variable))
 }
 
-/// The first rule that fails, and the variable that breaks it. The extents may be put into another order.
+/// The first rule that fails, and the variable that breaks it. The extents may be put into another order, but the
+/// rules tell the first that breaks them in the order of the header. So those after that of overlaps are asked before.
 pub fn first_fault(extents: &mut [Extent], frame: Frame) -> Option<(LayoutFaultKind, usize)>
     requires bytes { AllByRecursion HasBytes extents.old }
     requires numbered { AreNumbered extents.old }
-    ensures { Judged frame.header_length frame.file_length frame.record_size frame.records extents.old result }
+    ensures judged { Judged frame.header_length frame.file_length frame.record_size frame.records extents.old result }
+    ensures moved { IsPermutation extents.old extents.new }
 {
     if let Some(variable) = in_header(extents, frame.header_length) {
         return Some((LayoutFaultKind::InHeader, variable));

@@ -135,7 +135,7 @@ fn lay(
     ))
 }
 
-/// The numbers by which a file of this length was judged, which keeps all rules, or the first layout fault.
+/// If a file of this length keeps all rules, the numbers by which it was judged; else the first layout fault.
 fn judged(
     alloc: Global,
     header: &Header,

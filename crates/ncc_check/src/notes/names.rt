@@ -2,14 +2,15 @@
 
 ghost use Rattle.std.specs.Prelude.{◌≡◌, IfOk, OnOk, IsTrue, ◌↔◌, ◌+◌, ◌%◌, ◌<◌, ◌≤◌, ◌^◌, ◌&&◌, [], false, true, not, if◌then◌else◌, length, get_or, set};
 ghost use Rattle.ncc_check.specs.Slots.{has_name, is_shared, with_name};
-ghost use Rattle.ncc_check.specs.Noting.{Adds, AreTaken, Below, NameRuleNote, DuplicateNameNote, IsDuplicate, NameNotes, key_of_name, keys_in, names_in, offsets_in};
+ghost use Rattle.ncc_check.specs.Noting.{Adds, AreTaken, Below, NameRuleNote, DuplicateNameNote, IsDuplicate, NameNotes, keys_in, names_in, offsets_in};
 
 use crate::note::{Note, NoteKind};
+use crate::notes::keys::{key, keys_of};
 use crate::notes::named::Named;
 use crate::notes::pushing::note_if;
 use crate::notes::slots::{Slot, is_shared, slots_of};
 use indexmap::IndexSet;
-use ncc_values::{name_fits, number};
+use ncc_values::name_fits;
 use std::alloc::{AllocError, Global};
 
 /// The most names that are compared pair by pair.
@@ -29,28 +30,6 @@ fn note_name_rule(
         note_if(notes, !fits, NoteKind::NameRule, x.at)?;
     }
     Ok(())
-}
-
-/// The last bytes of a name as a number, 8 of them at most. Names of one list mostly differ there.
-pub fn key(name: &[u8]) -> u64
-    ensures { result ≡ key_of_name name.now }
-{
-    if name.is_empty() {
-        return 0;
-    }
-    let start = name.len().saturating_sub(8);
-    number(&name[start..])
-}
-
-/// The keys of all names.
-fn keys_of(alloc: Global, named: &[Named<'_>]) -> Result<Vec<u64>, AllocError>
-    ensures { IfOk result (λ v. v.items ≡ keys_in named.now) }
-{
-    let mut keys = Vec::with_capacity(alloc, named.len())?;
-    for x in named {
-        keys.push(key(x.name))?;
-    }
-    Ok(keys)
 }
 
 /// Whether one of the first names is this one. Names are compared where their keys are the same.
@@ -120,7 +99,7 @@ fn note_duplicate_names_by_pairs(
     Ok(())
 }
 
-/// Whether the table has a name, which it has then. A name with a slot of its own isn't looked for.
+/// Whether the table has a name that shares its slot; it has it then. Another name isn't looked for, nor put there.
 fn is_seen<'a>(
     seen: &mut IndexSet<&'a [u8]>,
     slots: &[Slot],

@@ -1,10 +1,10 @@
 //! Slots of names: a name that has its slot for itself has no other like it in its list.
 
-ghost use Rattle.std.specs.Prelude.{◌≡◌, ◌<◌, ◌^◌, ◌*◌, IfOk, OnOk, get_or, length, set};
-ghost use Rattle.ncc_check.specs.Slots.{AreSlots, first_of, before_last, hash_of, is_shared, once_more, slot_of};
+ghost use Rattle.std.specs.Prelude.{◌≡◌, ◌<◌, ◌^◌, IfOk, length};
+ghost use Rattle.ncc_check.specs.Slots.{AreSlots, hash_of, is_shared, mixed, once_more, slot_of};
 
+use crate::notes::keys::key;
 use crate::notes::named::Named;
-use crate::notes::names::key;
 use std::alloc::{AllocError, Global};
 
 /// How many names have a slot.
@@ -15,45 +15,32 @@ pub enum Slot {
     Shared,
 }
 
-/// The number of slots of each name, so that few names share one by chance.
-const SLOTS: usize = 8;
+/// How many slots there are for each name, so that few names share one by chance.
+const SLOTS_PER_NAME: usize = 8;
 
-/// The most slots: their number is one of 32 bits.
+/// The most slots, but for one: their number is one of 32 bits.
 const MOST: usize = 1 << 31;
 
-/// Odd factors that spread bits.
-const OF_LAST: u64 = 0x9E37_79B9_7F4A_7C15;
-const OF_FIRST: u64 = 0xC2B2_AE3D_27D4_EB4F;
-const OF_BEFORE: u64 = 0x1656_67B1_9E37_79F9;
+/// An odd factor that spreads bits upwards.
+const FACTOR: u64 = 0x9E37_79B9_7F4A_7C15;
 
-/// The first 8 bytes of a longer name as a number.
-fn first_of(name: &[u8]) -> u64
-    ensures { result ≡ first_of name.now }
+/// With 8 more bytes.
+#[inline]
+fn mixed(hash: u64, bytes: u64) -> u64
+    ensures { result ≡ mixed hash bytes }
 {
-    if name.len() <= 8 {
-        return 0;
-    }
-    key(&name[..8])
+    hash.wrapping_add(bytes).wrapping_mul(FACTOR)
 }
 
-/// The 8 bytes before the last 8 as a number, if there are more than 16.
-fn before_last(name: &[u8]) -> u64
-    ensures { result ≡ before_last name.now }
-{
-    if name.len() <= 16 {
-        return 0;
-    }
-    key(&name[..name.len() - 8])
-}
-
-/// A number made of 24 bytes of a name, or of all.
+/// A number made of all bytes of a name: of 8 after another, and then of the last 8.
 fn hash_of(name: &[u8]) -> u64
     ensures { result ≡ hash_of name.now }
 {
-    key(name)
-        .wrapping_mul(OF_LAST)
-        .wrapping_add(first_of(name).wrapping_mul(OF_FIRST))
-        .wrapping_add(before_last(name).wrapping_mul(OF_BEFORE))
+    let mut hash = 0;
+    for i in 0..name.len().saturating_sub(1) / 8 {
+        hash = mixed(hash, key(&name[..i * 8 + 8]));
+    }
+    mixed(hash, key(name))
 }
 
 /// The slot of a name, of so many.
@@ -77,11 +64,11 @@ fn once_more(slot: Slot) -> Slot
     }
 }
 
-/// Slots that no name has yet, for so many names.
+/// Slots that no name has yet, for so many names. Their number is odd, so that each bit of a hash tells.
 fn free_slots(alloc: Global, names: usize) -> Result<Vec<Slot>, AllocError>
     ensures { IfOk result (λ v. (0 < length v.items) × (length v.items < 2 ^ 32)) }
 {
-    let count = names.saturating_mul(SLOTS).min(MOST).max(1);
+    let count = names.saturating_mul(SLOTS_PER_NAME).min(MOST) + 1;
     let mut slots = Vec::with_capacity(alloc, count)?;
     slots.resize(count, Slot::Free)?;
     Ok(slots)

@@ -2,6 +2,7 @@
 
 ghost use Rattle.std.specs.Prelude.{◌≡◌};
 ghost use Rattle.std.specs.List.{AllByRecursion};
+ghost use Rattle.std.specs.List.Sorted.{IsPermutation};
 ghost use Rattle.ncc_layout.specs.Bounds.{HasBytes, AreNumbered, inside, inside_from};
 ghost use Rattle.ncc_layout.specs.Rules.Overlap.{Overlaps, of_kind};
 
@@ -23,7 +24,7 @@ fn inside_of(extents: &[Extent], is_record: bool) -> Option<usize>
     None
 }
 
-/// The first fixed one that does so, else the first record variable.
+/// The first fixed variable that begins before the one in front of it ends, else the first record variable.
 fn inside(extents: &[Extent]) -> Option<usize>
     ensures { result ≡ inside extents.now }
 {
@@ -34,12 +35,13 @@ fn inside(extents: &[Extent]) -> Option<usize>
 }
 
 /// The first fixed variable, in the order of begin and number, that shares a byte with one before it, else the first
-/// record variable that does so in record 0. The extents are put into that order, if those of a kind don't already lie
-/// one after another.
+/// record variable that does so in record 0. The extents are put into that order, unless those of each kind lie one
+/// after another.
 pub fn overlap(extents: &mut [Extent]) -> Option<usize>
     requires bytes { AllByRecursion HasBytes extents.old }
     requires numbered { AreNumbered extents.old }
-    ensures { Overlaps extents.old result }
+    ensures found { Overlaps extents.old result }
+    ensures moved { IsPermutation extents.old extents.new }
 {
     inside(extents)?;
     extents.sort_unstable_by_key(|e| e.rank());

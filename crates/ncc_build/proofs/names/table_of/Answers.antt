@@ -13,7 +13,7 @@ loop-name-preserved c =
     let name : List ℕ = get_or names i [] in
     let is : key.items ≡ name = c.in_ok-from_slice.ensures.items ∙ c.as_slice.ensures ∙ c.name-item.is ∙ get_or_default names i c.name-item.result [] c.loop-name-test.true in
     let fresh : is_duplicate_name key.items (map (λ k. k.items) keys) ≡ false =
-        ap (λ (n : List ℕ). is_duplicate_name n (map (λ k. k.items) keys)) is ∙ ap (is_duplicate_name name) c.loop-name.invariant ∙ c.requires i c.loop-name-test.true in
+    ap (λ (n : List ℕ). is_duplicate_name n (map (λ k. k.items) keys)) is ∙ ap (is_duplicate_name name) c.loop-name.invariant ∙ c.requires i c.loop-name-test.true in
     added_is (λ k. k.items) key keys c.insert.new.self.keys c.in_ok-insert.ensures.keys fresh
     ∙ ap (λ (l : List (List ℕ)). l ++ key.items ∷ []) c.loop-name.invariant
     ∙ ap (λ (n : List ℕ). take i names ++ n ∷ []) is

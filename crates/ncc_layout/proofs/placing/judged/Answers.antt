@@ -26,7 +26,7 @@ pub fault_at-requires : goal.fault_at-requires
 fault_at-requires c =
     let header = c.args.header.now in
     let there = fault_there header.schema (places_of header.places) header.length c.args.file_length c.deref_mut.result.now c.frame_of-frame.result c.frame_of-frame.ensures (c.deref_mut.ensures.value ∙ c.in_ok-extents.ensures.extents)
-    c.requires.legal.number c.first_fault.result c.in-Some.kind c.in-Some.variable c.first_fault.ensures c.in-Some.is in
+    c.requires.legal.number c.first_fault.result c.in-Some.kind c.in-Some.variable c.first_fault.ensures.judged c.in-Some.is in
     omega (arith, there, length-map header.places place_of, ap length c.as_slice.ensures)
 
 pub returns-in-Some-clause-judged : goal.returns-in-Some-clause-judged
@@ -34,9 +34,9 @@ returns-in-Some-clause-judged c =
     let header = c.args.header.now in
     let is = c.deref_mut.ensures.value ∙ c.in_ok-extents.ensures.extents in
     let found = fault_found header.schema (places_of header.places) header.length c.args.file_length c.deref_mut.result.now c.frame_of-frame.result c.frame_of-frame.ensures is
-    c.requires.sizes.none_too_large c.first_fault.result c.in-Some.kind c.in-Some.variable c.first_fault.ensures c.in-Some.is in
+    c.requires.sizes.none_too_large c.first_fault.result c.in-Some.kind c.in-Some.variable c.first_fault.ensures.judged c.in-Some.is in
     let there = fault_there header.schema (places_of header.places) header.length c.args.file_length c.deref_mut.result.now c.frame_of-frame.result c.frame_of-frame.ensures is
-    c.requires.legal.number c.first_fault.result c.in-Some.kind c.in-Some.variable c.first_fault.ensures c.in-Some.is in
+    c.requires.legal.number c.first_fault.result c.in-Some.kind c.in-Some.variable c.first_fault.ensures.judged c.in-Some.is in
     let same = c.fault_at.ensures ∙ ap (λ (l : List VarPlace). fault_at l c.in-Some.kind c.in-Some.variable) c.as_slice.ensures in
     subst (λ (f : LayoutFault). PlacedAs header.schema header.places header.length c.args.file_length (Err (Fault f))) (sym same)
     (c.in-Some.variable, found, omega (arith, there, length-map header.places place_of), refl)
@@ -47,7 +47,7 @@ returns-clause-judged c =
     let is = c.deref_mut.ensures.value ∙ c.in_ok-extents.ensures.extents in (
       record {
         none_too_large = c.requires.sizes.none_too_large;
-        rules = rules_hold header.schema (places_of header.places) header.length c.args.file_length c.deref_mut.result.now c.frame_of-frame.result c.frame_of-frame.ensures is c.first_fault.result c.first_fault.ensures c.in-None.is;
+        rules = rules_hold header.schema (places_of header.places) header.length c.args.file_length c.deref_mut.result.now c.frame_of-frame.result c.frame_of-frame.ensures is c.first_fault.result c.first_fault.ensures.judged c.in-None.is;
       },
       c.frame_of-frame.ensures,
     )

@@ -1,7 +1,8 @@
 use Rattle.std.proofs.Common.{◌≡◌, ℕ, List, [], ◌∷◌, ◌++◌, false, ap, map, subst, sym, ◌∙◌, append_assoc}
 use Rattle.std.specs.Prelude.{is_ok}
-use Rattle.ncc_build.specs.Building.{AreApart, is_duplicate_name}
-use Rattle.ncc_build.proofs.Tables.{added_is, apart_either, not_first, not_other}
+use Rattle.ncc_build.specs.Building.{is_duplicate_name}
+use Rattle.ncc_build.specs.Tables.{NoneTwice}
+use Rattle.ncc_build.proofs.Tables.{added_is, distinct_either, not_first, not_other}
 use Rattle.ncc_build.proofs.names.Names.add.Goals as goal
 
 pub invariant_of-self-inside : goal.invariant_of-self-inside
@@ -9,8 +10,8 @@ invariant_of-self-inside c =
     let inside = c.self.inside in
     let others = map (λ k. k.items) inside.table.keys in
     let fresh : is_duplicate_name c.args.name inside.few.items ≡ false =
-        not_first c.args.name inside.few.items others (ap (is_duplicate_name c.args.name) (c.self.view_is ∙ c.move_few.ensures) ∙ c.requires) in
-    (subst AreApart (sym c.push.ensures.items) (apart_either (is_ok c.push.result) inside.few.items c.args.name inside.apart fresh), tt)
+    not_first c.args.name inside.few.items others (ap (is_duplicate_name c.args.name) (c.self.view_is ∙ c.move_few.ensures) ∙ c.requires) in
+    (subst NoneTwice (sym c.push.ensures.items) (distinct_either (is_ok c.push.result) inside.few.items c.args.name inside.distinct fresh), tt)
 
 pub returns-clause-ok : goal.returns-clause-ok
 returns-clause-ok c =

@@ -3,7 +3,7 @@ use Rattle.std.proofs.lemmas.List.{get_or_default, length-set}
 use Rattle.ncc_check.specs.declared.notes.named.Named.{Named}
 use Rattle.ncc_check.specs.declared.notes.slots.Slot.TheVariants.{Free}
 use Rattle.ncc_check.specs.Noting.{names_in}
-use Rattle.ncc_check.specs.Slots.{AreTold, once_more, slot_at, slot_of}
+use Rattle.ncc_check.specs.Slots.{HaveSlots, once_more, slot_at, slot_of}
 use Rattle.ncc_check.proofs.Repeats.{name_at}
 use Rattle.ncc_check.proofs.Slots.{one_slot}
 use Rattle.ncc_check.proofs.notes.slots.slots_of.Goals as goal
@@ -23,5 +23,5 @@ loop-x-preserved c =
     let more : c.once_more.result ≡ once_more (slot_at slots new) = c.once_more.ensures ∙ ap once_more was in
     record {
       long = length-set slots s c.once_more.result ∙ c.loop-x.invariant.long;
-      told = subst (AreTold names (i + 1)) (ap (λ (n : ℕ). set slots n (once_more (slot_at slots new))) (sym is) ∙ ap (set slots s) (sym more)) (one_slot names i slots there c.loop-x.invariant.told);
+      told = subst (HaveSlots names (i + 1)) (ap (λ (n : ℕ). set slots n (once_more (slot_at slots new))) (sym is) ∙ ap (set slots s) (sym more)) (one_slot names i slots there c.loop-x.invariant.told);
     }
