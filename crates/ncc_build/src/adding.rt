@@ -102,7 +102,7 @@ fn reserve_named<T: Drop>(
     let reserved = listed.reserve(count);
     *items = Seq::from_vec(listed);
     reserved?;
-    names.reserve(count)
+    names.reserve(alloc, count)
 }
 
 /// Makes room for so many attributes of a variable. All stays as it is.

@@ -14,12 +14,14 @@ use std::alloc::{AllocError, Global};
 use std::marker::Model;
 
 /// How many names are looked through one by one, at most.
-const FEW: usize = 32;
+const FEW: usize = 64;
 
 /// The names of a list, in its order: a few, or else all of them in a table.
 #[derive(Drop)]
 pub struct Names {
     few: Vec<Name>,
+    /// How many may be few: none, if it was known that there will be more.
+    most: usize,
     table: IndexSet<Vec<u8>>,
     ghost distinct: { NoneTwice few.items },
 }
@@ -58,6 +60,7 @@ impl Names {
     {
         Names {
             few: Vec::new(alloc),
+            most: FEW,
             table: IndexSet::new(alloc),
         }
     }
@@ -69,11 +72,27 @@ impl Names {
         is_one_of(&self.few, name) || self.table.contains(name)
     }
 
-    /// Makes room for so many names, and for as many as are looked through one by one at most. They stay as they are.
-    pub fn reserve(&mut self, count: usize) -> Result<(), AllocError>
+    /// Makes room for so many names. They stay as they are.
+    pub fn reserve(&mut self, alloc: Global, count: usize) -> Result<(), AllocError>
         ensures { self.new ≡ self.old }
     {
-        self.few.reserve(count.min(FEW))
+        if count > FEW {
+            return self.begin_table(alloc, count);
+        }
+        self.few.reserve(count)
+    }
+
+    /// If there are no names yet, all will be in a table, which has room for so many.
+    fn begin_table(&mut self, alloc: Global, count: usize) -> Result<(), AllocError>
+        ensures { self.new ≡ self.old }
+    {
+        if !self.few.is_empty() || !self.table.is_empty() {
+            return Ok(());
+        }
+        let table = IndexSet::with_capacity(alloc, count)?;
+        self.table = table;
+        self.most = 0;
+        Ok(())
     }
 
     /// Moves the names into the table, once they aren't few any more.
@@ -96,7 +115,7 @@ impl Names {
         ensures err { OnErr result (self.new ≡ self.old) }
     {
         self.move_few(alloc)?;
-        if self.table.is_empty() {
+        if self.table.is_empty() && self.few.len() < self.most {
             self.few.push(name)?;
             return Ok(());
         }

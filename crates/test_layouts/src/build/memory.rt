@@ -5,6 +5,7 @@ ghost use Rattle.std.specs.Prelude.{◌<◌};
 
 use super::helpers::attr;
 use ncc_build::{SchemaBuilder, WriteFault, rebuilt};
+use ncc_schema::Schema;
 use ncc_values::{InlineList, Values, Version, XType};
 use std::alloc::Global;
 use std::test::*;
@@ -86,64 +87,71 @@ fn refused_var_without_memory(rt: HostRuntime) {
     assert!(rt; twice == Err(WriteFault::DuplicateName));
 }
 
-/// A name of two letters.
-fn letters(number: usize) -> [u8; 2]
-    requires { number < 64 }
+/// A name of a letter and two digits.
+fn numbered(number: usize) -> [u8; 3]
+    requires { number < 100 }
 {
-    [b'n', b'A' + number as u8]
+    [b'n', b'0' + (number / 10) as u8, b'0' + (number % 10) as u8]
 }
 
-/// A name that a list of 32 doesn't take for want of memory is taken at the next call, and none is lost.
+/// A name that a long list doesn't take for want of memory is taken at the next call, and none is lost.
 #[test]
 fn refused_names_without_memory(rt: HostRuntime) {
     let mut builder = SchemaBuilder::new(rt.alloc(), Version::V1);
-    for number in 0..34 {
-        let name = letters(number);
+    for number in 0..66 {
+        let name = numbered(number);
         let mut added = builder.dim(&name, 1);
         if added == Err(WriteFault::Memory) {
             added = builder.dim(&name, 1);
         }
         assert!(rt; added == Ok(number));
     }
-    for number in 0..34 {
-        assert!(rt; builder.dim(&letters(number), 1) == Err(WriteFault::DuplicateName));
+    for number in 0..66 {
+        assert!(rt; builder.dim(&numbered(number), 1) == Err(WriteFault::DuplicateName));
     }
 }
 
-/// A variable of 34 attributes.
-fn described(alloc: Global, builder: &mut SchemaBuilder) -> Result<(), WriteFault> {
+/// A variable of so many attributes.
+fn described(alloc: Global, builder: &mut SchemaBuilder, count: usize) -> Result<(), WriteFault>
+    requires { count < 100 }
+{
     let var = builder.var(b"v", XType::Int, &[])?;
-    for number in 0..34 {
+    for number in 0..count {
         attr(
             builder,
             var,
-            &letters(number),
+            &numbered(number),
             Values::Ints(InlineList::new(alloc)),
         )?;
     }
     Ok(())
 }
 
-/// What is built anew has all attributes, or memory was refused, and then it is built at the next call.
+/// How many attributes the one variable has that was built anew; at the second call, if the first was refused memory.
+fn attributes_anew(alloc: Global, schema: &Schema) -> Option<usize> {
+    let mut anew = rebuilt(alloc, schema, Version::V5, 0);
+    if let Err(WriteFault::Memory) = anew {
+        anew = rebuilt(alloc, schema, Version::V5, 0);
+    }
+    let Ok(built) = anew else {
+        return None;
+    };
+    let first = built.schema().vars.as_slice().first()?;
+    Some(first.attrs.len())
+}
+
+/// What is built anew has all attributes, few or many, after memory was refused too.
 #[test]
 fn rebuilds_without_memory(rt: HostRuntime) {
     let alloc = rt.alloc();
-    let mut builder = SchemaBuilder::new(alloc, Version::V1);
-    if described(alloc, &mut builder).is_err() {
-        return;
-    }
-    let Ok(built) = builder.build(0) else {
-        return;
-    };
-    let mut anew = rebuilt(alloc, built.schema(), Version::V5, 0);
-    if let Err(WriteFault::Memory) = anew {
-        anew = rebuilt(alloc, built.schema(), Version::V5, 0);
-    }
-    match anew {
-        Ok(other) => {
-            let vars = other.schema().vars.as_slice();
-            assert!(rt; vars.len() == 1 && vars[0].attrs.len() == 34);
+    for count in [3, 66] {
+        let mut builder = SchemaBuilder::new(alloc, Version::V1);
+        if described(alloc, &mut builder, count).is_err() {
+            continue;
         }
-        Err(_) => assert!(rt; false),
+        let Ok(built) = builder.build(0) else {
+            continue;
+        };
+        assert!(rt; attributes_anew(alloc, built.schema()) == Some(count));
     }
 }
