@@ -1,8 +1,9 @@
 -- Slots of names: a name that has its slot for itself has no other like it in its list.
-use Rattle.std.specs.Prelude.{◌≡◌, ◌≢◌, ℕ, zero, suc, ◌+◌, ◌*◌, ◌-◌, ◌/◌, ◌%◌, ◌^◌, ◌<◌, Bool, true, false, List, [], ◌∷◌, ◌++◌, eqb, length, take, get_or, Contains, if◌then◌else◌}
+use Rattle.std.specs.Prelude.{◌≡◌, ◌≢◌, ℕ, zero, suc, ◌+◌, ◌*◌, ◌-◌, ◌/◌, ◌%◌, ◌^◌, ◌<◌, Bool, true, false, List, [], ◌∷◌, ◌++◌, eqb, length, take, drop, get_or, Contains, if◌then◌else◌}
 use Rattle.std.specs.Borrow.{Bor}
 use Rattle.std.specs.List.{list_any}
 use Rattle.std.specs.Cmp.Lexicographic.{pointwise}
+use Rattle.ncc_values.specs.Numbers.{number_of}
 use Rattle.ncc_check.specs.declared.notes.named.Named.{Named}
 use Rattle.ncc_check.specs.declared.notes.slots.Slot.{Slot}
 use Rattle.ncc_check.specs.declared.notes.slots.Slot.TheVariants.{Free, Once, Shared}
@@ -17,7 +18,7 @@ mixed hash bytes = ((hash + bytes) % 2 ^ 64 * 0x9E3779B97F4A7C15) % 2 ^ 64
 -- of the first n times 8 bytes
 abbrev pub hash_of_first : (n : ℕ) → List ℕ → ℕ
 hash_of_first zero name = 0
-hash_of_first (suc n) name = mixed (hash_of_first n name) (key_of_name (take (n * 8 + 8) name))
+hash_of_first (suc n) name = mixed (hash_of_first n name) (number_of (take 8 (drop (n * 8) name)))
 
 -- of all bytes
 abbrev pub hash_of : List ℕ → ℕ

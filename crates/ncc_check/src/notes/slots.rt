@@ -5,6 +5,7 @@ ghost use Rattle.ncc_check.specs.Slots.{AreSlots, hash_of, is_shared, mixed, onc
 
 use crate::notes::keys::key;
 use crate::notes::named::Named;
+use ncc_values::number;
 use std::alloc::{AllocError, Global};
 
 /// How many names have a slot.
@@ -38,7 +39,7 @@ fn hash_of(name: &[u8]) -> u64
 {
     let mut hash = 0;
     for i in 0..name.len().saturating_sub(1) / 8 {
-        hash = mixed(hash, key(&name[..i * 8 + 8]));
+        hash = mixed(hash, number(&name[i * 8..i * 8 + 8]));
     }
     mixed(hash, key(name))
 }
