@@ -1,6 +1,6 @@
 //! Slots of names: a name that has its slot for itself has no other like it in its list.
 
-ghost use Rattle.std.specs.Prelude.{◌≡◌, ◌<◌, ◌^◌, IfOk, length};
+ghost use Rattle.std.specs.Prelude.{◌≡◌, ◌+◌, ◌*◌, ◌<◌, ◌^◌, min, IfOk, length};
 ghost use Rattle.ncc_check.specs.Slots.{AreSlots, hash_of, is_shared, mixed, once_more, slot_of};
 
 use crate::notes::keys::key;
@@ -67,7 +67,7 @@ fn once_more(slot: Slot) -> Slot
 
 /// Slots that no name has yet, for so many names. Their number is odd, so that each bit of a hash tells.
 fn free_slots(alloc: Global, names: usize) -> Result<Vec<Slot>, AllocError>
-    ensures { IfOk result (λ v. (0 < length v.items) × (length v.items < 2 ^ 32)) }
+    ensures { IfOk result (λ v. length v.items ≡ min (names * 8) (2 ^ 31) + 1) }
 {
     let count = names.saturating_mul(SLOTS_PER_NAME).min(MOST) + 1;
     let mut slots = Vec::with_capacity(alloc, count)?;
