@@ -1,6 +1,6 @@
 //! An item goes to the end of its list, and its name to the names of the list.
 
-ghost use Rattle.std.specs.Prelude.{◌≡◌, ◌<◌, [], ◌∷◌, ◌++◌, false, length, vec_len, IfOk, OnOk, OnErr};
+ghost use Rattle.std.specs.Prelude.{◌≡◌, ◌<◌, [], ◌∷◌, ◌++◌, false, length, vec_len, IfOk, IsOk, OnOk, OnErr};
 ghost use Rattle.ncc_values.specs.Values.{AreInRange};
 ghost use Rattle.ncc_build.specs.Building.{is_duplicate_name, vars_with};
 ghost use Rattle.ncc_build.specs.Tables.{names_at, with_name};
@@ -97,6 +97,7 @@ fn reserve_named<T: Drop>(
 ) -> Result<(), AllocError>
     ensures items { items.new ≡ items.old }
     ensures names { names.new ≡ names.old }
+    ensures none { count ≡ 0 → IsOk result }
 {
     let mut listed = mem::replace(items, Seq::new(alloc)).into_vec();
     let reserved = listed.reserve(count);
@@ -117,6 +118,7 @@ pub fn reserve_in_var(
     requires listed { var < vec_len tables.old }
     ensures vars { vars.new ≡ vars.old }
     ensures names { tables.new.items ≡ tables.old.items }
+    ensures none { count ≡ 0 → IsOk result }
 {
     let mut listed = mem::replace(vars, Seq::new(alloc)).into_vec();
     let reserved = reserve_named(alloc, &mut listed[var].attrs, &mut tables[var], count);

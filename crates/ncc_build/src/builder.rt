@@ -1,6 +1,6 @@
 //! A schema that is built call by call.
 
-ghost use Rattle.std.specs.Prelude.{◌≡◌, ◌<◌, true, ltb, None, OnErr, IfErr, IfOk, OnOk, length};
+ghost use Rattle.std.specs.Prelude.{◌≡◌, ◌<◌, true, ltb, None, OnErr, IfErr, IfOk, IsOk, OnOk, length};
 ghost use Rattle.ncc_values.specs.Name.{FitsAsName, is_name};
 ghost use Rattle.ncc_schema.specs.Schema.{record_dims, with_count};
 ghost use Rattle.ncc_schema.specs.declared.schema.Count.TheVariants.{Known};
@@ -250,7 +250,8 @@ impl SchemaBuilder {
     /// Makes room for so many attributes of a variable. The schema stays as it is.
     pub(crate) fn reserve_attrs(&mut self, var: usize, count: usize) -> Result<(), AllocError>
         requires there { var < length (schema_so_far self.old).vars }
-        ensures { schema_so_far self.new ≡ schema_so_far self.old }
+        ensures same { schema_so_far self.new ≡ schema_so_far self.old }
+        ensures none { count ≡ 0 → IsOk result }
     {
         let tables = &mut self.tables;
         reserve_in_var(

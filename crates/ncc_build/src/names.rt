@@ -1,6 +1,6 @@
 //! The names of a list: a few one after another, more in a table.
 
-ghost use Rattle.std.specs.Prelude.{◌≡◌, [], ◌∷◌, ◌++◌, false, eqb, map, IfOk, OnOk, OnErr};
+ghost use Rattle.std.specs.Prelude.{◌≡◌, [], ◌∷◌, ◌++◌, false, eqb, map, IfOk, IsOk, OnOk, OnErr};
 ghost use Rattle.std.specs.Cmp.Lexicographic.{pointwise};
 ghost use Rattle.std.specs.List.{list_any};
 ghost use Rattle.ncc_values.specs.Numbers.{IsBytes};
@@ -74,7 +74,8 @@ impl Names {
 
     /// Makes room for so many names. They stay as they are.
     pub fn reserve(&mut self, alloc: Global, count: usize) -> Result<(), AllocError>
-        ensures { self.new ≡ self.old }
+        ensures same { self.new ≡ self.old }
+        ensures none { count ≡ 0 → IsOk result }
     {
         if count > FEW {
             return self.begin_table(alloc, count);

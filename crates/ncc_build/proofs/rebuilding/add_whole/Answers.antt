@@ -22,7 +22,7 @@ returns-clause-judged c =
     let attrs = c.add_attrs.ensures.judged in
     judged_later (refuses_var (is_name x.name) s x.name x.xtype x.dims) (refuses_attrs (with_var s x.name x.xtype x.dims) (length s.vars) x.attrs)
     _ c.add_attrs.result (rw (c.as_slice.ensures, c.as_slice-2.ensures) at judged)
-    (rw (c.reserve_attrs.ensures, c.in_ok-number.ensures.added, c.in_ok-number.ensures.number, c.as_slice.ensures, c.as_slice-2.ensures, c.as_slice-3.ensures) at attrs)
+    (rw (c.reserve_attrs.ensures.same, c.in_ok-number.ensures.added, c.in_ok-number.ensures.number, c.as_slice.ensures, c.as_slice-2.ensures, c.as_slice-3.ensures) at attrs)
 
 pub returns-clause-added : goal.returns-clause-added
 returns-clause-added c =
@@ -30,5 +30,5 @@ returns-clause-added c =
     let x = c.args.var.now in
     let whole : with_attrs c.var.new.self.schema c.in_ok-number.number c.as_slice-3.result.now ≡ with_whole s x =
     rw (c.in_ok-number.ensures.added, c.in_ok-number.ensures.number, c.as_slice.ensures, c.as_slice-2.ensures, c.as_slice-3.ensures) (whole_is s x) in
-    let room = ap (λ (t : Schema). with_attrs t c.in_ok-number.number c.as_slice-3.result.now) c.reserve_attrs.ensures in
+    let room = ap (λ (t : Schema). with_attrs t c.in_ok-number.number c.as_slice-3.result.now) c.reserve_attrs.ensures.same in
     on_ok c.add_attrs.result _ _ (λ e. e ∙ room ∙ whole) c.add_attrs.ensures.added
