@@ -1,6 +1,6 @@
 -- Slots of names, as one name after another takes its own.
 use Rattle.std.proofs.Common.{◌≡◌, ◌≢◌, ℕ, ◌+◌, ◌<◌, ◌≤◌, List, [], length, get_or, set, refl, sym, ap, ◌∙◌, ◌⊎◌, inl, inr, arith}
-use Rattle.std.proofs.lemmas.Bool.{cases_lt}
+use Rattle.std.proofs.lemmas.Bool.{cases_eq, cases_lt}
 use Rattle.std.proofs.lemmas.List.{get_or-set_other, get_or-set_same, length-set}
 use Rattle.ncc_check.specs.declared.notes.slots.Slot.{Slot}
 use Rattle.ncc_check.specs.declared.notes.slots.Slot.TheVariants.{Free, Once, Shared}
@@ -47,14 +47,10 @@ module _ (slots : List Slot) (new : List ℕ) (there : slot_of (length slots) ne
 
   -- the slot of a name has one more, or is as it was
   either : (name : List ℕ) → (slot_at after name ≡ once_more (slot_at slots name)) ⊎ (slot_at after name ≡ slot_at slots name)
-  either name = by_order (cases_lt (slot_of (length slots) name) (slot_of (length slots) new)) (cases_lt (slot_of (length slots) new) (slot_of (length slots) name))
-    where
-      by_order : (slot_of (length slots) name < slot_of (length slots) new) ⊎ (slot_of (length slots) new ≤ slot_of (length slots) name)
-          → (slot_of (length slots) new < slot_of (length slots) name) ⊎ (slot_of (length slots) name ≤ slot_of (length slots) new)
-          → (slot_at after name ≡ once_more (slot_at slots name)) ⊎ (slot_at after name ≡ slot_at slots name)
-      by_order (inl a) b = inr (at_other name (λ e. omega (arith, a, e)))
-      by_order (inr a) (inl b) = inr (at_other name (λ e. omega (arith, b, e)))
-      by_order (inr a) (inr b) = inl (at_same name (omega (arith, a, b)))
+  either name = elim (cases_eq (slot_of (length slots) name) (slot_of (length slots) new)) [
+    | inl same ↦ inl (at_same name same)
+    | inr other ↦ inr (at_other name other)
+  ]
 
   still_taken : (name : List ℕ) → slot_at slots name ≢ Free → slot_at after name ≢ Free
   still_taken name h = by (either name)

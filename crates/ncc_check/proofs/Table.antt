@@ -2,7 +2,7 @@
 use Rattle.std.proofs.Common.{◌≡◌, ℕ, zero, suc, ◌+◌, ◌<◌, ◌≤◌, Bool, true, false, ◌||◌, ◌&&◌, List, [], ◌∷◌, ◌++◌, get_or, refl, sym, ap, subst, ◌∙◌, ◌⊎◌, inl, inr, arith, eqb, true≢false, Bor}
 use Rattle.std.specs.Prelude.{IsTrue, Contains, if◌then◌else◌}
 use Rattle.std.specs.Cmp.Lexicographic.{pointwise}
-use Rattle.std.proofs.lemmas.Bool.{cases_lt}
+use Rattle.std.proofs.lemmas.Bool.{and_parts, cases_lt}
 use Rattle.std.proofs.lemmas.List.{map-append}
 use Rattle.std.proofs.lemmas.List.Elements.{Contains-append_left, Contains-append_right, Contains-append_cases}
 use Rattle.std.proofs.lemmas.Slice.Eq.{bytes_eq-Decides}
@@ -97,11 +97,7 @@ one_seen slots names i keys after q is e s = subst (Seen slots names (i + 1)) (s
 -- ---- whether it is a duplicate
 
 pub was_duplicate : (slots : List Slot) (names : List (List ℕ)) (i : ℕ) (keys : List (Bor (List ℕ))) (q : Bor (List ℕ)) (repeated : Bool) → repeated ≡ (is_shared slots q.now && has_name q keys) → Seen slots names i keys → IsTrue repeated → IsDuplicate names i q.now
-was_duplicate slots names i keys q repeated e s t = s.from_names q.now (there q keys (second (is_shared slots q.now) (has_name q keys) (sym e ∙ t)))
-  where
-    second : (a b : Bool) → (a && b) ≡ true → b ≡ true
-    second true b h = h
-    second false b h = absurd cc
+was_duplicate slots names i keys q repeated e s t = s.from_names q.now (there q keys (and_parts (is_shared slots q.now) (has_name q keys) (sym e ∙ t)).1)
 
 shared_one : (slots : List Slot) (name : List ℕ) → slot_at slots name ≡ Shared → is_shared slots name ≡ true
 shared_one slots name h = ap is_slot_shared h
