@@ -1,14 +1,12 @@
 -- Notes that join others.
-use Rattle.std.proofs.Common.{◌≡◌, ℕ, zero, suc, ◌+◌, ◌<◌, ◌≤◌, List, [], ◌∷◌, ◌++◌, length, map, drop, get_or, refl, sym, ap, ap₂, subst, ◌∙◌, ◌⊎◌, inl, inr, arith, append_assoc, append-nil}
+use Rattle.std.proofs.Common.{◌≡◌, ℕ, zero, suc, ◌+◌, ◌<◌, ◌≤◌, List, [], ◌∷◌, ◌++◌, length, get_or, refl, sym, ap, subst, ◌∙◌, ◌⊎◌, inl, inr, arith}
 use Rattle.std.specs.Prelude.{Contains}
 use Rattle.std.proofs.lemmas.Bool.{cases_lt}
-use Rattle.std.proofs.lemmas.List.{drop_more, map-append}
 use Rattle.std.proofs.lemmas.List.Elements.{Contains-append_left, Contains-append_right, Contains-append_cases}
 use Rattle.ncc_schema.specs.Names.{capped}
 use Rattle.ncc_check.specs.declared.note.Note.{Note}
 use Rattle.ncc_check.specs.declared.note.NoteKind.{NoteKind}
-use Rattle.ncc_check.specs.declared.notes.named.Named.{Named}
-use Rattle.ncc_check.specs.Noting.{Adds, NoteIf, Below, names_in, offsets_in, offsets_from, Names, NamesUpTo}
+use Rattle.ncc_check.specs.Noting.{Adds, NoteIf, Below, offset_after, offsets_from}
 
 pub nothing_joins : (P : Note → Type 0) (xs : List Note) → ((n : Note) → P n → ⊥) → Adds P xs xs
 nothing_joins P xs none = record { kept = λ n h. h; due = λ n h. inl h; all = λ n p. absurd (none n p) }
@@ -79,40 +77,21 @@ note_as A B kind kind' offset offset' xs ys to from e f =
     (λ n a. record { is_due = to a.is_due; is = a.is ∙ (λ i. record { kind = e i; offset = f i }) })
     (λ n b. record { is_due = from b.is_due; is = b.is ∙ (λ i. record { kind = sym e i; offset = sym f i }) })
 
--- ---- names
+-- ---- where items stand
 
-pub names_begin : {A : Type 0} (name item : A → List ℕ) (start : ℕ) (items : List A) → NamesUpTo name item start items 0 start []
-names_begin name item start items = record { names = refl; offsets = refl }
+pub offset_at : {A : Type 0} (item : A → List ℕ) (at : ℕ) (xs : List A) (k : ℕ) → k < length xs → get_or (offsets_from item at xs) k 0 ≡ offset_after item at xs k
+offset_at item at [] k below = absurd (omega (arith, below))
+offset_at item at (x ∷ xs) zero below = refl
+offset_at item at (x ∷ xs) (suc k) below = offset_at item (capped (at + length (item x))) xs k (omega (arith, below))
 
-pub names_go_on : {A : Type 0} (name item : A → List ℕ) (start : ℕ) (items : List A) (i at : ℕ) (named : List Named) (x : A) (new : Named) (size : ℕ)
-    → i < length items → x ≡ get_or items i x → new.name.now ≡ name x → new.at ≡ at → size ≡ capped (length (item x))
-    → NamesUpTo name item start items i at named → NamesUpTo name item start items (i + 1) (capped (at + size)) (named ++ new ∷ [])
-names_go_on name item start items i at named x new size below is called stands long u =
-    let next = drop_more items i x below ∙ ap (λ y. y ∷ drop (i + 1) items) (sym is) in
-    let bound : capped (at + size) ≡ capped (at + length (item x)) = omega (arith, long) in
-    record {
-      names =
-          ap (λ z. z ++ map name (drop (i + 1) items)) (map-append (λ (y : Named). y.name.now) named (new ∷ []))
-          ∙ append_assoc (names_in named) (new.name.now ∷ []) (map name (drop (i + 1) items))
-          ∙ ap (λ z. names_in named ++ (z ∷ map name (drop (i + 1) items))) called
-          ∙ ap (λ ys. names_in named ++ map name ys) (sym next) ∙ u.names;
-      offsets =
-          ap (λ z. z ++ offsets_from item (capped (at + size)) (drop (i + 1) items)) (map-append (λ (y : Named). y.at) named (new ∷ []))
-          ∙ append_assoc (offsets_in named) (new.at ∷ []) (offsets_from item (capped (at + size)) (drop (i + 1) items))
-          ∙ ap₂ (λ y z. offsets_in named ++ (y ∷ offsets_from item z (drop (i + 1) items))) stands bound
-          ∙ ap (λ ys. offsets_in named ++ offsets_from item at ys) (sym next) ∙ u.offsets;
-    }
+next_after : {A : Type 0} (item : A → List ℕ) (at : ℕ) (xs : List A) (k : ℕ) (x : A) (size : ℕ) → k < length xs → x ≡ get_or xs k x → size ≡ capped (length (item x))
+    → offset_after item at xs (suc k) ≡ capped (offset_after item at xs k + size)
+next_after item at [] k x size below is long = absurd (omega (arith, below))
+next_after item at (y ∷ xs) zero x size below is long = let same = ap (λ z. length (item z)) is in omega (arith, long, same)
+next_after item at (y ∷ xs) (suc k) x size below is long = next_after item (capped (at + length (item y))) xs k x size (omega (arith, below)) is long
 
-drop_all : {A : Type 0} (items : List A) (i : ℕ) → length items ≤ i → drop i items ≡ []
-drop_all [] zero h = refl
-drop_all [] (suc i) h = refl
-drop_all (x ∷ items) zero h = absurd (omega (arith, h))
-drop_all (x ∷ items) (suc i) h = drop_all items i (omega (arith, h))
-
-pub names_end : {A : Type 0} (name item : A → List ℕ) (start : ℕ) (items : List A) (i at : ℕ) (named : List Named) → length items ≤ i → NamesUpTo name item start items i at named → Names name item start items named
-names_end name item start items i at named over u =
-    let none = drop_all items i over in
-    record {
-      names = sym (append-nil (names_in named)) ∙ ap (λ ys. names_in named ++ map name ys) (sym none) ∙ u.names;
-      offsets = sym (append-nil (offsets_in named)) ∙ ap (λ ys. offsets_in named ++ offsets_from item at ys) (sym none) ∙ u.offsets;
-    }
+pub one_after : {A : Type 0} (item : A → List ℕ) (at : ℕ) (xs : List A) (k : ℕ) (x : A) (size : ℕ) → k < length xs → x ≡ get_or xs k x → size ≡ capped (length (item x))
+    → offset_after item at xs (k + 1) ≡ capped (offset_after item at xs k + size)
+one_after item at xs k x size below is long =
+    let more : k + 1 ≡ suc k = omega arith in
+    ap (λ (n : ℕ). offset_after item at xs n) more ∙ next_after item at xs k x size below is long

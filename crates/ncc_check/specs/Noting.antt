@@ -1,5 +1,5 @@
 -- The notes of a header list by list, as they are found.
-use Rattle.std.specs.Prelude.{◌≡◌, ℕ, ◌+◌, ◌<◌, ◌-◌, ◌*◌, ◌%◌, ◌≢◌, ◌≤◌, ◌⊎◌, Bool, true, false, List, [], ◌∷◌, ◌++◌, length, map, drop, get_or, slice_get, Some, Contains, if◌then◌else◌}
+use Rattle.std.specs.Prelude.{◌≡◌, ℕ, zero, suc, ◌+◌, ◌<◌, ◌-◌, ◌*◌, ◌%◌, ◌≢◌, ◌≤◌, ◌⊎◌, Bool, true, false, List, [], ◌∷◌, length, map, drop, get_or, slice_get, Some, Contains, if◌then◌else◌}
 use Rattle.std.specs.Borrow.{Bor}
 use Rattle.ncc_values.specs.Name.{FitsAsName}
 use Rattle.ncc_values.specs.Numbers.{number_of}
@@ -20,7 +20,7 @@ use Rattle.ncc_layout.specs.Standard.{vsize_word}
 use Rattle.ncc_check.specs.declared.note.Note.{Note}
 use Rattle.ncc_check.specs.declared.note.NoteKind.{NoteKind}
 use Rattle.ncc_check.specs.declared.note.NoteKind.TheVariants.{VsizeField, HeaderPadding, TaggedEmpty, NameRule, DuplicateName, UnalignedBegin, Order, LargeCount}
-use Rattle.ncc_check.specs.declared.notes.named.Named.{Named}
+use Rattle.ncc_check.specs.declared.notes.names.ItemPlace.{ItemPlace}
 use Rattle.ncc_check.specs.declared.notes.placing.Greatest.{Greatest}
 use Rattle.ncc_check.specs.Notes.{HasLargeCount, numrecs_at, rank, AreInOrder, vsizes}
 use Rattle.ncc_layout.specs.Placed.{begin_field}
@@ -44,26 +44,20 @@ Below P i n = (k : ℕ) × (k < i) × P k n
 
 -- ---- a list of names
 
-abbrev pub names_in : List Named → List (List ℕ)
-names_in xs = map (λ x. x.name.now) xs
-
-abbrev pub offsets_in : List Named → List ℕ
-offsets_in xs = map (λ x. x.at) xs
-
 -- where the items of a list stand, from the first one's offset on
 abbrev pub offsets_from : {A : Type 0} → (A → List ℕ) → (at : ℕ) → List A → List ℕ
 offsets_from item at [] = []
 offsets_from item at (x ∷ xs) = at ∷ offsets_from item (capped (at + length (item x))) xs
 
--- the names of these items, with their offsets
-pub record Names {A : Type 0} (name item : A → List ℕ) (at : ℕ) (items : List A) (named : List Named) : Type 0 where
-  pub names : names_in named ≡ map name items
-  pub offsets : offsets_in named ≡ offsets_from item at items
+-- where the item after the first n stands
+abbrev pub offset_after : {A : Type 0} → (A → List ℕ) → (at : ℕ) → List A → (n : ℕ) → ℕ
+offset_after item at xs zero = at
+offset_after item at [] (suc n) = at
+offset_after item at (x ∷ xs) (suc n) = offset_after item (capped (at + length (item x))) xs n
 
--- the first names, and the offset of the next item
-pub record NamesUpTo {A : Type 0} (name item : A → List ℕ) (start : ℕ) (items : List A) (i at : ℕ) (named : List Named) : Type 0 where
-  pub names : names_in named ++ map name (drop i items) ≡ map name items
-  pub offsets : offsets_in named ++ offsets_from item at (drop i items) ≡ offsets_from item start items
+-- this is the offset of the item of its number
+abbrev pub IsPlace : {A : Type 0} → (item : A → List ℕ) (start : ℕ) (items : List A) → ItemPlace → Type 0
+IsPlace item start items p = p.at ≡ offset_after item start items p.number
 
 abbrev pub NameRuleNote : (names : List (List ℕ)) (offsets : List ℕ) → ℕ → Note → Type 0
 NameRuleNote names offsets k n = NoteIf (¬ FitsAsName (get_or names k [])) NameRule (get_or offsets k 0) n
@@ -78,21 +72,27 @@ DuplicateNameNote names offsets k n = NoteIf (IsDuplicate names k (get_or names 
 abbrev pub key_of_name : List ℕ → ℕ
 key_of_name name = number_of (drop (length name - 8) name)
 
-abbrev pub keys_in : List Named → List ℕ
-keys_in xs = map (λ x. key_of_name x.name.now) xs
+-- the keys of the first n names
+abbrev pub AreKeys : (names : List (List ℕ)) (n : ℕ) (keys : List ℕ) → Type 0
+AreKeys names n keys = (j : ℕ) → j < n → get_or keys j 0 ≡ key_of_name (get_or names j [])
 
--- the first n of these keys have taken their slots, of 61
-abbrev pub AreTaken : (keys : List ℕ) (n : ℕ) (taken : List Bool) → Type 0
-AreTaken keys n taken = (j : ℕ) → j < n → get_or taken (get_or keys j 0 % 61) false ≡ true
+-- the keys of the first n names have taken their slots, of 61
+abbrev pub AreTaken : (names : List (List ℕ)) (n : ℕ) (taken : List Bool) → Type 0
+AreTaken names n taken = (j : ℕ) → j < n → get_or taken (key_of_name (get_or names j []) % 61) false ≡ true
+
+-- the notes on the name of this number, for which it is known whether an earlier one is the same
+abbrev pub NameNotesAt : (names : List (List ℕ)) (offsets : List ℕ) (k : ℕ) (repeated : Type 0) → Note → Type 0
+NameNotesAt names offsets k repeated n = NameRuleNote names offsets k n ⊎ NoteIf repeated DuplicateName (get_or offsets k 0) n
+
+-- the notes on the names before this number
+abbrev pub NameNotesBelow : (names : List (List ℕ)) (offsets : List ℕ) → ℕ → Note → Type 0
+NameNotesBelow names offsets i n = Below (λ k. NameNotesAt names offsets k (IsDuplicate names k (get_or names k []))) i n
 
 -- the notes of a list of names
 abbrev pub NameNotes : (names : List (List ℕ)) (offsets : List ℕ) → Note → Type 0
 NameNotes names offsets n = Below (NameRuleNote names offsets) (length names) n ⊎ Below (DuplicateNameNote names offsets) (length names) n
 
 -- ---- the lists of names of a header
-
-abbrev pub DimNames : Schema → List Named → Type 0
-DimNames s named = Names (λ d. d.name) (canon_dim s.version) (capped (head_size s.version + list_size s.version)) s.dims named
 
 -- the names of attributes from this offset on
 abbrev pub AttrNotes : Version → (at : ℕ) → List Attr → Note → Type 0

@@ -4,10 +4,9 @@ use Rattle.std.specs.Borrow.{Bor}
 use Rattle.std.specs.List.{list_any}
 use Rattle.std.specs.Cmp.Lexicographic.{pointwise}
 use Rattle.ncc_values.specs.Numbers.{number_of}
-use Rattle.ncc_check.specs.declared.notes.named.Named.{Named}
 use Rattle.ncc_check.specs.declared.notes.slots.Slot.{Slot}
 use Rattle.ncc_check.specs.declared.notes.slots.Slot.TheVariants.{Free, Once, Shared}
-use Rattle.ncc_check.specs.Noting.{IsDuplicate, key_of_name, names_in, texts_of}
+use Rattle.ncc_check.specs.Noting.{IsDuplicate, key_of_name, texts_of}
 
 -- ---- the slot of a name
 
@@ -54,8 +53,8 @@ pub record HaveSlots (names : List (List ℕ)) (n : ℕ) (slots : List Slot) : T
   pub taken : (k : ℕ) → k < n → slot_at slots (get_or names k []) ≢ Free
   pub told : (k : ℕ) → k < n → IsDuplicate names k (get_or names k []) → slot_at slots (get_or names k []) ≡ Shared
 
-abbrev pub AreSlots : List Named → List Slot → Type 0
-AreSlots named slots = HaveSlots (names_in named) (length named) slots
+abbrev pub AreSlots : (names : List (List ℕ)) → List Slot → Type 0
+AreSlots names slots = HaveSlots names (length names) slots
 
 -- ---- a table of the names so far whose slots are shared
 

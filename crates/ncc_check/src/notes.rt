@@ -6,11 +6,12 @@ ghost use Rattle.ncc_layout.specs.Sizes.{AreSizes};
 ghost use Rattle.ncc_check.specs.Notes.{AreNotes};
 
 mod counting;
+mod item;
 mod keys;
-mod named;
 mod names;
 mod naming;
 mod ordering;
+mod pairs;
 mod placing;
 mod pushing;
 mod slots;

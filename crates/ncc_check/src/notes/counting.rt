@@ -1,14 +1,14 @@
 //! The notes on numbers, and on the spelling of the header.
 
 ghost use Rattle.std.specs.Prelude.{◌≡◌, OnOk, IsTrue, ◌↔◌, length};
+ghost use Rattle.ncc_schema.specs.Header.{canon_dim};
 ghost use Rattle.ncc_check.specs.Notes.{HasLargeCount};
-ghost use Rattle.ncc_check.specs.Noting.{Adds, Below, LargeCountNote, LargeLengthNote, MarkNote, names_in, note_of_mark, offsets_in};
+ghost use Rattle.ncc_check.specs.Noting.{Adds, Below, LargeCountNote, LargeLengthNote, MarkNote, dim_names, note_of_mark, offsets_from};
 
 use crate::note::{Note, NoteKind};
-use crate::notes::named::Named;
 use crate::notes::pushing::note_if;
 use ncc_header::{Count, Dim, Mark, Schema, Version};
-use ncc_schema::{limit_of_counts, name_size};
+use ncc_schema::{dim_size, limit_of_counts, name_size};
 use std::alloc::AllocError;
 
 /// Where the number of records is.
@@ -60,24 +60,24 @@ pub fn note_large_count(schema: &Schema, notes: &mut Vec<Note>) -> Result<(), Al
     Ok(())
 }
 
-/// Notes the dimensions whose length has its top bit set.
+/// Notes the dimensions whose length has its top bit set, of which the first is at this offset.
 pub fn note_large_lengths(
     version: Version,
     dims: &[Dim],
-    named: &[Named<'_>],
+    start: u64,
     notes: &mut Vec<Note>,
 ) -> Result<(), AllocError>
-    requires { length named.now ≡ length dims.now }
     ensures { OnOk result (Adds
-        (Below (LargeLengthNote version dims.now (names_in named.now) (offsets_in named.now)) (length dims.now))
+        (Below (LargeLengthNote version dims.now (dim_names dims.now) (offsets_from (canon_dim version) start dims.now))
+        (length dims.now))
         notes.old.items notes.new.items) }
 {
     let limit = limit_of_counts(version);
-    for i in 0..dims.len() {
-        let at = named[i]
-            .at
-            .saturating_add(name_size(version, named[i].name));
-        note_if(notes, dims[i].length >= limit, NoteKind::LargeCount, at)?;
+    let mut at = start;
+    for dim in dims {
+        let length_at = at.saturating_add(name_size(version, dim.name.as_slice()));
+        note_if(notes, dim.length >= limit, NoteKind::LargeCount, length_at)?;
+        at = at.saturating_add(dim_size(version, dim));
     }
     Ok(())
 }

@@ -1,100 +1,95 @@
 //! The notes on the names of a list: those that don't fit, and those that an earlier one has.
 
-ghost use Rattle.std.specs.Prelude.{◌≡◌, IfOk, OnOk, IsTrue, ◌↔◌, ◌+◌, ◌%◌, ◌<◌, ◌≤◌, ◌^◌, ◌&&◌, [], false, true, not, if◌then◌else◌, length, get_or, set};
+ghost use Rattle.std.specs.Prelude.{◌≡◌, ℕ, IfOk, OnOk, IsTrue, ◌<◌, ◌≤◌, ◌^◌, ◌&&◌, if◌then◌else◌, length, map};
 ghost use Rattle.ncc_check.specs.Slots.{has_name, is_shared, with_name};
-ghost use Rattle.ncc_check.specs.Noting.{Adds, AreTaken, Below, NameRuleNote, DuplicateNameNote, IsDuplicate, NameNotes, keys_in, names_in, offsets_in};
+ghost use Rattle.ncc_check.specs.Noting.{Adds, IsPlace, NameNotes, NameNotesAt, offsets_from};
 
 use crate::note::{Note, NoteKind};
-use crate::notes::keys::{key, keys_of};
-use crate::notes::named::Named;
+use crate::notes::item::Item;
+use crate::notes::pairs::{SLOTS, is_duplicate};
 use crate::notes::pushing::note_if;
 use crate::notes::slots::{Slot, is_shared, slots_of};
 use indexmap::IndexSet;
+use ncc_header::Version;
 use ncc_values::name_fits;
 use std::alloc::{AllocError, Global};
 
 /// The most names that are compared pair by pair.
 const SHORT: usize = 32;
 
-/// Notes the names that break the rule of names.
-fn note_name_rule(
+/// The offset of an item of a list, by its number.
+#[derive(Clone, Copy)]
+struct ItemPlace {
+    number: usize,
+    at: u64,
+}
+
+/// Steps on to the item of this number.
+fn step_to<T: Item>(version: Version, items: &[T], number: usize, place: &mut ItemPlace)
+    requires order { (place.old.number ≤ number) × (number ≤ length items.now) }
+    ensures number { place.new.number ≡ number }
+    ensures place { (start : ℕ) → IsPlace (T.canon version) start items.now place.old
+        → IsPlace (T.canon version) start items.now place.new }
+{
+    while place.number < number {
+        place.at = place.at.saturating_add(items[place.number].size(version));
+        place.number += 1;
+    }
+}
+
+/// Notes the name of this number, if it breaks the rule of names, and if an earlier one is the same. Where it stands
+/// is only looked for then.
+fn note_name<T: Item>(
     alloc: Global,
-    named: &[Named<'_>],
+    version: Version,
+    items: &[T],
+    number: usize,
+    repeated: bool,
+    place: &mut ItemPlace,
     notes: &mut Vec<Note>,
 ) -> Result<(), AllocError>
-    ensures { OnOk result (Adds (Below (NameRuleNote (names_in named.now) (offsets_in named.now)) (length named.now))
+    requires there { number < length items.now }
+    requires order { place.old.number ≤ number }
+    ensures order { place.new.number ≤ number }
+    ensures place { (start : ℕ) → IsPlace (T.canon version) start items.now place.old
+        → IsPlace (T.canon version) start items.now place.new }
+    ensures notes { (start : ℕ) → IsPlace (T.canon version) start items.now place.old
+        → OnOk result (Adds
+        (NameNotesAt (map T.text items.now) (offsets_from (T.canon version) start items.now) number (IsTrue repeated))
         notes.old.items notes.new.items) }
 {
-    for x in named {
-        let fits = name_fits(alloc, x.name)?;
-        note_if(notes, !fits, NoteKind::NameRule, x.at)?;
+    let fits = name_fits(alloc, items[number].name())?;
+    if fits && !repeated {
+        return Ok(());
     }
+    step_to(version, items, number, place);
+    note_if(notes, !fits, NoteKind::NameRule, place.at)?;
+    note_if(notes, repeated, NoteKind::DuplicateName, place.at)?;
     Ok(())
 }
 
-/// Whether one of the first names is this one. Names are compared where their keys are the same.
-fn is_among(named: &[Named<'_>], keys: &[u64], number: usize, name: &[u8]) -> bool
-    requires number { number ≤ length named.now }
-    requires keys { keys.now ≡ keys_in named.now }
-    ensures { IsTrue result ↔ IsDuplicate (names_in named.now) number name.now }
-{
-    let own = key(name);
-    for i in 0..number {
-        if keys[i] == own && named[i].name == name {
-            return true;
-        }
-    }
-    false
-}
-
-/// How many slots there are for keys.
-const SLOTS: usize = 61;
-
-/// Takes the slot of a key, and tells whether it was free.
-fn take_slot(taken: &mut [bool], key: u64) -> bool
-    requires { length taken.old ≡ 61 }
-    ensures free { result ≡ not (get_or taken.old (key % 61) false) }
-    ensures takes { taken.new ≡ set taken.old (key % 61) true }
-{
-    let slot = (key % SLOTS as u64) as usize;
-    let was_free = !taken[slot];
-    taken[slot] = true;
-    was_free
-}
-
-/// Whether an earlier name is the same as the one with this number, whose slot is then taken as theirs are. A name
-/// whose slot was free has a key of its own.
-fn is_duplicate(named: &[Named<'_>], keys: &[u64], taken: &mut [bool], number: usize) -> bool
-    requires there { number < length named.now }
-    requires keys { keys.now ≡ keys_in named.now }
-    requires slots { length taken.old ≡ 61 }
-    requires earlier { AreTaken keys.now number taken.old }
-    ensures repeated { IsTrue result
-        ↔ IsDuplicate (names_in named.now) number (get_or (names_in named.now) number []) }
-    ensures slots { length taken.new ≡ 61 }
-    ensures takes { AreTaken keys.now (number + 1) taken.new }
-{
-    if take_slot(taken, keys[number]) {
-        return false;
-    }
-    is_among(named, keys, number, named[number].name)
-}
-
-/// Notes the names that an earlier one has, pair by pair.
-fn note_duplicate_names_by_pairs(
+/// The notes on the names of a short list, which are looked for pair by pair: that is faster there.
+fn note_names_by_pairs<T: Item>(
     alloc: Global,
-    named: &[Named<'_>],
+    version: Version,
+    items: &[T],
+    start: u64,
     notes: &mut Vec<Note>,
 ) -> Result<(), AllocError>
+    requires short { length items.now ≤ 32 }
     ensures { OnOk result (Adds
-        (Below (DuplicateNameNote (names_in named.now) (offsets_in named.now)) (length named.now))
+        (NameNotes (map T.text items.now) (offsets_from (T.canon version) start items.now))
         notes.old.items notes.new.items) }
 {
-    let keys = keys_of(alloc, named)?;
+    let mut keys = [0; SHORT];
     let mut taken = [false; SLOTS];
-    for i in 0..named.len() {
-        let repeated = is_duplicate(named, &keys, &mut taken, i);
-        note_if(notes, repeated, NoteKind::DuplicateName, named[i].at)?;
+    let mut place = ItemPlace {
+        number: 0,
+        at: start,
+    };
+    for i in 0..items.len() {
+        let repeated = is_duplicate(items, &mut keys, &mut taken, i);
+        note_name(alloc, version, items, i, repeated, &mut place, notes)?;
     }
     Ok(())
 }
@@ -119,51 +114,46 @@ fn is_seen<'a>(
     Ok(!is_new)
 }
 
-/// Notes the names that an earlier one has, by a table of the names so far that share a slot.
-fn note_duplicate_names_by_table(
+/// The notes on the names of a long list: one that an earlier one is the same as is found by a table of the names so
+/// far that share a slot.
+fn note_names_by_table<T: Item>(
     alloc: Global,
-    named: &[Named<'_>],
+    version: Version,
+    items: &[T],
+    start: u64,
     notes: &mut Vec<Note>,
 ) -> Result<(), AllocError>
     ensures { OnOk result (Adds
-        (Below (DuplicateNameNote (names_in named.now) (offsets_in named.now)) (length named.now))
+        (NameNotes (map T.text items.now) (offsets_from (T.canon version) start items.now))
         notes.old.items notes.new.items) }
 {
-    let slots = slots_of(alloc, named)?;
+    let slots = slots_of(alloc, items)?;
     let mut seen = IndexSet::new(alloc);
-    for i in 0..named.len() {
-        let repeated = is_seen(&mut seen, &slots, named[i].name)?;
-        note_if(notes, repeated, NoteKind::DuplicateName, named[i].at)?;
+    let mut place = ItemPlace {
+        number: 0,
+        at: start,
+    };
+    for i in 0..items.len() {
+        let repeated = is_seen(&mut seen, &slots, items[i].name())?;
+        note_name(alloc, version, items, i, repeated, &mut place, notes)?;
     }
     Ok(())
 }
 
-/// Notes the names that an earlier one has: those of a short list pair by pair, which is faster there.
-fn note_duplicate_names(
+/// The notes on the names of a list, whose first item stands at this offset.
+pub fn note_names<T: Item>(
     alloc: Global,
-    named: &[Named<'_>],
+    version: Version,
+    items: &[T],
+    start: u64,
     notes: &mut Vec<Note>,
 ) -> Result<(), AllocError>
     ensures { OnOk result (Adds
-        (Below (DuplicateNameNote (names_in named.now) (offsets_in named.now)) (length named.now))
+        (NameNotes (map T.text items.now) (offsets_from (T.canon version) start items.now))
         notes.old.items notes.new.items) }
 {
-    if named.len() <= SHORT {
-        return note_duplicate_names_by_pairs(alloc, named, notes);
+    if items.len() <= SHORT {
+        return note_names_by_pairs(alloc, version, items, start, notes);
     }
-    note_duplicate_names_by_table(alloc, named, notes)
-}
-
-/// The notes on the names of a list.
-pub fn note_names(
-    alloc: Global,
-    named: &[Named<'_>],
-    notes: &mut Vec<Note>,
-) -> Result<(), AllocError>
-    ensures { OnOk result (Adds (NameNotes (names_in named.now) (offsets_in named.now))
-        notes.old.items notes.new.items) }
-{
-    note_name_rule(alloc, named, notes)?;
-    note_duplicate_names(alloc, named, notes)?;
-    Ok(())
+    note_names_by_table(alloc, version, items, start, notes)
 }

@@ -1,10 +1,10 @@
 //! Slots of names: a name that has its slot for itself has no other like it in its list.
 
-ghost use Rattle.std.specs.Prelude.{◌≡◌, ◌+◌, ◌*◌, ◌<◌, ◌^◌, min, IfOk, length};
+ghost use Rattle.std.specs.Prelude.{◌≡◌, ◌+◌, ◌*◌, ◌<◌, ◌^◌, min, IfOk, length, map};
 ghost use Rattle.ncc_check.specs.Slots.{AreSlots, hash_of, is_shared, mixed, once_more, slot_of};
 
+use crate::notes::item::Item;
 use crate::notes::keys::key;
-use crate::notes::named::Named;
 use ncc_values::number;
 use std::alloc::{AllocError, Global};
 
@@ -75,14 +75,14 @@ fn free_slots(alloc: Global, names: usize) -> Result<Vec<Slot>, AllocError>
     Ok(slots)
 }
 
-/// The slots of these names.
-pub fn slots_of(alloc: Global, named: &[Named<'_>]) -> Result<Vec<Slot>, AllocError>
-    ensures { IfOk result (λ v. AreSlots named.now v.items) }
+/// The slots of the names of these items.
+pub fn slots_of<T: Item>(alloc: Global, items: &[T]) -> Result<Vec<Slot>, AllocError>
+    ensures { IfOk result (λ v. AreSlots (map T.text items.now) v.items) }
 {
-    let mut slots = free_slots(alloc, named.len())?;
+    let mut slots = free_slots(alloc, items.len())?;
     let count = slots.len();
-    for x in named {
-        let at = slot_of(x.name, count);
+    for item in items {
+        let at = slot_of(item.name(), count);
         slots[at] = once_more(slots[at]);
     }
     Ok(slots)

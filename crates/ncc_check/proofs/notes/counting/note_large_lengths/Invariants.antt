@@ -1,5 +1,10 @@
-use Rattle.ncc_check.specs.Noting.{Adds, Below, LargeLengthNote, names_in, offsets_in}
+use Rattle.std.proofs.Common.{◌≡◌}
+use Rattle.ncc_schema.specs.Header.{canon_dim}
+use Rattle.ncc_check.specs.Noting.{Adds, Below, LargeLengthNote, dim_names, offset_after, offsets_from}
 use Rattle.ncc_check.proofs.notes.counting.note_large_lengths.Given as goal
 
-abbrev pub invariant-loop-i : goal.invariant-loop-i
-invariant-loop-i l = Adds (Below (LargeLengthNote l.version l.dims (names_in l.named) (offsets_in l.named)) l.i) l.fn.notes.items l.notes.items
+abbrev pub invariant-loop-dim : goal.invariant-loop-dim
+invariant-loop-dim l = record {
+  stands : l.at ≡ offset_after (canon_dim l.version) l.start l.dims l.dim-index;
+  found : Adds (Below (LargeLengthNote l.version l.dims (dim_names l.dims) (offsets_from (canon_dim l.version) l.start l.dims)) l.dim-index) l.fn.notes.items l.notes.items;
+}

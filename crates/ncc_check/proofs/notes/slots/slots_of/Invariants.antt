@@ -1,10 +1,9 @@
-use Rattle.std.proofs.Common.{◌≡◌, length}
-use Rattle.ncc_check.specs.Noting.{names_in}
+use Rattle.std.proofs.Common.{◌≡◌, length, map}
 use Rattle.ncc_check.specs.Slots.{HaveSlots}
 use Rattle.ncc_check.proofs.notes.slots.slots_of.Given as goal
 
-abbrev pub invariant-loop-x : goal.invariant-loop-x
-invariant-loop-x l = record {
+abbrev pub invariant-loop-item : goal.invariant-loop-item
+invariant-loop-item g l = record {
   long : length l.slots.items ≡ l.count;
-  told : HaveSlots (names_in l.named) l.x-index l.slots.items;
+  told : HaveSlots (map g.T.Item.text l.items) l.item-index l.slots.items;
 }
