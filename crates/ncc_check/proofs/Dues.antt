@@ -31,10 +31,10 @@ pub due_at : (h : Header) (kind : NoteKind) (offset : ℕ) (n : Note) → n ≡ 
 due_at h kind offset n is d = subst (λ (m : Note). IsDue h m.kind m.offset) (sym is) d
 
 pub names_due : (h : Header) (names : List (List ℕ)) (offsets : List ℕ) (o : ℕ → NameOf) → Listed h names offsets o → (n : Note) → NameNotes names offsets n → IsDue h n.kind n.offset
-names_due h names offsets o t n (inl (k, below, p)) =
+names_due h names offsets o t n (k, below, inl p) =
     due_at h NameRule (get_or offsets k 0) n p.is
     (record { named = o k; there = t.there k below; bad = λ f. p.is_due (subst FitsAsName (sym (t.named k)) f); at = t.stands k below })
-names_due h names offsets o t n (inr (k, below, p)) =
+names_due h names offsets o t n (k, below, inr p) =
     let less = p.is_due.1 in
     due_at h DuplicateName (get_or offsets k 0) n p.is
     (record {
@@ -50,12 +50,12 @@ names_due h names offsets o t n (inr (k, below, p)) =
 pub name_rule_found : (h : Header) (names : List (List ℕ)) (offsets : List ℕ) (o : ℕ → NameOf) → Listed h names offsets o → (k offset : ℕ) → k < length names → ¬ FitsAsName (name_of h.schema (o k)) → offset ≡ name_field h (o k)
     → NameNotes names offsets (record { kind = NameRule; offset = offset })
 name_rule_found h names offsets o t k offset below bad at =
-    inl (k, below, record { is_due = λ f. bad (subst FitsAsName (t.named k) f); is = λ i. record { kind = NameRule; offset = (at ∙ sym (t.stands k below)) i } })
+    (k, below, inl (record { is_due = λ f. bad (subst FitsAsName (t.named k) f); is = λ i. record { kind = NameRule; offset = (at ∙ sym (t.stands k below)) i } }))
 
 pub duplicate_name_found : (h : Header) (names : List (List ℕ)) (offsets : List ℕ) (o : ℕ → NameOf) → Listed h names offsets o → (j k offset : ℕ) → j < k → k < length names → name_of h.schema (o j) ≡ name_of h.schema (o k) → offset ≡ name_field h (o k)
     → NameNotes names offsets (record { kind = DuplicateName; offset = offset })
 duplicate_name_found h names offsets o t j k offset less below same at =
-    inr (k, below, record { is_due = (j, less, t.named j ∙ same ∙ sym (t.named k)); is = λ i. record { kind = DuplicateName; offset = (at ∙ sym (t.stands k below)) i } })
+    (k, below, inr (record { is_due = (j, less, t.named j ∙ same ∙ sym (t.named k)); is = λ i. record { kind = DuplicateName; offset = (at ∙ sym (t.stands k below)) i } }))
 
 module _ (h : Header) (legal : Legal h.schema (places_of h.places)) (long : h.length ≡ length (canon h.schema (places_of h.places))) (small : h.length < 2 ^ 64)
     (law : (s : Schema) (places : List Place) (o : NameOf) → Legal s places → HasName s o → StandsAt (canon s places) (canon_name s.version (name_of s o)) (name_at s places o)) where

@@ -1,12 +1,11 @@
 -- Notes that join others.
-use Rattle.std.proofs.Common.{◌≡◌, ℕ, zero, suc, ◌+◌, ◌<◌, ◌≤◌, List, [], ◌∷◌, ◌++◌, length, get_or, refl, sym, ap, subst, ◌∙◌, ◌⊎◌, inl, inr, arith}
+use Rattle.std.proofs.Common.{◌≡◌, ℕ, zero, suc, ◌+◌, ◌<◌, ◌≤◌, List, [], ◌∷◌, ◌++◌, sym, subst, ◌∙◌, ◌⊎◌, inl, inr, arith}
 use Rattle.std.specs.Prelude.{Contains}
 use Rattle.std.proofs.lemmas.Bool.{cases_lt}
 use Rattle.std.proofs.lemmas.List.Elements.{Contains-append_left, Contains-append_right, Contains-append_cases}
-use Rattle.ncc_schema.specs.Names.{capped}
 use Rattle.ncc_check.specs.declared.note.Note.{Note}
 use Rattle.ncc_check.specs.declared.note.NoteKind.{NoteKind}
-use Rattle.ncc_check.specs.Noting.{Adds, NoteIf, Below, offset_after, offsets_from}
+use Rattle.ncc_check.specs.Noting.{Adds, NoteIf, Below}
 
 pub nothing_joins : (P : Note → Type 0) (xs : List Note) → ((n : Note) → P n → ⊥) → Adds P xs xs
 nothing_joins P xs none = record { kept = λ n h. h; due = λ n h. inl h; all = λ n p. absurd (none n p) }
@@ -76,22 +75,3 @@ note_as A B kind kind' offset offset' xs ys to from e f =
     as_well (NoteIf A kind offset) (NoteIf B kind' offset') xs ys
     (λ n a. record { is_due = to a.is_due; is = a.is ∙ (λ i. record { kind = e i; offset = f i }) })
     (λ n b. record { is_due = from b.is_due; is = b.is ∙ (λ i. record { kind = sym e i; offset = sym f i }) })
-
--- ---- where items stand
-
-pub offset_at : {A : Type 0} (item : A → List ℕ) (at : ℕ) (xs : List A) (k : ℕ) → k < length xs → get_or (offsets_from item at xs) k 0 ≡ offset_after item at xs k
-offset_at item at [] k below = absurd (omega (arith, below))
-offset_at item at (x ∷ xs) zero below = refl
-offset_at item at (x ∷ xs) (suc k) below = offset_at item (capped (at + length (item x))) xs k (omega (arith, below))
-
-next_after : {A : Type 0} (item : A → List ℕ) (at : ℕ) (xs : List A) (k : ℕ) (x : A) (size : ℕ) → k < length xs → x ≡ get_or xs k x → size ≡ capped (length (item x))
-    → offset_after item at xs (suc k) ≡ capped (offset_after item at xs k + size)
-next_after item at [] k x size below is long = absurd (omega (arith, below))
-next_after item at (y ∷ xs) zero x size below is long = let same = ap (λ z. length (item z)) is in omega (arith, long, same)
-next_after item at (y ∷ xs) (suc k) x size below is long = next_after item (capped (at + length (item y))) xs k x size (omega (arith, below)) is long
-
-pub one_after : {A : Type 0} (item : A → List ℕ) (at : ℕ) (xs : List A) (k : ℕ) (x : A) (size : ℕ) → k < length xs → x ≡ get_or xs k x → size ≡ capped (length (item x))
-    → offset_after item at xs (k + 1) ≡ capped (offset_after item at xs k + size)
-one_after item at xs k x size below is long =
-    let more : k + 1 ≡ suc k = omega arith in
-    ap (λ (n : ℕ). offset_after item at xs n) more ∙ next_after item at xs k x size below is long

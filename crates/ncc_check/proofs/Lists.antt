@@ -1,7 +1,9 @@
 -- The lists of names of a header, by number, and where they stand.
-use Rattle.std.proofs.Common.{◌≡◌, ℕ, zero, suc, ◌+◌, ◌<◌, ◌^◌, List, [], ◌∷◌, ◌++◌, length, map, take, drop, get_or, refl, sym, ap, ◌∙◌, arith, length-append}
+use Rattle.std.proofs.Common.{◌≡◌, ℕ, zero, suc, ◌+◌, ◌<◌, ◌^◌, List, [], ◌∷◌, ◌++◌, length, map, take, drop, get_or, refl, sym, ap, ◌∙◌, arith, append-nil, length-append}
 use Rattle.std.specs.Prelude.{slice_get, Some}
 use Rattle.std.specs.List.{flat_map}
+use Rattle.std.proofs.lemmas.Grind.{flat_map-append}
+use Rattle.std.proofs.lemmas.List.{take_more}
 use Rattle.ncc_schema.specs.declared.names.NameOf.{NameOf}
 use Rattle.ncc_schema.specs.declared.names.NameOf.TheVariants as of
 use Rattle.ncc_schema.specs.declared.schema.Attr.{Attr}
@@ -44,6 +46,25 @@ offset_of item at (x ∷ xs) (suc k) h =
     let onward : capped (capped at + length (item x)) ≡ capped (at + length (item x)) = omega arith in
     let more = length-append (item x) (flat_map item (take k xs)) in
     ap (λ o. get_or (offsets_from item o xs) k 0) onward ∙ offset_of item (at + length (item x)) xs k (omega (arith, h)) ∙ ap capped (omega (arith, more))
+
+-- what the next item adds
+pub before_more : {A : Type 0} (item : A → List ℕ) (items : List A) (k : ℕ) (x : A) → k < length items → x ≡ get_or items k x → before item (k + 1) items ≡ before item k items + length (item x)
+before_more item items k x below is =
+    let next = take_more items k x below ∙ ap (λ y. take k items ++ y ∷ []) (sym is) in
+    ap (λ xs. length (flat_map item xs)) next
+    ∙ ap length (flat_map-append item (take k items) (x ∷ []) ∙ ap (λ ys. flat_map item (take k items) ++ ys) (append-nil (item x)))
+    ∙ length-append (flat_map item (take k items)) (item x)
+
+-- the offset of the next item
+pub step_on : {A : Type 0} (item : A → List ℕ) (start : ℕ) (items : List A) (k : ℕ) (x : A) (offset size : ℕ) → k < length items → x ≡ get_or items k x → size ≡ capped (length (item x))
+    → offset ≡ capped (start + before item k items) → capped (offset + size) ≡ capped (start + before item (k + 1) items)
+step_on item start items k x offset size below is long at = let more = before_more item items k x below is in omega (arith, long, at, more)
+
+-- the offset of an item, of a list whose first one has an offset of 64 bits
+pub offset_at : {A : Type 0} (item : A → List ℕ) (start : ℕ) (items : List A) (k : ℕ) → start < 2 ^ 64 → k < length items → get_or (offsets_from item start items) k 0 ≡ capped (start + before item k items)
+offset_at item start items k small below =
+    let fits : start ≡ capped start = omega (arith, small) in
+    ap (λ at. get_or (offsets_from item at items) k 0) fits ∙ offset_of item start items k below
 
 pub at_var : (vars : List Var) (i : ℕ) (x : Var) → slice_get vars i ≡ Some x → (more : List Var) × (drop i vars ≡ x ∷ more)
 at_var [] i x e = absurd cc

@@ -1,5 +1,5 @@
 -- The notes of a header list by list, as they are found.
-use Rattle.std.specs.Prelude.{◌≡◌, ℕ, zero, suc, ◌+◌, ◌<◌, ◌-◌, ◌*◌, ◌%◌, ◌≢◌, ◌≤◌, ◌⊎◌, Bool, true, false, List, [], ◌∷◌, length, map, drop, get_or, slice_get, Some, Contains, if◌then◌else◌}
+use Rattle.std.specs.Prelude.{◌≡◌, ℕ, IsAscii, ◌+◌, ◌<◌, ◌-◌, ◌*◌, ◌%◌, ◌≢◌, ◌≤◌, ◌⊎◌, Bool, true, false, List, [], ◌∷◌, length, map, drop, get_or, slice_get, Some, Contains, if◌then◌else◌}
 use Rattle.std.specs.Borrow.{Bor}
 use Rattle.ncc_values.specs.Name.{FitsAsName}
 use Rattle.ncc_values.specs.Numbers.{number_of}
@@ -14,13 +14,13 @@ use Rattle.ncc_schema.specs.declared.schema.Schema.{Schema}
 use Rattle.ncc_schema.specs.declared.schema.Var.{Var}
 use Rattle.ncc_schema.specs.declared.schema.VarPlace.{VarPlace}
 use Rattle.ncc_schema.specs.Header.{canon_name, canon_dim, canon_attr}
-use Rattle.ncc_schema.specs.Names.{capped, attrs_in, canon_unplaced, gatts_at, head_size, list_size, vars_at}
+use Rattle.ncc_schema.specs.Names.{before, capped, attrs_in, canon_unplaced, gatts_at, head_size, list_size, vars_at}
 use Rattle.ncc_schema.specs.Schema.{count_limit, lengths, is_record_var}
 use Rattle.ncc_layout.specs.Standard.{vsize_word}
 use Rattle.ncc_check.specs.declared.note.Note.{Note}
 use Rattle.ncc_check.specs.declared.note.NoteKind.{NoteKind}
 use Rattle.ncc_check.specs.declared.note.NoteKind.TheVariants.{VsizeField, HeaderPadding, TaggedEmpty, NameRule, DuplicateName, UnalignedBegin, Order, LargeCount}
-use Rattle.ncc_check.specs.declared.notes.names.ItemPlace.{ItemPlace}
+use Rattle.ncc_check.specs.declared.notes.names.ItemOffset.{ItemOffset}
 use Rattle.ncc_check.specs.declared.notes.placing.Greatest.{Greatest}
 use Rattle.ncc_check.specs.Notes.{HasLargeCount, numrecs_at, rank, AreInOrder, vsizes}
 use Rattle.ncc_layout.specs.Placed.{begin_field}
@@ -49,24 +49,15 @@ abbrev pub offsets_from : {A : Type 0} → (A → List ℕ) → (at : ℕ) → L
 offsets_from item at [] = []
 offsets_from item at (x ∷ xs) = at ∷ offsets_from item (capped (at + length (item x))) xs
 
--- where the item after the first n stands
-abbrev pub offset_after : {A : Type 0} → (A → List ℕ) → (at : ℕ) → List A → (n : ℕ) → ℕ
-offset_after item at xs zero = at
-offset_after item at [] (suc n) = at
-offset_after item at (x ∷ xs) (suc n) = offset_after item (capped (at + length (item x))) xs n
-
--- this is the offset of the item of its number
-abbrev pub IsPlace : {A : Type 0} → (item : A → List ℕ) (start : ℕ) (items : List A) → ItemPlace → Type 0
-IsPlace item start items p = p.at ≡ offset_after item start items p.number
+-- what is told as the offset of an item is the one of the item with that number, in a list that starts here
+abbrev pub IsItemOffset : {A : Type 0} → (item : A → List ℕ) (start : ℕ) (items : List A) → ItemOffset → Type 0
+IsItemOffset item start items o = o.offset ≡ capped (start + before item o.number items)
 
 abbrev pub NameRuleNote : (names : List (List ℕ)) (offsets : List ℕ) → ℕ → Note → Type 0
 NameRuleNote names offsets k n = NoteIf (¬ FitsAsName (get_or names k [])) NameRule (get_or offsets k 0) n
 
 abbrev pub IsDuplicate : (names : List (List ℕ)) → ℕ → List ℕ → Type 0
 IsDuplicate names k name = (j : ℕ) × (j < k) × (get_or names j [] ≡ name)
-
-abbrev pub DuplicateNameNote : (names : List (List ℕ)) (offsets : List ℕ) → ℕ → Note → Type 0
-DuplicateNameNote names offsets k n = NoteIf (IsDuplicate names k (get_or names k [])) DuplicateName (get_or offsets k 0) n
 
 -- the last bytes of a name as a number, 8 of them at most
 abbrev pub key_of_name : List ℕ → ℕ
@@ -80,17 +71,27 @@ AreKeys names n keys = (j : ℕ) → j < n → get_or keys j 0 ≡ key_of_name (
 abbrev pub AreTaken : (names : List (List ℕ)) (n : ℕ) (taken : List Bool) → Type 0
 AreTaken names n taken = (j : ℕ) → j < n → get_or taken (key_of_name (get_or names j []) % 61) false ≡ true
 
--- the notes on the name of this number, for which it is known whether an earlier one is the same
+-- the notes on the name with this number, for which it is known whether an earlier one is the same
 abbrev pub NameNotesAt : (names : List (List ℕ)) (offsets : List ℕ) (k : ℕ) (repeated : Type 0) → Note → Type 0
 NameNotesAt names offsets k repeated n = NameRuleNote names offsets k n ⊎ NoteIf repeated DuplicateName (get_or offsets k 0) n
 
--- the notes on the names before this number
-abbrev pub NameNotesBelow : (names : List (List ℕ)) (offsets : List ℕ) → ℕ → Note → Type 0
-NameNotesBelow names offsets i n = Below (λ k. NameNotesAt names offsets k (IsDuplicate names k (get_or names k []))) i n
+-- the notes on the first names of a list, so many
+abbrev pub FirstNameNotes : (names : List (List ℕ)) (offsets : List ℕ) → ℕ → Note → Type 0
+FirstNameNotes names offsets count n = Below (λ k. NameNotesAt names offsets k (IsDuplicate names k (get_or names k []))) count n
 
--- the notes of a list of names
+-- the notes on the names of a list
 abbrev pub NameNotes : (names : List (List ℕ)) (offsets : List ℕ) → Note → Type 0
-NameNotes names offsets n = Below (NameRuleNote names offsets) (length names) n ⊎ Below (DuplicateNameNote names offsets) (length names) n
+NameNotes names offsets n = FirstNameNotes names offsets (length names) n
+
+-- a name of ASCII that fits
+pub record IsPlain (name : List ℕ) : Type 0 where
+  pub ascii : IsAscii name
+  pub fits : FitsAsName name
+
+-- each name is one of ASCII that fits, and none is the same as an earlier one
+pub record ArePlain (names : List (List ℕ)) : Type 0 where
+  pub each : (k : ℕ) → k < length names → IsPlain (get_or names k [])
+  pub new : (k : ℕ) → k < length names → IsDuplicate names k (get_or names k []) → ⊥
 
 -- ---- the lists of names of a header
 

@@ -60,7 +60,7 @@ pub fn note_large_count(schema: &Schema, notes: &mut Vec<Note>) -> Result<(), Al
     Ok(())
 }
 
-/// Notes the dimensions whose length has its top bit set, of which the first is at this offset.
+/// Notes the dimensions whose length has its top bit set. The first dimension of the list is at this offset.
 pub fn note_large_lengths(
     version: Version,
     dims: &[Dim],

@@ -12,14 +12,13 @@ pub trait Item {
     /// Its name.
     ghost text: { Self → List ℕ };
 
-    /// Its bytes in the canonical header.
+    /// The bytes of an item like it, which are as many as it takes in the canonical header.
     ghost canon: { Version → Self → List ℕ };
 
-    /// Its name.
     fn name(&self) -> &[u8]
         ensures { result.now ≡ text self.now };
 
-    /// How many bytes it takes in the canonical header.
+    /// How many bytes it takes in the canonical header, 2^64 - 1 at most.
     fn size(&self, version: Version) -> u64
         ensures { result ≡ capped (length (canon version self.now)) };
 }

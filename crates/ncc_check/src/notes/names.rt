@@ -1,8 +1,9 @@
 //! The notes on the names of a list: those that don't fit, and those that an earlier one has.
 
-ghost use Rattle.std.specs.Prelude.{◌≡◌, ℕ, IfOk, OnOk, IsTrue, ◌<◌, ◌≤◌, ◌^◌, ◌&&◌, if◌then◌else◌, length, map};
+ghost use Rattle.std.specs.Prelude.{◌≡◌, ℕ, IfOk, OnOk, IsOk, IsTrue, ◌<◌, ◌≤◌, ◌^◌, ◌&&◌, if◌then◌else◌, [], get_or, length, map};
+ghost use Rattle.ncc_values.specs.Name.{FitsAsName};
 ghost use Rattle.ncc_check.specs.Slots.{has_name, is_shared, with_name};
-ghost use Rattle.ncc_check.specs.Noting.{Adds, IsPlace, NameNotes, NameNotesAt, offsets_from};
+ghost use Rattle.ncc_check.specs.Noting.{Adds, ArePlain, IsItemOffset, IsPlain, NameNotes, NameNotesAt, offsets_from};
 
 use crate::note::{Note, NoteKind};
 use crate::notes::item::Item;
@@ -17,58 +18,60 @@ use std::alloc::{AllocError, Global};
 /// The most names that are compared pair by pair.
 const SHORT: usize = 32;
 
-/// The offset of an item of a list, by its number.
+/// Where the item with this number stands.
 #[derive(Clone, Copy)]
-struct ItemPlace {
+struct ItemOffset {
     number: usize,
-    at: u64,
+    offset: u64,
 }
 
-/// Steps on to the item of this number.
-fn step_to<T: Item>(version: Version, items: &[T], number: usize, place: &mut ItemPlace)
-    requires order { (place.old.number ≤ number) × (number ≤ length items.now) }
-    ensures number { place.new.number ≡ number }
-    ensures place { (start : ℕ) → IsPlace (T.canon version) start items.now place.old
-        → IsPlace (T.canon version) start items.now place.new }
+/// Steps on to the item with this number.
+fn step_to<T: Item>(version: Version, items: &[T], number: usize, item: &mut ItemOffset)
+    requires order { (item.old.number ≤ number) × (number ≤ length items.now) }
+    ensures number { item.new.number ≡ number }
+    ensures offset { (start : ℕ) → IsItemOffset (T.canon version) start items.now item.old
+        → IsItemOffset (T.canon version) start items.now item.new }
 {
-    while place.number < number {
-        place.at = place.at.saturating_add(items[place.number].size(version));
-        place.number += 1;
+    while item.number < number {
+        item.offset = item.offset.saturating_add(items[item.number].size(version));
+        item.number += 1;
     }
 }
 
-/// Notes the name of this number, if it breaks the rule of names, and if an earlier one is the same. Where it stands
-/// is only looked for then.
+/// Notes the name of an item if it breaks the rule of names, and notes it if an earlier one is the same, as is told.
+/// The item isn't looked for without a note.
 fn note_name<T: Item>(
     alloc: Global,
     version: Version,
     items: &[T],
     number: usize,
     repeated: bool,
-    place: &mut ItemPlace,
+    item: &mut ItemOffset,
     notes: &mut Vec<Note>,
 ) -> Result<(), AllocError>
     requires there { number < length items.now }
-    requires order { place.old.number ≤ number }
-    ensures order { place.new.number ≤ number }
-    ensures place { (start : ℕ) → IsPlace (T.canon version) start items.now place.old
-        → IsPlace (T.canon version) start items.now place.new }
-    ensures notes { (start : ℕ) → IsPlace (T.canon version) start items.now place.old
+    requires order { item.old.number ≤ number }
+    ensures order { item.new.number ≤ number }
+    ensures offset { (start : ℕ) → IsItemOffset (T.canon version) start items.now item.old
+        → IsItemOffset (T.canon version) start items.now item.new }
+    ensures notes { (start : ℕ) → start < 2 ^ 64 → IsItemOffset (T.canon version) start items.now item.old
         → OnOk result (Adds
         (NameNotesAt (map T.text items.now) (offsets_from (T.canon version) start items.now) number (IsTrue repeated))
         notes.old.items notes.new.items) }
+    ensures none { IsPlain (get_or (map T.text items.now) number []) → ¬ IsTrue repeated → IsOk result }
+    ensures rests { FitsAsName (get_or (map T.text items.now) number []) → ¬ IsTrue repeated → item.new ≡ item.old }
 {
     let fits = name_fits(alloc, items[number].name())?;
     if fits && !repeated {
         return Ok(());
     }
-    step_to(version, items, number, place);
-    note_if(notes, !fits, NoteKind::NameRule, place.at)?;
-    note_if(notes, repeated, NoteKind::DuplicateName, place.at)?;
+    step_to(version, items, number, item);
+    note_if(notes, !fits, NoteKind::NameRule, item.offset)?;
+    note_if(notes, repeated, NoteKind::DuplicateName, item.offset)?;
     Ok(())
 }
 
-/// The notes on the names of a short list, which are looked for pair by pair: that is faster there.
+/// The notes on the names of a short list. Pair by pair, one that comes again is found sooner there.
 fn note_names_by_pairs<T: Item>(
     alloc: Global,
     version: Version,
@@ -77,19 +80,20 @@ fn note_names_by_pairs<T: Item>(
     notes: &mut Vec<Note>,
 ) -> Result<(), AllocError>
     requires short { length items.now ≤ 32 }
-    ensures { OnOk result (Adds
+    ensures notes { OnOk result (Adds
         (NameNotes (map T.text items.now) (offsets_from (T.canon version) start items.now))
         notes.old.items notes.new.items) }
+    ensures none { ArePlain (map T.text items.now) → IsOk result }
 {
     let mut keys = [0; SHORT];
     let mut taken = [false; SLOTS];
-    let mut place = ItemPlace {
+    let mut item = ItemOffset {
         number: 0,
-        at: start,
+        offset: start,
     };
     for i in 0..items.len() {
         let repeated = is_duplicate(items, &mut keys, &mut taken, i);
-        note_name(alloc, version, items, i, repeated, &mut place, notes)?;
+        note_name(alloc, version, items, i, repeated, &mut item, notes)?;
     }
     Ok(())
 }
@@ -114,8 +118,8 @@ fn is_seen<'a>(
     Ok(!is_new)
 }
 
-/// The notes on the names of a long list: one that an earlier one is the same as is found by a table of the names so
-/// far that share a slot.
+/// The notes on the names of a long list. One that comes again is found by a table of the names so far that share a
+/// slot.
 fn note_names_by_table<T: Item>(
     alloc: Global,
     version: Version,
@@ -129,18 +133,19 @@ fn note_names_by_table<T: Item>(
 {
     let slots = slots_of(alloc, items)?;
     let mut seen = IndexSet::new(alloc);
-    let mut place = ItemPlace {
+    let mut item = ItemOffset {
         number: 0,
-        at: start,
+        offset: start,
     };
     for i in 0..items.len() {
         let repeated = is_seen(&mut seen, &slots, items[i].name())?;
-        note_name(alloc, version, items, i, repeated, &mut place, notes)?;
+        note_name(alloc, version, items, i, repeated, &mut item, notes)?;
     }
     Ok(())
 }
 
-/// The notes on the names of a list, whose first item stands at this offset.
+/// The notes on the names of a list, whose first item stands at this offset. If there are none, a list of up to 32 names
+/// of ASCII takes no memory.
 pub fn note_names<T: Item>(
     alloc: Global,
     version: Version,
@@ -148,10 +153,14 @@ pub fn note_names<T: Item>(
     start: u64,
     notes: &mut Vec<Note>,
 ) -> Result<(), AllocError>
-    ensures { OnOk result (Adds
+    ensures notes { OnOk result (Adds
         (NameNotes (map T.text items.now) (offsets_from (T.canon version) start items.now))
         notes.old.items notes.new.items) }
+    ensures none { length items.now ≤ 32 → ArePlain (map T.text items.now) → IsOk result }
 {
+    if items.is_empty() {
+        return Ok(());
+    }
     if items.len() <= SHORT {
         return note_names_by_pairs(alloc, version, items, start, notes);
     }

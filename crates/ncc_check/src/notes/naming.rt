@@ -48,7 +48,7 @@ fn note_var_attrs(
     Ok(())
 }
 
-/// The notes on the names of the attributes of all variables, of which the first is at this offset.
+/// The notes on the names of the attributes of all variables. The first variable is at this offset.
 fn note_attrs_of_vars(
     alloc: Global,
     version: Version,

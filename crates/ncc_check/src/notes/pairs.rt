@@ -10,7 +10,7 @@ use crate::notes::keys::key;
 pub const SLOTS: usize = 61;
 
 /// Whether an earlier name is the same as the one with this number. Names are compared where their keys are the same.
-fn is_among<T: Item>(items: &[T], keys: &[u64], number: usize) -> bool
+fn is_among_earlier<T: Item>(items: &[T], keys: &[u64], number: usize) -> bool
     requires there { number < length items.now }
     requires few { number < length keys.now }
     requires keys { AreKeys (map T.text items.now) (number + 1) keys.now }
@@ -62,5 +62,5 @@ pub fn is_duplicate<T: Item>(
     if take_slot(taken, own) {
         return false;
     }
-    is_among(items, keys, number)
+    is_among_earlier(items, keys, number)
 }

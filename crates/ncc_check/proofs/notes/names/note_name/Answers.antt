@@ -1,18 +1,20 @@
-use Rattle.std.proofs.Common.{◌≡◌, ℕ, [], get_or, map, sym, ap, subst, ◌∙◌}
+use Rattle.std.proofs.Common.{◌≡◌, ℕ, ◌+◌, [], get_or, map, sym, ap, subst, ◌∙◌}
 use Rattle.ncc_values.specs.Name.{FitsAsName}
-use Rattle.ncc_check.specs.Noting.{offset_after, offsets_from}
-use Rattle.ncc_check.proofs.Joining.{offset_at}
+use Rattle.ncc_schema.specs.Names.{before, capped}
+use Rattle.ncc_check.specs.Noting.{offsets_from}
+use Rattle.ncc_check.proofs.Lists.{offset_at}
 use Rattle.ncc_check.proofs.Repeats.{both_noted, name_at}
 use Rattle.ncc_check.proofs.notes.names.note_name.Goals as goal
 
 pub returns-clause-notes : goal.returns-clause-notes
-returns-clause-notes g c start placed =
+returns-clause-notes g c start small was =
     let text = g.T.Item.text in
     let items = c.args.items.now in
     let item = g.T.Item.canon c.args.version in
     let k = c.args.number in
     let name : get_or (map text items) k [] ≡ c.name.result.now = name_at text items k _ c.requires.there c.index-items-number.is ∙ sym c.name.ensures in
-    let at : get_or (offsets_from item start items) k 0 ≡ c.step_to.new.place.at = offset_at item start items k c.requires.there ∙ ap (λ (n : ℕ). offset_after item start items n) (sym c.step_to.ensures.number) ∙ sym (c.step_to.ensures.place start placed) in
+    let at : get_or (offsets_from item start items) k 0 ≡ c.step_to.new.item.offset =
+    offset_at item start items k small c.requires.there ∙ ap (λ (n : ℕ). capped (start + before item n items)) (sym c.step_to.ensures.number) ∙ sym (c.step_to.ensures.offset start was) in
     both_noted (map text items) (offsets_from item start items) k c.in_ok-fits.fits c.args.repeated
-    (λ t. subst FitsAsName (sym name) (c.in_ok-fits.ensures.fits.0 t)) (λ f. c.in_ok-fits.ensures.fits.1 (subst FitsAsName name f))
-    c.step_to.new.place.at c.args.notes.now.items c.note_if.new.notes.items c.note_if-2.new.notes.items at c.in_ok-note_if.ensures c.in_ok-note_if-2.ensures
+    c.step_to.new.item.offset c.args.notes.now.items c.note_if.new.notes.items c.note_if-2.new.notes.items
+    (λ t. subst FitsAsName (sym name) (c.in_ok-fits.ensures.fits.0 t)) (λ f. c.in_ok-fits.ensures.fits.1 (subst FitsAsName name f)) at c.in_ok-note_if.ensures c.in_ok-note_if-2.ensures

@@ -12,4 +12,4 @@ returns c =
     let start : 2 * c.list_size-start.result ≡ capped (head_size v + list_size v) = ap (λ n. 2 * n) c.list_size-start.ensures ∙ dims_start v in
     both_join (NameNotes (dim_names s.dims) (dim_offsets s)) (Below (LargeLengthNote v s.dims (dim_names s.dims) (dim_offsets s)) (length s.dims))
     c.args.notes.now.items c.note_names.new.notes.items c.note_large_lengths.new.notes.items
-    (rw (c.as_slice-dims.ensures, start) at c.in_ok-note_names.ensures) (rw (c.as_slice-dims.ensures, start) at c.in_ok-note_large_lengths.ensures)
+    (rw (c.as_slice-dims.ensures, start) at c.in_ok-note_names.ensures.notes) (rw (c.as_slice-dims.ensures, start) at c.in_ok-note_large_lengths.ensures)

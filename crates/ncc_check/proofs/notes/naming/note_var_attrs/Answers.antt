@@ -10,4 +10,4 @@ returns c =
     let v = c.args.version in
     let start : c.saturating_add-start.result ≡ capped (c.args.at + attrs_in v x) =
     c.saturating_add-start.ensures ∙ ap (λ n. capped (c.args.at + n)) c.attrs_in.ensures ∙ capped_right c.args.at (attrs_in v x) in
-    subst (λ at. Adds (AttrNotes v at x.attrs) c.args.notes.now.items c.note_names.new.notes.items) start (rw c.as_slice.ensures at c.in_ok-note_names.ensures)
+    subst (λ at. Adds (AttrNotes v at x.attrs) c.args.notes.now.items c.note_names.new.notes.items) start (rw c.as_slice.ensures at c.in_ok-note_names.ensures.notes)

@@ -1,7 +1,7 @@
 use Rattle.std.proofs.Common.{◌≡◌, [], get_or, map, refl, sym, ◌∙◌, arith, below_more}
 use Rattle.ncc_check.proofs.Repeats.{name_at, other_bytes, other_key, same_bytes}
-use Rattle.ncc_check.proofs.notes.pairs.is_among.Goals as goal
-use Rattle.ncc_check.proofs.notes.pairs.is_among.Goals.{else-keys-i-via-then-keys-i+else-eq, else-keys-i-via-else-keys-i}
+use Rattle.ncc_check.proofs.notes.pairs.is_among_earlier.Goals as goal
+use Rattle.ncc_check.proofs.notes.pairs.is_among_earlier.Goals.{else-keys-i-via-then-keys-i+else-eq, else-keys-i-via-else-keys-i}
 
 pub returns-then-eq : goal.returns-then-eq
 returns-then-eq g c =
