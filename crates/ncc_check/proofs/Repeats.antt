@@ -8,8 +8,8 @@ use Rattle.std.specs.Cmp.Lexicographic.{pointwise}
 use Rattle.ncc_values.specs.Name.{FitsAsName}
 use Rattle.ncc_check.specs.declared.note.Note.{Note}
 use Rattle.ncc_check.specs.declared.note.NoteKind.TheVariants.{NameRule, DuplicateName}
-use Rattle.ncc_check.specs.Noting.{Adds, NoteIf, AreKeys, AreTaken, FirstNameNotes, IsDuplicate, NameNotes, NameNotesAt, NameRuleNote, key_of_name}
-use Rattle.ncc_check.proofs.Joining.{as_well, both_join, note_as, one_more}
+use Rattle.ncc_check.specs.Noting.{Adds, AreKeys, AreTaken, FirstNameNotes, IsDuplicate, NameNotes, NameNotesAt, ToldNotes, key_of_name}
+use Rattle.ncc_check.proofs.Joining.{as_well, one_more}
 
 pub name_at : {A : Type 0} (text : A → List ℕ) (items : List A) (k : ℕ) (x : A) → k < length items → x ≡ get_or items k x → get_or (map text items) k [] ≡ text x
 name_at text items k x below is = get_or-map text items k x [] below ∙ ap text (sym is)
@@ -57,13 +57,17 @@ more_taken names n taken own after is changed there earlier j below = ap (λ (xs
 
 -- ---- the notes on a name
 
-pub both_noted : (names : List (List ℕ)) (offsets : List ℕ) (k : ℕ) (fits repeated : Bool) (at : ℕ) (xs ys zs : List Note) → (IsTrue fits → FitsAsName (get_or names k [])) → (FitsAsName (get_or names k []) → IsTrue fits) → get_or offsets k 0 ≡ at
-    → Adds (NoteIf (IsTrue (not fits)) NameRule at) xs ys → Adds (NoteIf (IsTrue repeated) DuplicateName at) ys zs → Adds (NameNotesAt names offsets k (IsTrue repeated)) xs zs
-both_noted names offsets k fits repeated at xs ys zs to from stands a b =
-    both_join (NameRuleNote names offsets k) (NoteIf (IsTrue repeated) DuplicateName (get_or offsets k 0)) xs ys zs
-    (note_as (IsTrue (not fits)) (¬ FitsAsName (get_or names k [])) NameRule NameRule at (get_or offsets k 0) xs ys
-    (λ n f. untrue fits n (from f)) (λ n. not_true fits (λ f. n (to f))) refl (sym stands) a)
-    (note_as (IsTrue repeated) (IsTrue repeated) DuplicateName DuplicateName at (get_or offsets k 0) ys zs (λ r. r) (λ r. r) refl (sym stands) b)
+pub told_noted : (names : List (List ℕ)) (offsets : List ℕ) (k : ℕ) (fits repeated : Bool) (at : ℕ) (xs ys : List Note) → (IsTrue fits → FitsAsName (get_or names k [])) → (FitsAsName (get_or names k []) → IsTrue fits) → get_or offsets k 0 ≡ at
+    → Adds (ToldNotes fits repeated at) xs ys → Adds (NameNotesAt names offsets k (IsTrue repeated)) xs ys
+told_noted names offsets k fits repeated at xs ys to from stands a = as_well (ToldNotes fits repeated at) (NameNotesAt names offsets k (IsTrue repeated)) xs ys there back a
+  where
+    there : (n : Note) → ToldNotes fits repeated at n → NameNotesAt names offsets k (IsTrue repeated) n
+    there n (inl p) = inl (record { is_due = λ f. untrue fits p.is_due (from f); is = p.is ∙ (λ i. record { kind = NameRule; offset = sym stands i }) })
+    there n (inr p) = inr (record { is_due = p.is_due; is = p.is ∙ (λ i. record { kind = DuplicateName; offset = sym stands i }) })
+
+    back : (n : Note) → NameNotesAt names offsets k (IsTrue repeated) n → ToldNotes fits repeated at n
+    back n (inl p) = inl (record { is_due = not_true fits (λ t. p.is_due (to t)); is = p.is ∙ (λ i. record { kind = NameRule; offset = stands i }) })
+    back n (inr p) = inr (record { is_due = p.is_due; is = p.is ∙ (λ i. record { kind = DuplicateName; offset = stands i }) })
 
 -- those of one more name
 pub one_name : (names : List (List ℕ)) (offsets : List ℕ) (i : ℕ) (repeated : Bool) (xs ys zs : List Note)

@@ -1,5 +1,5 @@
 -- The notes of a header list by list, as they are found.
-use Rattle.std.specs.Prelude.{◌≡◌, ℕ, IsAscii, ◌+◌, ◌<◌, ◌-◌, ◌*◌, ◌%◌, ◌≢◌, ◌≤◌, ◌⊎◌, Bool, true, false, List, [], ◌∷◌, length, map, drop, get_or, slice_get, Some, Contains, if◌then◌else◌}
+use Rattle.std.specs.Prelude.{◌≡◌, ℕ, IsAscii, IsTrue, not, ◌+◌, ◌<◌, ◌-◌, ◌*◌, ◌%◌, ◌≢◌, ◌≤◌, ◌⊎◌, Bool, true, false, List, [], ◌∷◌, length, map, drop, get_or, slice_get, Some, Contains, if◌then◌else◌}
 use Rattle.std.specs.Borrow.{Bor}
 use Rattle.ncc_values.specs.Name.{FitsAsName}
 use Rattle.ncc_values.specs.Numbers.{number_of}
@@ -70,6 +70,10 @@ AreKeys names n keys = (j : ℕ) → j < n → get_or keys j 0 ≡ key_of_name (
 -- the keys of the first n names have taken their slots, of 61
 abbrev pub AreTaken : (names : List (List ℕ)) (n : ℕ) (taken : List Bool) → Type 0
 AreTaken names n taken = (j : ℕ) → j < n → get_or taken (key_of_name (get_or names j []) % 61) false ≡ true
+
+-- the notes at this offset on a name, of which it is told whether it fits, and whether an earlier one is the same
+abbrev pub ToldNotes : (fits repeated : Bool) (offset : ℕ) → Note → Type 0
+ToldNotes fits repeated offset n = NoteIf (IsTrue (not fits)) NameRule offset n ⊎ NoteIf (IsTrue repeated) DuplicateName offset n
 
 -- the notes on the name with this number, for which it is known whether an earlier one is the same
 abbrev pub NameNotesAt : (names : List (List ℕ)) (offsets : List ℕ) (k : ℕ) (repeated : Type 0) → Note → Type 0

@@ -3,7 +3,7 @@
 ghost use Rattle.std.specs.Prelude.{◌≡◌, ℕ, IfOk, OnOk, IsOk, IsTrue, ◌<◌, ◌≤◌, ◌^◌, ◌&&◌, if◌then◌else◌, [], get_or, length, map};
 ghost use Rattle.ncc_values.specs.Name.{FitsAsName};
 ghost use Rattle.ncc_check.specs.Slots.{has_name, is_shared, with_name};
-ghost use Rattle.ncc_check.specs.Noting.{Adds, ArePlain, IsItemOffset, IsPlain, NameNotes, NameNotesAt, offsets_from};
+ghost use Rattle.ncc_check.specs.Noting.{Adds, ArePlain, IsItemOffset, IsPlain, NameNotes, NameNotesAt, ToldNotes, offsets_from};
 
 use crate::note::{Note, NoteKind};
 use crate::notes::item::Item;
@@ -38,8 +38,34 @@ fn step_to<T: Item>(version: Version, items: &[T], number: usize, item: &mut Ite
     }
 }
 
+/// Notes the name with this number, of which it is told whether it fits, and whether an earlier one is the same. It
+/// stands apart, so that names without a note don't pay for it.
+#[inline(never)]
+fn note_told<T: Item>(
+    version: Version,
+    items: &[T],
+    number: usize,
+    fits: bool,
+    repeated: bool,
+    item: &mut ItemOffset,
+    notes: &mut Vec<Note>,
+) -> Result<(), AllocError>
+    requires there { number < length items.now }
+    requires order { item.old.number ≤ number }
+    ensures number { item.new.number ≡ number }
+    ensures offset { (start : ℕ) → IsItemOffset (T.canon version) start items.now item.old
+        → IsItemOffset (T.canon version) start items.now item.new }
+    ensures notes { OnOk result (Adds (ToldNotes fits repeated item.new.offset) notes.old.items notes.new.items) }
+{
+    step_to(version, items, number, item);
+    note_if(notes, !fits, NoteKind::NameRule, item.offset)?;
+    note_if(notes, repeated, NoteKind::DuplicateName, item.offset)?;
+    Ok(())
+}
+
 /// Notes the name of an item if it breaks the rule of names, and notes it if an earlier one is the same, as is told.
 /// The item isn't looked for without a note.
+#[inline(always)]
 fn note_name<T: Item>(
     alloc: Global,
     version: Version,
@@ -65,9 +91,7 @@ fn note_name<T: Item>(
     if fits && !repeated {
         return Ok(());
     }
-    step_to(version, items, number, item);
-    note_if(notes, !fits, NoteKind::NameRule, item.offset)?;
-    note_if(notes, repeated, NoteKind::DuplicateName, item.offset)?;
+    note_told(version, items, number, fits, repeated, item, notes)?;
     Ok(())
 }
 
@@ -99,6 +123,7 @@ fn note_names_by_pairs<T: Item>(
 }
 
 /// Whether the table has a name that shares its slot; it has it then. Another name isn't looked for, nor put there.
+#[inline(always)]
 fn is_seen<'a>(
     seen: &mut IndexSet<&'a [u8]>,
     slots: &[Slot],
