@@ -18,5 +18,5 @@ loop-dim-preserved c =
       found =
           one_length c.args.version dims (offsets_from item start dims) i c.loop-dim.at c.dim-item.result c.limit_of_counts-limit.result c.name_size.result
           c.args.notes.now.items c.loop-dim.notes.items c.note_if.new.notes.items c.loop-dim-test.true c.dim-item.is stands
-          c.limit_of_counts-limit.ensures (rw c.as_slice.ensures at c.name_size.ensures) inv.found (rw c.saturating_add-length_at.ensures at c.in_ok-note_if.ensures);
+          c.limit_of_counts-limit.ensures (rw c.as_slice.ensures at c.name_size.ensures) inv.found (rw c.saturating_add-length_at.ensures at c.in_ok-note_if.ensures.notes);
     }
