@@ -49,7 +49,7 @@ abbrev pub offsets_from : {A : Type 0} → (A → List ℕ) → (at : ℕ) → L
 offsets_from item at [] = []
 offsets_from item at (x ∷ xs) = at ∷ offsets_from item (capped (at + length (item x))) xs
 
--- what is told as the offset of an item is the one of the item with that number, in a list that starts here
+-- this is the offset of the item with this number, in a list whose first item stands at `start`
 abbrev pub IsItemOffset : {A : Type 0} → (item : A → List ℕ) (start : ℕ) (items : List A) → ItemOffset → Type 0
 IsItemOffset item start items o = o.offset ≡ capped (start + before item o.number items)
 
@@ -71,7 +71,7 @@ AreKeys names n keys = (j : ℕ) → j < n → get_or keys j 0 ≡ key_of_name (
 abbrev pub AreTaken : (names : List (List ℕ)) (n : ℕ) (taken : List Bool) → Type 0
 AreTaken names n taken = (j : ℕ) → j < n → get_or taken (key_of_name (get_or names j []) % 61) false ≡ true
 
--- the notes at this offset on a name, of which it is told whether it fits, and whether an earlier one is the same
+-- the notes at this offset on a name that fits or not, and that an earlier one is the same as or not
 abbrev pub ToldNotes : (fits repeated : Bool) (offset : ℕ) → Note → Type 0
 ToldNotes fits repeated offset n = NoteIf (IsTrue (not fits)) NameRule offset n ⊎ NoteIf (IsTrue repeated) DuplicateName offset n
 

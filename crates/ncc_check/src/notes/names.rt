@@ -25,7 +25,7 @@ struct ItemOffset {
     offset: u64,
 }
 
-/// Steps on to the item with this number.
+/// Steps on to the item with this number, over the sizes of those before it.
 fn step_to<T: Item>(version: Version, items: &[T], number: usize, item: &mut ItemOffset)
     requires order { (item.old.number ≤ number) × (number ≤ length items.now) }
     ensures number { item.new.number ≡ number }
@@ -38,8 +38,8 @@ fn step_to<T: Item>(version: Version, items: &[T], number: usize, item: &mut Ite
     }
 }
 
-/// Notes the name with this number, of which it is told whether it fits, and whether an earlier one is the same. It
-/// stands apart, so that names without a note don't pay for it.
+/// Notes the name with this number, by what the caller tells of it: whether it fits, and whether an earlier one is the
+/// same. It stands apart, so that names without a note don't pay for it.
 #[inline(never)]
 fn note_told<T: Item>(
     version: Version,
@@ -63,8 +63,8 @@ fn note_told<T: Item>(
     Ok(())
 }
 
-/// Notes the name of an item if it breaks the rule of names, and notes it if an earlier one is the same, as is told.
-/// The item isn't looked for without a note.
+/// Notes the name with this number if it breaks the rule of names, and notes it if an earlier one is the same, as the
+/// caller tells. Without a note, where it stands isn't summed up.
 #[inline(always)]
 fn note_name<T: Item>(
     alloc: Global,
@@ -169,8 +169,8 @@ fn note_names_by_table<T: Item>(
     Ok(())
 }
 
-/// The notes on the names of a list, whose first item stands at this offset. If there are none, a list of up to 32 names
-/// of ASCII takes no memory.
+/// The notes on the names of a list, whose first item stands at this offset. If no note is due, a list of up to 32
+/// names of ASCII takes no memory.
 pub fn note_names<T: Item>(
     alloc: Global,
     version: Version,
