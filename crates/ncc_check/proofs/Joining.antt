@@ -1,8 +1,7 @@
 -- Notes that join others.
-use Rattle.std.proofs.Common.{◌≡◌, ℕ, zero, suc, ◌+◌, ◌<◌, ◌≤◌, List, [], ◌∷◌, ◌++◌, sym, subst, ◌∙◌, ◌⊎◌, inl, inr, arith}
+use Rattle.std.proofs.Common.{◌≡◌, ℕ, ◌+◌, ◌<◌, ◌≤◌, List, sym, subst, ◌∙◌, ◌⊎◌, inl, inr, arith}
 use Rattle.std.specs.Prelude.{Contains}
 use Rattle.std.proofs.lemmas.Bool.{cases_lt}
-use Rattle.std.proofs.lemmas.List.Elements.{Contains-append_left, Contains-append_right, Contains-append_cases}
 use Rattle.ncc_check.specs.declared.note.Note.{Note}
 use Rattle.ncc_check.specs.declared.note.NoteKind.{NoteKind}
 use Rattle.ncc_check.specs.Noting.{Adds, NoteIf, Below}
@@ -12,23 +11,6 @@ nothing_joins P xs none = record { kept = λ n h. h; due = λ n h. inl h; all = 
 
 pub none_below : (P : ℕ → Note → Type 0) (xs : List Note) → Adds (Below P 0) xs xs
 none_below P xs = nothing_joins (Below P 0) xs (λ n p. omega (arith, p.1))
-
-only : (m n : Note) → Contains (m ∷ []) n → n ≡ m
-only m n (zero, below, is) = sym is
-only m n (suc k, below, is) = absurd (omega (arith, below))
-
-pub one_joins : (due : Type 0) (kind : NoteKind) (offset : ℕ) (xs ys : List Note) → due → ys ≡ xs ++ (record { kind = kind; offset = offset }) ∷ [] → Adds (NoteIf due kind offset) xs ys
-one_joins due kind offset xs ys d e =
-    let m : Note = record { kind = kind; offset = offset } in
-    record {
-      kept = λ n h. subst (λ zs. Contains zs n) (sym e) (Contains-append_left xs (m ∷ []) n h);
-      due = λ n h. by n (Contains-append_cases xs (m ∷ []) n (subst (λ zs. Contains zs n) e h));
-      all = λ n p. subst (λ zs. Contains zs n) (sym e) (Contains-append_right xs (m ∷ []) n (0, omega arith, sym p.is));
-    }
-  where
-    by : (n : Note) → Contains xs n ⊎ Contains ((record { kind = kind; offset = offset }) ∷ []) n → Contains xs n ⊎ NoteIf due kind offset n
-    by n (inl h) = inl h
-    by n (inr h) = inr (record { is_due = d; is = only _ n h })
 
 -- the same notes by other words
 pub as_well : (P Q : Note → Type 0) (xs ys : List Note) → ((n : Note) → P n → Q n) → ((n : Note) → Q n → P n) → Adds P xs ys → Adds Q xs ys

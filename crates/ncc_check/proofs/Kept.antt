@@ -1,7 +1,7 @@
 -- What stands while an image is written.
-use Rattle.std.proofs.Common.{ℕ, ◌-◌, ◌≤◌, min, List, length, take, replicate, sym, ◌∙◌, ap, subst, arith, length-append, Result, Ok, Err, OnErr}
+use Rattle.std.proofs.Common.{ℕ, ◌-◌, ◌≤◌, min, List, length, take, replicate, sym, ◌∙◌, ap, arith, length-append, Result, Ok, Err, OnErr}
 use Rattle.std.proofs.lemmas.List.{take-take, take-append-le}
-use Rattle.ncc_store.specs.Store.{written, FrontWritten, Unsynced}
+use Rattle.ncc_store.specs.Store.{written, Unsynced}
 use Rattle.ncc_store.proofs.Pieces.{take-written, length-written}
 use Rattle.ncc_check.specs.Appending.{padded, Keeps}
 
@@ -24,9 +24,6 @@ module _ (old : List ℕ) (place : ℕ) where
         front = sym (take-take k place (written mid place bytes) le) ∙ ap (λ (l : List ℕ). take k l) (take-written place bytes mid within) ∙ take-take k place mid le ∙ kept.front;
         no_shorter = omega (arith, kept.no_shorter, length-written place bytes mid within);
       }
-
-  pub keeps_front : (mid bytes new : List ℕ) → place ≤ length mid → Keeps old place mid → FrontWritten mid place bytes new → Keeps old place new
-  keeps_front mid bytes new within kept front = subst (Keeps old place) (sym front.is) (keeps_written mid (take front.done bytes) within kept)
 
   pub keeps_unsynced : (bytes d c : List ℕ) → Keeps old place d → Unsynced place bytes d c → Keeps old place c
   keeps_unsynced bytes d c kept left =
