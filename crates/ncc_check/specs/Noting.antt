@@ -53,6 +53,10 @@ offsets_from item at (x ∷ xs) = at ∷ offsets_from item (capped (at + length 
 abbrev pub IsItemOffset : {A : Type 0} → (item : A → List ℕ) (start : ℕ) (items : List A) → ItemOffset → Type 0
 IsItemOffset item start items o = o.offset ≡ capped (start + before item o.number items)
 
+-- wherever the list starts, what is the offset of an item is one after the step too
+abbrev pub StepsOn : {A : Type 0} → (item : A → List ℕ) (items : List A) (old new : ItemOffset) → Type 0
+StepsOn item items old new = (start : ℕ) → IsItemOffset item start items old → IsItemOffset item start items new
+
 abbrev pub NameRuleNote : (names : List (List ℕ)) (offsets : List ℕ) → ℕ → Note → Type 0
 NameRuleNote names offsets k n = NoteIf (¬ FitsAsName (get_or names k [])) NameRule (get_or offsets k 0) n
 

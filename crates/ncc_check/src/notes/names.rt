@@ -3,7 +3,7 @@
 ghost use Rattle.std.specs.Prelude.{◌≡◌, ℕ, IfOk, OnOk, IsOk, IsTrue, ◌<◌, ◌≤◌, ◌^◌, ◌&&◌, if◌then◌else◌, [], get_or, length, map};
 ghost use Rattle.ncc_values.specs.Name.{FitsAsName};
 ghost use Rattle.ncc_check.specs.Slots.{has_name, is_shared, with_name};
-ghost use Rattle.ncc_check.specs.Noting.{Adds, ArePlain, IsItemOffset, IsPlain, NameNotes, NameNotesAt, ToldNotes, offsets_from};
+ghost use Rattle.ncc_check.specs.Noting.{Adds, ArePlain, IsItemOffset, IsPlain, NameNotes, NameNotesAt, StepsOn, ToldNotes, offsets_from};
 
 use crate::note::{Note, NoteKind};
 use crate::notes::item::Item;
@@ -29,8 +29,7 @@ struct ItemOffset {
 fn step_to<T: Item>(version: Version, items: &[T], number: usize, item: &mut ItemOffset)
     requires order { (item.old.number ≤ number) × (number ≤ length items.now) }
     ensures number { item.new.number ≡ number }
-    ensures offset { (start : ℕ) → IsItemOffset (T.canon version) start items.now item.old
-        → IsItemOffset (T.canon version) start items.now item.new }
+    ensures offset { StepsOn (T.canon version) items.now item.old item.new }
 {
     while item.number < number {
         item.offset = item.offset.saturating_add(items[item.number].size(version));
@@ -53,8 +52,7 @@ fn note_told<T: Item>(
     requires there { number < length items.now }
     requires order { item.old.number ≤ number }
     ensures number { item.new.number ≡ number }
-    ensures offset { (start : ℕ) → IsItemOffset (T.canon version) start items.now item.old
-        → IsItemOffset (T.canon version) start items.now item.new }
+    ensures offset { StepsOn (T.canon version) items.now item.old item.new }
     ensures notes { OnOk result (Adds (ToldNotes fits repeated item.new.offset) notes.old.items notes.new.items) }
 {
     step_to(version, items, number, item);
@@ -78,8 +76,7 @@ fn note_name<T: Item>(
     requires there { number < length items.now }
     requires order { item.old.number ≤ number }
     ensures order { item.new.number ≤ number }
-    ensures offset { (start : ℕ) → IsItemOffset (T.canon version) start items.now item.old
-        → IsItemOffset (T.canon version) start items.now item.new }
+    ensures offset { StepsOn (T.canon version) items.now item.old item.new }
     ensures notes { (start : ℕ) → start < 2 ^ 64 → IsItemOffset (T.canon version) start items.now item.old
         → OnOk result (Adds
         (NameNotesAt (map T.text items.now) (offsets_from (T.canon version) start items.now) number (IsTrue repeated))
